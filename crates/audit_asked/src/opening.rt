@@ -43,7 +43,7 @@ fn is_how(mode: Mode, how: OpenMode) -> bool
     ensures { result ≡ is_how mode how }
 {
     match how {
-        OpenMode::Read => matches!(mode, Mode::Read),
+        OpenMode::Read | OpenMode::Steady => matches!(mode, Mode::Read),
         OpenMode::Write => matches!(mode, Mode::Write),
         OpenMode::Resolve { site: _ } => matches!(mode, Mode::Resolve),
     }

@@ -1,5 +1,5 @@
 -- What a call asks by a past is what it asks by the members of its epoch; and a step of a call of a name is one of the call found.
-use Rattle.std.proofs.Common.{◌≡◌, ℕ, ◌≤◌, Bool, true, false, ◌&&◌, ◌||◌, cond, List, [], ◌∷◌, length, filter, Option, Some, None, refl, sym, ap, ◌∙◌}
+use Rattle.std.proofs.Common.{◌≡◌, ℕ, ◌==◌, ◌≤◌, Bool, true, false, not, ◌&&◌, ◌||◌, cond, List, [], ◌∷◌, length, filter, Option, Some, None, refl, sym, ap, ◌∙◌}
 use Rattle.std.specs.Prelude.{nat_lt}
 use Rattle.std.specs.List.{find, list_any}
 use Rattle.std.specs.Option.{option_map}
@@ -35,10 +35,10 @@ same_find : {X : Type 0} (p q : X → Bool) → ((x : X) → p x ≡ q x) → (x
 same_find p q same [] = refl
 same_find p q same (x ∷ xs) = ap (λ b. cond b (Some x) (find p xs)) (same x) ∙ ap (λ o. cond (q x) (Some x) o) (same_find p q same xs)
 
-pub user_acts : (e : EpochId) (x : Instance) (n : ℕ) (ks : List CallSoFar) → x.named ≡ true → find (uses_as e x.grant.inst n) ks ≡ find (acts e x n) ks
+pub user_acts : (e : EpochId) (x : Instance) (n : ℕ) (ks : List CallSoFar) → (x.named && not (x.again && (n == 1))) ≡ true → find (uses_as e x.grant.inst n) ks ≡ find (acts e x n) ks
 user_acts e x n ks t = same_find (uses_as e x.grant.inst n) (acts e x n) (λ k. ap (λ b. cond b (uses_as e x.grant.inst n k) (same_call k.id x.grant.call)) (sym t)) ks
 
-pub caller_acts : (e : EpochId) (x : Instance) (n : ℕ) (ks : List CallSoFar) → x.named ≡ false → find (is_id x.grant.call) ks ≡ find (acts e x n) ks
+pub caller_acts : (e : EpochId) (x : Instance) (n : ℕ) (ks : List CallSoFar) → (x.named && not (x.again && (n == 1))) ≡ false → find (is_id x.grant.call) ks ≡ find (acts e x n) ks
 caller_acts e x n ks t = same_find (is_id x.grant.call) (acts e x n) (λ k. ap (λ b. cond b (uses_as e x.grant.inst n k) (same_call k.id x.grant.call)) (sym t)) ks
 
 pub closer_ends : (e : EpochId) (x : Instance) (ks : List CallSoFar) → x.named ≡ true → find (closes e x.grant.inst) ks ≡ find (ends e x) ks

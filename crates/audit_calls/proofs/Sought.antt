@@ -1,21 +1,22 @@
 -- A call is found by its use of an instance, or there is none.
-use Rattle.std.proofs.Common.{◌≡◌, ℕ, zero, suc, ◌+◌, ◌<◌, ◌==◌, Bool, true, false, not, ◌&&◌, cond, List, [], ◌∷◌, ◌++◌, length, map, reverse, take, get_or, Option, Some, None, slice_get, refl, sym, ap, ◌∙◌, arith}
+use Rattle.std.proofs.Common.{◌≡◌, ℕ, zero, suc, ◌+◌, ◌*◌, ◌%◌, ◌<◌, ◌==◌, Bool, true, false, not, ◌&&◌, cond, List, [], ◌∷◌, ◌++◌, length, map, reverse, take, get_or, Option, Some, None, slice_get, refl, sym, ap, ◌∙◌, arith}
 use Rattle.std.specs.List.{find}
 use Rattle.std.proofs.lemmas.List.{reverse-reverse}
 use Rattle.plain_facts.proofs.Tests.{both_true, and_true}
+use Rattle.plain_facts.proofs.Numbers.{equal, equal_test}
 use Rattle.plain_facts.proofs.Options.{some_same, some_none, none_some}
 use Rattle.row_lists.proofs.Reversed.{reverse_push}
 use Rattle.locus_ids.specs.declared.ids.EpochId.{EpochId}
 use Rattle.locus_ids.specs.declared.ids.Serial.{Serial}
 use Rattle.trace_book.specs.Same.{same_epoch, same_serial}
 use Rattle.trace_book.specs.declared.descriptor.Beginning.{Beginning}
-use Rattle.trace_book.specs.declared.descriptor.Beginning.TheVariants.{Denied, Uses, Walks}
+use Rattle.trace_book.specs.declared.descriptor.Beginning.TheVariants.{Uses}
 use Rattle.key_places.specs.declared.key.Key.{Key}
 use Rattle.key_places.specs.Keys.{same_key}
 use Rattle.key_places.specs.Places.{place_of}
 use Rattle.key_places.proofs.Rows.{place_finds, none_finds}
 use Rattle.promises.specs.Past.{CallSoFar, is_close, is_on}
-use Rattle.audit_calls.specs.Uses.{closer_key, has_turn, is_use, key_of_use, sought_key, turn_or_none, use_key, user_key}
+use Rattle.audit_calls.specs.Uses.{closer_key, has_turn, is_use, key_of_use, sought_key, turn_or_none, turn_span, use_key, user_key}
 use Rattle.audit_calls.specs.declared.uses.Use.{Use}
 
 -- a narrower test
@@ -65,27 +66,30 @@ key_told b t n e f i j same turn =
     let epochs = both_true ((e.number == f.number) && (e.site == f.site)) (e.boot == f.boot) parts.0 in
     let numbers = both_true (e.number == f.number) (e.site == f.site) epochs.0 in
     let serials = both_true (i.us == j.us) (i.serial == j.serial) parts.1 in
-    at numbers.0 serials.0 serials.1 b t turn
+    at (with_turn numbers.0 numbers.1 epochs.1 serials.0 serials.1) b t turn
   where
-    with_turn : (e.number == f.number) ≡ true → (i.us == j.us) ≡ true → (i.serial == j.serial) ≡ true → (m l : ℕ) → (m == l) ≡ true → same_key (user_key e i m) (user_key f j l) ≡ true
-    with_turn p q r m l h = and_true (e.number == f.number) ((i.us == j.us) && ((i.serial == j.serial) && (m == l))) p (and_true (i.us == j.us) ((i.serial == j.serial) && (m == l)) q (and_true (i.serial == j.serial) (m == l) r h))
+    last_same : i.us ≡ j.us → e.site ≡ f.site → (m l : ℕ) → m ≡ l → i.us + 256 * e.site + turn_span * (m % turn_span) ≡ j.us + 256 * f.site + turn_span * (l % turn_span)
+    last_same p q m l h =
+        ap (λ a. a + 256 * e.site + turn_span * (m % turn_span)) p
+        ∙ (ap (λ a. j.us + 256 * a + turn_span * (m % turn_span)) q ∙ ap (λ a. j.us + 256 * f.site + turn_span * (a % turn_span)) h)
 
-    at : (e.number == f.number) ≡ true → (i.us == j.us) ≡ true → (i.serial == j.serial) ≡ true → (c : Bool) (u : Option ℕ) → turns c u n ≡ true → same_key (cond c (closer_key e i) (user_key e i n)) (user_key f j (turn_or_none u)) ≡ true
-    at p q r true None h = with_turn p q r 0 0 refl
-    at p q r false None h = absurd (cc)
-    at p q r true (Some m) h = absurd (cc)
-    at p q r false (Some m) h = with_turn p q r n m h
+    with_turn : (e.number == f.number) ≡ true → (e.site == f.site) ≡ true → (e.boot == f.boot) ≡ true → (i.us == j.us) ≡ true → (i.serial == j.serial) ≡ true → (m l : ℕ) → (m == l) ≡ true → same_key (user_key e i m) (user_key f j l) ≡ true
+    with_turn p s v q r m l h =
+        and_true (e.number == f.number) _ p (and_true (e.boot == f.boot) _ v (and_true (i.serial == j.serial) _ r
+        (equal_test _ _ (last_same (equal i.us j.us q) (equal e.site f.site s) m l (equal m l h)))))
+
+    at : ((m l : ℕ) → (m == l) ≡ true → same_key (user_key e i m) (user_key f j l) ≡ true) → (c : Bool) (u : Option ℕ) → turns c u n ≡ true → same_key (cond c (closer_key e i) (user_key e i n)) (user_key f j (turn_or_none u)) ≡ true
+    at alike true None h = alike 0 0 refl
+    at alike false None h = absurd (cc)
+    at alike true (Some m) h = absurd (cc)
+    at alike false (Some m) h = alike n m h
 
 pub use_told : (u : Use) (k : CallSoFar) → is_use u k ≡ true → same_key (use_key k) (sought_key u) ≡ true
 use_told u k e = at k.begins (both_true (is_on k.begins u.epoch u.inst) (has_turn u.turn k) e)
   where
     at : (b : Beginning) → (is_on b u.epoch u.inst ≡ true) × (has_turn u.turn k ≡ true) → same_key (key_of_use b k.words k.turn) (sought_key u) ≡ true
-    at (Denied why) h = absurd (no h.0)
-      where
-        no : false ≡ true → ⊥
-        no c = cc
     at (Uses f j) h = key_told (is_close k.words) u.turn k.turn f u.epoch j u.inst h.0 (sym (turn_told u.turn k) ∙ h.1)
-    at (Walks id) h = absurd (no h.0)
+    at _ h = absurd (no h.0)
       where
         no : false ≡ true → ⊥
         no c = cc

@@ -6,12 +6,12 @@ abbrev pub shown : Inside → CallSoFar
 shown r = record {
   id = r.at.id;
   process = r.at.process;
-  words = r.words;
+  words = r.script.words;
   epoch = r.at.epoch;
-  begins = r.begins;
+  begins = r.script.begins;
   free = r.at.free;
   turn = r.at.turn;
   granted = r.granted;
-  answers = r.answers.items;
+  answers = r.script.answers;
   waits = r.waits;
 }

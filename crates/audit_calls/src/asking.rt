@@ -13,15 +13,16 @@ impl CallRow {
     pub fn wants(&self, mounts: &[Mount]) -> Result<Want, NoMemory>
         ensures { IfOk result (λ w. w ≡ named_wants mounts.now self.now.free self.now.words self.now.begins self.now.answers) }
     {
-        let answers = self.answers();
-        let script = script_after(self.allocator(), self.words(), self.begins(), answers)?;
-        script.next(mounts, self.free())
+        self.next(mounts)
     }
 
     /// What it asked once the first of its requests were answered, so many as this or all.
     pub fn wants_after(&self, mounts: &[Mount], count: usize) -> Result<Want, NoMemory>
         ensures { IfOk result (λ w. w ≡ named_wants mounts.now self.now.free self.now.words self.now.begins (take count self.now.answers)) }
     {
+        if self.answers().len() <= count {
+            return self.wants(mounts);
+        }
         let answers = first_of(self.answers(), count);
         let script = script_after(self.allocator(), self.words(), self.begins(), answers)?;
         script.next(mounts, self.free())

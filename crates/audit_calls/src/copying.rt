@@ -38,6 +38,11 @@ fn copy_of_beginning(begins: &Beginning) -> Result<Beginning, NoMemory>
             inst: *inst,
         }),
         Beginning::Walks { call } => Ok(Beginning::Walks { call: *call }),
+        Beginning::Reopens { version, last } => Ok(Beginning::Reopens {
+            version: *version,
+            last: *last,
+        }),
+        Beginning::Frees => Ok(Beginning::Frees),
     }
 }
 
@@ -62,6 +67,10 @@ fn copy_of_answer(answer: &Answer) -> Result<Answer, NoMemory>
         Answer::Opened { inst, ino } => Ok(Answer::Opened {
             inst: *inst,
             ino: *ino,
+        }),
+        Answer::Reading { inst, version } => Ok(Answer::Reading {
+            inst: *inst,
+            version: *version,
         }),
         Answer::Merging { inst, kept } => {
             let kept = kept.copy()?;

@@ -1,8 +1,10 @@
-ghost use Rattle.std.specs.Prelude.{◌≡◌, ◌∷◌, [], OnOk, OnErr};
+ghost use Rattle.std.specs.Prelude.{◌≡◌, ◌∷◌, [], IfOk, OnOk, OnErr};
+ghost use Rattle.call_rules.specs.Scripts.{named_wants};
 ghost use Rattle.audit_calls.specs.Rows.{begun, with_answer, with_earlier, with_last_answer, with_grant, replied};
 
-use call_rules::Answer;
-use locus_ids::{CallId, EpochId, NoMemory};
+use call_rules::{Answer, Want};
+use call_scripts::Script;
+use locus_ids::{CallId, EpochId, Mount, NoMemory};
 use std::alloc::Global;
 use std::marker::Model;
 use trace_book::{Beginning, Call, Descriptor};
@@ -24,10 +26,9 @@ pub struct Accepted {
 #[derive(Drop)]
 pub struct CallRow {
     at: Accepted,
-    words: Call,
-    begins: Beginning,
+    script: Script,
     granted: Option<Descriptor>,
-    answers: Vec<Answer>,
+    alloc: Global,
     waits: bool,
 }
 
@@ -43,17 +44,22 @@ impl Model for CallRow {
 
 impl CallRow {
     /// A call that waits, and that nothing has been answered yet.
-    pub fn begin(alloc: Global, at: Accepted, words: Call, begins: Beginning) -> CallRow
-        ensures { result ≡ begun at words begins }
+    pub fn begin(
+        alloc: Global,
+        at: Accepted,
+        words: Call,
+        begins: Beginning,
+    ) -> Result<CallRow, NoMemory>
+        ensures { IfOk result (λ row. row ≡ begun at words begins) }
     {
-        CallRow {
+        let script = Script::start(alloc, words, begins)?;
+        Ok(CallRow {
             at,
-            words,
-            begins,
+            script,
             granted: None,
-            answers: Vec::new(alloc),
+            alloc,
             waits: true,
-        }
+        })
     }
 
     pub fn id(&self) -> CallId
@@ -71,7 +77,7 @@ impl CallRow {
     pub fn words(&self) -> &Call
         ensures { result.now ≡ self.now.words }
     {
-        &self.words
+        self.script.words()
     }
 
     /// The epoch that its site was in.
@@ -84,7 +90,7 @@ impl CallRow {
     pub fn begins(&self) -> &Beginning
         ensures { result.now ≡ self.now.begins }
     {
-        &self.begins
+        self.script.begins()
     }
 
     /// The number that an open would take.
@@ -112,7 +118,7 @@ impl CallRow {
     pub fn answers(&self) -> &[Answer]
         ensures { result.now ≡ self.now.answers }
     {
-        self.answers.as_slice()
+        self.script.answers()
     }
 
     pub fn waits(&self) -> bool
@@ -122,7 +128,14 @@ impl CallRow {
     }
 
     pub(crate) fn allocator(&self) -> Global {
-        *self.answers.allocator()
+        self.alloc
+    }
+
+    /// What it asks next, or its reply.
+    pub(crate) fn next(&self, mounts: &[Mount]) -> Result<Want, NoMemory>
+        ensures { IfOk result (λ w. w ≡ named_wants mounts.now self.now.free self.now.words self.now.begins self.now.answers) }
+    {
+        self.script.next(mounts, self.at.free)
     }
 
     /// One request more was answered.
@@ -130,7 +143,8 @@ impl CallRow {
         ensures ok { OnOk result (self.new ≡ with_answer answer self.old) }
         ensures err { OnErr result (self.new ≡ self.old) }
     {
-        self.answers.push(answer)?;
+        let all = self.script.answers().len();
+        self.script.answer_after(all, answer)?;
         Ok(())
     }
 
@@ -140,8 +154,7 @@ impl CallRow {
         ensures err { OnErr result (self.new ≡ with_earlier request self.old) }
     {
         let earlier = usize::from(request).saturating_sub(1);
-        self.answers.truncate(earlier);
-        self.answers.push(answer)?;
+        self.script.answer_after(earlier, answer)?;
         Ok(())
     }
 
@@ -150,7 +163,8 @@ impl CallRow {
         ensures ok { OnOk result (self.new ≡ with_grant descriptor answer self.old) }
         ensures err { OnErr result (self.new ≡ self.old) }
     {
-        self.answers.push(answer)?;
+        let all = self.script.answers().len();
+        self.script.answer_after(all, answer)?;
         self.granted = Some(descriptor);
         Ok(())
     }

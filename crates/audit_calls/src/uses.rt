@@ -54,9 +54,9 @@ fn user_key(epoch: EpochId, inst: Serial, turn: u32) -> Key
 {
     Key {
         first: epoch.number,
-        second: u32::from(inst.us),
+        second: epoch.boot,
         third: inst.serial,
-        fourth: turn,
+        fourth: u32::from(inst.us) + 256 * u32::from(epoch.site) + 65_536 * (turn % 65_536),
     }
 }
 

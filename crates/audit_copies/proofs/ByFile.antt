@@ -1,5 +1,5 @@
 -- Known versions, file by file: one more is put where it belongs, and those of a file are all in one place.
-use Rattle.std.proofs.Common.{◌≡◌, ℕ, zero, suc, ◌==◌, ◌<◌, ◌≤◌, Bool, true, false, not, ◌&&◌, ◌||◌, cond, List, [], ◌∷◌, ◌++◌, length, filter, get_or, drop, insert, slice_set, refl, sym, ap, ◌∙◌, append-nil, append_assoc, arith}
+use Rattle.std.proofs.Common.{◌≡◌, ℕ, zero, suc, ◌==◌, ◌<◌, ◌≤◌, Bool, true, false, not, ◌&&◌, ◌||◌, cond, List, [], ◌∷◌, ◌++◌, length, filter, get_or, drop, insert, slice_set, refl, sym, subst, ap, ◌∙◌, append-nil, append_assoc, arith}
 use Rattle.std.specs.Prelude.{nat_lt}
 use Rattle.std.specs.List.{list_all, list_any}
 use Rattle.std.specs.List.Sorted.{IsPartitionedBy, IsPartitionPoint}
@@ -334,6 +334,45 @@ group_on group fs i next g made more whole l behind e h added before =
     ∙ (ap (λ ys. ys ++ filter (λ (v : Copy). v.file.group == group) (all_copies (drop (suc i) fs))) added
     ∙ (append_assoc made (cond (g.file.group == group) g.copies []) (filter (λ (v : Copy). v.file.group == group) (all_copies (drop (suc i) fs)))
     ∙ (ap (λ ys. made ++ ys) (sym (group_part group fs i g l e h)) ∙ before)))
+
+-- where the files of a group begin, and where they end
+low_group : (a b g : ℕ) → (nat_lt a g || ((a == g) && nat_lt b 0)) ≡ true → (a == g) ≡ false
+low_group a b g h = grind (arith, nat_tests)
+
+high_group : (a b c d g : ℕ) → g < a → (nat_lt a c || ((a == c) && nat_lt b d)) ≡ true → not (c == g) ≡ true
+high_group a b c d g l h = grind (arith, nat_tests)
+
+other_group : (a g : ℕ) → g < a → (a == g) ≡ false
+other_group a g l = grind (arith, nat_tests)
+
+abbrev pub group_low : ℕ → FileId
+group_low group = record { group = group; ino = 0 }
+
+pub group_from : (group : ℕ) (fs : List FileCopies) (k : ℕ) → AreByFile fs → k ≡ file_count (group_low group) fs → filter (λ (v : Copy). v.file.group == group) (all_copies (drop k fs)) ≡ filter (λ (v : Copy). v.file.group == group) (all_copies fs)
+group_from group fs k h e = ap (λ n. filter (λ (v : Copy). v.file.group == group) (all_copies (drop n fs))) e ∙ counted_from fs h
+  where
+    counted_from : (gs : List FileCopies) → AreByFile gs → filter (λ (v : Copy). v.file.group == group) (all_copies (drop (file_count (group_low group) gs) gs)) ≡ filter (λ (v : Copy). v.file.group == group) (all_copies gs)
+    counted_from [] o = refl
+    counted_from (f ∷ gs) o = at (is_file_below f.file (group_low group)) refl (counted_from gs o.1.1)
+      where
+        at : (b : Bool) → is_file_below f.file (group_low group) ≡ b → filter (λ (v : Copy). v.file.group == group) (all_copies (drop (file_count (group_low group) gs) gs)) ≡ filter (λ (v : Copy). v.file.group == group) (all_copies gs)
+            → filter (λ (v : Copy). v.file.group == group) (all_copies (drop (cond b (suc (file_count (group_low group) gs)) 0) (f ∷ gs))) ≡ filter (λ (v : Copy). v.file.group == group) (all_copies (f ∷ gs))
+        at true below later =
+            later
+            ∙ sym (filter_append (λ (v : Copy). v.file.group == group) f.copies (all_copies gs)
+            ∙ ap (λ ys. ys ++ filter (λ (v : Copy). v.file.group == group) (all_copies gs)) (group_so group f o.0 ∙ ap (λ b. cond b f.copies []) (low_group f.file.group f.file.ino group below)))
+        at false below later = refl
+
+pub group_ends : (group : ℕ) (fs : List FileCopies) (k : ℕ) (g : FileCopies) → k < length fs → g ≡ get_or fs k g → AreByFile fs → group < g.file.group → filter (λ (v : Copy). v.file.group == group) (all_copies (drop k fs)) ≡ []
+group_ends group [] k g l e h above = absurd (omega (arith, l))
+group_ends group (f ∷ fs) zero g l e h above =
+    let first : group < f.file.group = subst (λ (x : FileCopies). group < x.file.group) e above in
+    let later : list_all (λ (x : Copy). not (x.file.group == group)) (all_copies fs) ≡ true =
+    all_pass (λ x. not (x.group == group)) fs h.1.1 (all_more (λ (x : FileCopies). is_file_below f.file x.file) (λ (x : FileCopies). not (x.file.group == group)) (λ x b. high_group f.file.group f.file.ino x.file.group x.file.ino group first b) fs h.1.0) in
+    filter_append (λ (v : Copy). v.file.group == group) f.copies (all_copies fs)
+    ∙ (ap (λ ys. ys ++ filter (λ (v : Copy). v.file.group == group) (all_copies fs)) (group_so group f h.0 ∙ ap (λ b. cond b f.copies []) (other_group f.file.group group first))
+    ∙ pass_none (λ (v : Copy). v.file.group == group) (all_copies fs) later)
+group_ends group (f ∷ fs) (suc k) g l e h above = group_ends group fs k g (omega (arith, l)) e h.1.1 above
 
 -- The same at a place that is where the file belongs.
 

@@ -100,13 +100,17 @@ impl Known {
         tops_of(alloc, self.of_file(file))
     }
 
-    /// The known versions of a group, ascending.
+    /// The known versions of a group, ascending. Its first file is found by halving.
     pub fn of_group(&self, alloc: Global, group: u8) -> Result<ItemList<CopyRow>, NoMemory>
         ensures { IfOk result (λ made. made ≡ filter (λ (v : Copy). v.file.group == group) self.now) }
     {
         let mut made = ItemList::new(alloc);
         let files = self.files.as_slice();
-        for rows in files {
+        for place in place_of(files, FileId { group, ino: 0 })..files.len() {
+            let rows = &files[place];
+            if group < rows.file().group {
+                return Ok(made);
+            }
             add_of_group(&mut made, rows, group)?;
         }
         Ok(made)

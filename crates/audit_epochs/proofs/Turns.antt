@@ -10,6 +10,7 @@ use Rattle.locus_ids.specs.declared.refusal.Refusal.{Refusal}
 use Rattle.trace_book.specs.declared.call.Call.{Call}
 use Rattle.trace_book.specs.declared.descriptor.Beginning.{Beginning}
 use Rattle.trace_book.specs.declared.descriptor.Beginning.TheVariants as begins
+use Rattle.trace_book.specs.declared.descriptor.OneVersion.{OneVersion}
 use Rattle.promises.specs.Past.{Epoch, is_close}
 use Rattle.promises.specs.After.{is_epoch}
 use Rattle.past_laws.proofs.Names.{epoch_turned}
@@ -57,3 +58,9 @@ turn_of_denied why words ts = none_used (begins.Denied why) words (λ t. refl) t
 
 pub turn_of_walks : (id : CallId) (words : Call) (ts : List Epoch) → 0 ≡ turn_among ts (begins.Walks id) words
 turn_of_walks id words ts = none_used (begins.Walks id) words (λ t. refl) ts
+
+pub turn_of_reopens : (version : OneVersion) (last : EpochId) (words : Call) (ts : List Epoch) → 0 ≡ turn_among ts (begins.Reopens version last) words
+turn_of_reopens version last words ts = none_used (begins.Reopens version last) words (λ t. refl) ts
+
+pub turn_of_frees : (words : Call) (ts : List Epoch) → 0 ≡ turn_among ts begins.Frees words
+turn_of_frees words ts = none_used begins.Frees words (λ t. refl) ts

@@ -40,6 +40,8 @@ used_some (begins.Uses epoch inst) words e i h x =
     at false g = none_some i g
 used_some (begins.Denied why) words e i h x = none_some i h
 used_some (begins.Walks id) words e i h x = none_some i h
+used_some (begins.Reopens version last) words e i h x = none_some i h
+used_some begins.Frees words e i h x = none_some i h
 
 pub used_none : (b : Beginning) (words : Call) (e : EpochId) → used_by b words e ≡ None → (x : Instance) → uses b words e x ≡ false
 used_none (begins.Uses epoch inst) words e h x =
@@ -50,6 +52,8 @@ used_none (begins.Uses epoch inst) words e h x =
     at false g = refl
 used_none (begins.Denied why) words e h x = refl
 used_none (begins.Walks id) words e h x = refl
+used_none (begins.Reopens version last) words e h x = refl
+used_none begins.Frees words e h x = refl
 
 -- The same of an epoch as it is shown.
 

@@ -22,7 +22,7 @@ use Rattle.tree_model.specs.State.{is_make}
 use Rattle.tree_model.specs.Working.{list_of}
 use Rattle.promises.specs.Past.{Epoch, Instance, Copy, Make, is_close, is_named, is_writer}
 use Rattle.promises.specs.After.{change, uses, begun_make, with_all_known}
-use Rattle.audit_instances.specs.Rows.{with_work, once_named, used_once, commits}
+use Rattle.audit_instances.specs.Rows.{with_work, held_again, once_named, used_once, commits}
 
 -- the epoch that a site is in, where it is in one
 abbrev pub is_home : Option EpochId → Epoch → Bool
@@ -46,7 +46,7 @@ accepts begins words t = record t { opened = change (uses begins words t.id) use
 
 -- the instance as it is granted on a version of this content
 abbrev pub begun_instance : Granted → Option Stamp → List ℕ → Instance
-begun_instance g stamp content = record { grant = g; work = begun g.mode stamp content; named = false; uses = 0 }
+begun_instance g stamp content = record { grant = g; work = begun g.mode stamp content; named = false; again = false; uses = 0 }
 
 abbrev pub grants : Granted → Option Stamp → List ℕ → Epoch → Epoch
 grants g stamp content t = record t { granted = g ∷ t.granted; opened = t.opened ++ begun_instance g stamp content ∷ [] }
@@ -90,6 +90,10 @@ publishes f site stamp t = record t { opened = change (is_writer f site) (commit
 abbrev pub names : Serial → Epoch → Epoch
 names i t = record t { opened = change (is_named i) once_named t.opened }
 
+-- a read of a steady descriptor has opened it
+abbrev pub holds_again : Serial → Epoch → Epoch
+holds_again i t = record t { opened = change (is_named i) held_again t.opened }
+
 -- a mend of the directory was refused for good
 abbrev pub unmends : FileId → Epoch → Epoch
 unmends f t = record t { unmended = f ∷ t.unmended }
@@ -103,6 +107,8 @@ abbrev pub used_by : Beginning → Call → EpochId → Option Serial
 used_by (begins.Uses epoch inst) words e = cond (same_epoch epoch e && not (is_close words)) (Some inst) None
 used_by (begins.Denied why) words e = None
 used_by (begins.Walks id) words e = None
+used_by (begins.Reopens version last) words e = None
+used_by begins.Frees words e = None
 
 -- which use of the instance the next one is; 0 where it isn't open
 abbrev pub next_use : Serial → Epoch → ℕ

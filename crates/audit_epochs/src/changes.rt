@@ -9,7 +9,7 @@ ghost use Rattle.std.specs.Option.{option_map};
 ghost use Rattle.promises.specs.Past.{Instance, Make, is_named};
 ghost use Rattle.promises.specs.After.{released};
 ghost use Rattle.audit_instances.specs.Rows.{no_work};
-ghost use Rattle.audit_epochs.specs.Changes.{accepts, acts_so, begins_make, begins_make_by, ends_make, grants, joins, knows, leaves, names, publishes, refuses, starts, unmends, works};
+ghost use Rattle.audit_epochs.specs.Changes.{accepts, acts_so, begins_make, begins_make_by, ends_make, grants, holds_again, joins, knows, leaves, names, publishes, refuses, starts, unmends, works};
 
 use crate::uses::used_by;
 use crate::{EpochRow, LeftRow, MakeRow};
@@ -150,6 +150,15 @@ impl EpochRow {
         ensures { self.new ≡ names inst self.old }
     {
         self.opened.name(inst);
+    }
+
+    /// A read of a steady descriptor has opened an instance.
+    pub fn hold_again(&mut self, inst: Serial) -> Result<(), NoMemory>
+        ensures ok { OnOk result (self.new ≡ holds_again inst self.old) }
+        ensures kept { self.new.id ≡ self.old.id }
+    {
+        self.opened.hold_again(inst)?;
+        Ok(())
     }
 
     /// A mend of the directory was refused for good.

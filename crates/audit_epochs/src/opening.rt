@@ -4,7 +4,7 @@ ghost use Rattle.std.specs.Prelude.{◌≡◌, ◌≤◌, false, filter, length,
 ghost use Rattle.std.specs.List.{find};
 ghost use Rattle.promises.specs.After.{change, is_epoch};
 ghost use Rattle.audit_instances.specs.Rows.{no_work};
-ghost use Rattle.audit_epochs.specs.Changes.{grants, is_home, names, publishes, turn_among, works};
+ghost use Rattle.audit_epochs.specs.Changes.{grants, holds_again, is_home, names, publishes, turn_among, works};
 ghost use Rattle.audit_epochs.specs.Places.{has_open, turn_at, work_of};
 
 use crate::Epochs;
@@ -72,6 +72,20 @@ impl Epochs {
         }
     }
 
+    /// A read of a steady descriptor has opened an instance.
+    pub fn hold_again(&mut self, epoch: EpochId, inst: Serial) -> Result<(), NoMemory>
+        ensures { OnOk result (self.new ≡ change (is_epoch epoch) (holds_again inst) self.old) }
+    {
+        match self.place(epoch) {
+            Some(place) => {
+                let row = &mut self.rows[place];
+                row.hold_again(inst)?;
+                Ok(())
+            }
+            None => Ok(()),
+        }
+    }
+
     /// Which use of its instance a call is that begins so; 0 where it uses none that is open.
     pub fn turn(&self, begins: &Beginning, words: &Call) -> Result<u32, NoMemory>
         ensures { IfOk result (λ turn. turn ≡ turn_among self.now begins.now words.now) }
@@ -83,6 +97,11 @@ impl Epochs {
             }
             Beginning::Denied { why: _ } => Ok(0),
             Beginning::Walks { call: _ } => Ok(0),
+            Beginning::Reopens {
+                version: _,
+                last: _,
+            } => Ok(0),
+            Beginning::Frees => Ok(0),
         }
     }
 

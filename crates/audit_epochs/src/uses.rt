@@ -47,6 +47,11 @@ pub(crate) fn used_by(begins: &Beginning, words: &Call, epoch: EpochId) -> Optio
         }
         Beginning::Denied { why: _ } => None,
         Beginning::Walks { call: _ } => None,
+        Beginning::Reopens {
+            version: _,
+            last: _,
+        } => None,
+        Beginning::Frees => None,
     }
 }
 

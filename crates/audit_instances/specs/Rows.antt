@@ -20,6 +20,10 @@ with_work w x = record x { work = w }
 abbrev pub once_named : Instance → Instance
 once_named x = record x { named = true }
 
+-- a read of a steady descriptor has opened it, which names it and is its first use
+abbrev pub held_again : Instance → Instance
+held_again x = record x { named = true; again = true; uses = x.uses + 1 }
+
 abbrev pub used_once : Instance → Instance
 used_once x = record x { uses = x.uses + 1 }
 

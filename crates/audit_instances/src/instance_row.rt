@@ -1,6 +1,6 @@
 ghost use Rattle.std.specs.Prelude.{◌≡◌, false, IfOk, OnOk};
 ghost use Rattle.role_steps.specs.of_file_effects.Works.{begun, committed};
-ghost use Rattle.audit_instances.specs.Rows.{no_work, once_named, used_once, with_work};
+ghost use Rattle.audit_instances.specs.Rows.{held_again, no_work, once_named, used_once, with_work};
 
 use locus_ids::{Mode, NoMemory, Stamp};
 use operation_effects::{OpenWork, WorkingContent};
@@ -14,6 +14,7 @@ pub struct InstanceRow {
     grant: Granted,
     work: OpenWork,
     named: bool,
+    again: bool,
     uses: u32,
 }
 
@@ -22,7 +23,7 @@ impl Model for InstanceRow {
 
     ghost Value = { Instance };
 
-    ghost view = { λ x. record { grant = x.grant; work = x.work; named = x.named; uses = x.uses } };
+    ghost view = { λ x. record { grant = x.grant; work = x.work; named = x.named; again = x.again; uses = x.uses } };
 }
 
 impl InstanceRow {
@@ -33,12 +34,13 @@ impl InstanceRow {
         stamp: Option<Stamp>,
         content: WorkingContent,
     ) -> InstanceRow
-        ensures { result ≡ record { grant = grant; work = begun grant.mode stamp content; named = false; uses = 0 } }
+        ensures { result ≡ record { grant = grant; work = begun grant.mode stamp content; named = false; again = false; uses = 0 } }
     {
         InstanceRow {
             grant,
             work: OpenWork::begun(alloc, grant.mode, stamp, content),
             named: false,
+            again: false,
             uses: 0,
         }
     }
@@ -64,7 +66,14 @@ impl InstanceRow {
         self.named
     }
 
-    /// How many calls but its close were accepted on its descriptor.
+    /// A read of a steady descriptor has opened it, and is its first use.
+    pub fn is_again(&self) -> bool
+        ensures { result ≡ self.now.again }
+    {
+        self.again
+    }
+
+    /// How many calls but its close were accepted on its descriptor, with that read.
     pub fn uses(&self) -> u32
         ensures { result ≡ self.now.uses }
     {
@@ -76,6 +85,22 @@ impl InstanceRow {
         ensures { self.new ≡ once_named self.old }
     {
         self.named = true;
+    }
+
+    /// A read of a steady descriptor has opened it.
+    pub fn hold_again(&mut self) -> Result<(), NoMemory>
+        ensures ok { OnOk result (self.new ≡ held_again self.old) }
+        ensures kept { self.new.grant ≡ self.old.grant }
+    {
+        match self.uses.checked_add(1) {
+            Some(uses) => {
+                self.named = true;
+                self.again = true;
+                self.uses = uses;
+                Ok(())
+            }
+            None => Err(NoMemory),
+        }
     }
 
     /// One call more is accepted on its descriptor.

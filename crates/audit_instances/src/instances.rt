@@ -4,7 +4,7 @@ ghost use Rattle.std.specs.Option.{option_copied, option_map};
 ghost use Rattle.commit_graph.specs.Grants.{is_read};
 ghost use Rattle.promises.specs.Past.{Instance, is_named, is_writer};
 ghost use Rattle.promises.specs.After.{change};
-ghost use Rattle.audit_instances.specs.Rows.{no_work, with_work, once_named, used_once, commits};
+ghost use Rattle.audit_instances.specs.Rows.{held_again, no_work, with_work, once_named, used_once, commits};
 
 use crate::InstanceRow;
 use locus_ids::{FileId, Mode, NoMemory, Serial, Stamp};
@@ -74,6 +74,20 @@ impl Instances {
         if let Some(place) = place_of(self.items.as_slice(), inst) {
             let row = &mut self.items[place];
             row.name();
+        }
+    }
+
+    /// A read of a steady descriptor has opened the instance.
+    pub fn hold_again(&mut self, inst: Serial) -> Result<(), NoMemory>
+        ensures { OnOk result (self.new ≡ change (is_named inst) held_again self.old) }
+    {
+        match place_of(self.items.as_slice(), inst) {
+            Some(place) => {
+                let row = &mut self.items[place];
+                row.hold_again()?;
+                Ok(())
+            }
+            None => Ok(()),
         }
     }
 

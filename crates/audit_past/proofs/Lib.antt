@@ -1,4 +1,5 @@
 pub mod Once
+pub mod Grants
 pub mod Steps
 pub mod Commits
 pub mod Replies

@@ -1,7 +1,16 @@
 -- What a record changes where names are given once: the one call, the one instance.
-use Rattle.std.proofs.Common.{◌≡◌, ◌≤◌, Bool, true, false, cond, List, [], ◌∷◌, length, filter, Some, None, refl, sym, ap, ◌∙◌, zero-add}
+use Rattle.std.proofs.Common.{◌≡◌, ◌≤◌, Bool, true, false, cond, List, [], ◌∷◌, ◌++◌, length, filter, Option, Some, None, refl, sym, ap, ◌∙◌, zero-add}
 use Rattle.std.specs.List.{find, list_any}
 use Rattle.locus_ids.specs.declared.ids.CallId.{CallId}
+use Rattle.locus_ids.specs.declared.ids.EpochId.{EpochId}
+use Rattle.locus_ids.specs.declared.ids.FileId.{FileId}
+use Rattle.locus_ids.specs.declared.ids.Mode.{Mode}
+use Rattle.locus_ids.specs.declared.ids.Serial.{Serial}
+use Rattle.locus_ids.specs.declared.ids.Stamp.{Stamp}
+use Rattle.trace_book.specs.declared.descriptor.OneVersion.{OneVersion}
+use Rattle.call_rules.specs.declared.answer.Answer.{Answer}
+use Rattle.call_rules.specs.Opening.{is_steady}
+use Rattle.tree_model.specs.Calls.{version_at}
 use Rattle.promises.specs.Past.{Past, CallSoFar}
 use Rattle.promises.specs.After.{change, is_id, process_of}
 use Rattle.past_laws.proofs.Changing.{change_none, find_filter, found_any, only_one, none_after}
@@ -54,3 +63,25 @@ change_twice {X} q f g keep (x ∷ xs) = at (change_twice q f g keep xs) (q x) r
 
 pub process_unnamed : (p : Past) (id : CallId) → find (is_id id) p.calls ≡ None → process_of p id ≡ 0
 process_unnamed p id lost = rw (find_filter (is_id id) p.calls lost) refl
+
+-- what two changes do alike to the one that passes, if one does, they do alike to all
+pub one_alike : {X : Type 0} (q : X → Bool) (f g : X → X) (xs : List X) → length (filter q xs) ≤ 1 → ((x : X) → find q xs ≡ Some x → f x ≡ g x) → change q f xs ≡ change q g xs
+one_alike q f g [] few h = refl
+one_alike {X} q f g (y ∷ xs) few h = at (one_alike q f g xs) (q y) refl
+  where
+    at : (length (filter q xs) ≤ 1 → ((x : X) → find q xs ≡ Some x → f x ≡ g x) → change q f xs ≡ change q g xs) → (b : Bool) → q y ≡ b → cond (q y) (f y) y ∷ change q f xs ≡ cond (q y) (g y) y ∷ change q g xs
+    at later true e = rw e (ap (λ z. z ∷ change q f xs) (h y (rw e refl)) ∙ ap (λ ys. g y ∷ ys) (change_none q f xs none ∙ sym (change_none q g xs none)))
+      where
+        none : list_any q xs ≡ false
+        none = none_after q y xs (rw e at few)
+    at later false e = rw e (ap (λ ys. y ∷ ys) (later (rw e at few) (λ x found. h x (rw e found))))
+
+-- the call that a grant is of keeps its version where its words ask so
+pub granted_kept : (ks : List CallSoFar) (id : CallId) (mode : Mode) (e : EpochId) (i : Serial) (v : Option OneVersion) (f : FileId) (stamp : Option Stamp) (a : Answer) → length (filter (is_id id) ks) ≤ 1
+    → ((k : CallSoFar) → find (is_id id) ks ≡ Some k → v ≡ cond (is_steady k.words) (version_at f stamp) None)
+    → change (is_id id) (λ (k : CallSoFar). record k { granted = Some (record { mode = mode; epoch = e; inst = i; steady = v }); answers = k.answers ++ a ∷ [] }) ks
+    ≡ change (is_id id) (λ (k : CallSoFar). record k { granted = Some (record { mode = mode; epoch = e; inst = i; steady = cond (is_steady k.words) (version_at f stamp) None }); answers = k.answers ++ a ∷ [] }) ks
+granted_kept ks id mode e i v f stamp a few h =
+    one_alike (is_id id) (λ (k : CallSoFar). record k { granted = Some (record { mode = mode; epoch = e; inst = i; steady = v }); answers = k.answers ++ a ∷ [] })
+    (λ (k : CallSoFar). record k { granted = Some (record { mode = mode; epoch = e; inst = i; steady = cond (is_steady k.words) (version_at f stamp) None }); answers = k.answers ++ a ∷ [] })
+    ks few (λ k found. ap (λ (s : Option OneVersion). record k { granted = Some (record { mode = mode; epoch = e; inst = i; steady = s }); answers = k.answers ++ a ∷ [] }) (h k found))

@@ -37,8 +37,8 @@ impl Told {
         };
         self.epochs.accept(epoch, &begins, &words)?;
         self.sites.accept(site, process, id.n, &words);
-        self.calls
-            .begin(CallRow::begin(self.alloc, at, words, begins))?;
+        let call = CallRow::begin(self.alloc, at, words, begins)?;
+        self.calls.begin(call)?;
         self.seen = LastSeen::Accepting { call: id };
         Ok(())
     }

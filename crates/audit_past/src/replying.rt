@@ -1,4 +1,4 @@
-ghost use Rattle.std.specs.Prelude.{◌≡◌, ◌≤◌, length, filter, None, OnOk, MatchOption};
+ghost use Rattle.std.specs.Prelude.{◌≡◌, ◌≤◌, ℕ, List, length, filter, None, OnOk, MatchOption};
 ghost use Rattle.std.specs.List.{find};
 ghost use Rattle.locus_ids.specs.declared.config.Config.{Config};
 ghost use Rattle.trace_book.specs.declared.record.Record.TheVariants as rec;
@@ -21,6 +21,12 @@ enum Replied {
         process: u8,
         fd: u16,
         names: Descriptor,
+    },
+    /// A steady descriptor is held again, by the instance that was granted to the call.
+    Again {
+        process: u8,
+        fd: u16,
+        opening: Descriptor,
     },
     /// A directory stays unmended in the call's epoch.
     Lost {
@@ -82,6 +88,16 @@ impl Told {
                 self.calls.reply(id);
                 Ok(())
             }
+            Replied::Again {
+                process,
+                fd,
+                opening,
+            } => {
+                self.sites.hold_again(id.site, process, fd, opening);
+                self.epochs.hold_again(opening.epoch, opening.inst)?;
+                self.calls.reply(id);
+                Ok(())
+            }
             Replied::Lost { home, file } => {
                 self.epochs.unmend(home, file)?;
                 self.calls.reply(id);
@@ -101,6 +117,7 @@ fn parts_of(reply: &Reply, call: &CallRow) -> Replied
 {
     match reply {
         Reply::Opened { fd } => named_by(*fd, call),
+        Reply::Data { bytes: _ } => held_again(call),
         Reply::No { why } => lost_by(why, call),
         _ => Replied::Plain,
     }
@@ -116,6 +133,22 @@ fn named_by(fd: u16, call: &CallRow) -> Replied
             names,
         },
         None => Replied::Plain,
+    }
+}
+
+fn held_again(call: &CallRow) -> Replied
+    ensures { (bytes : List ℕ) → IsReplied result (reply.Data bytes) call.now }
+{
+    let Some(opening) = call.granted() else {
+        return Replied::Plain;
+    };
+    match call.words() {
+        Call::Read { fd, at: _, len: _ } => Replied::Again {
+            process: call.process(),
+            fd: *fd,
+            opening,
+        },
+        _ => Replied::Plain,
     }
 }
 

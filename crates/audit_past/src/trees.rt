@@ -1,18 +1,22 @@
-ghost use Rattle.std.specs.Prelude.{◌≡◌, ◌≤◌, ℕ, false, length, filter, OnOk, IfOk};
+ghost use Rattle.std.specs.Prelude.{◌≡◌, ◌≤◌, ℕ, None, Some, cond, false, length, filter, OnOk, IfOk};
+ghost use Rattle.std.specs.List.{find};
 ghost use Rattle.audit_epochs.specs.Places.{has_open};
 ghost use Rattle.locus_ids.specs.declared.config.Config.{Config};
 ghost use Rattle.trace_book.specs.declared.record.Record.TheVariants as rec;
 ghost use Rattle.lawful_trace.specs.Progress.{granted_answer};
+ghost use Rattle.call_rules.specs.Opening.{is_steady};
+ghost use Rattle.tree_model.specs.Calls.{version_at};
 ghost use Rattle.tree_model.specs.Histories.{stamped_content};
-ghost use Rattle.promises.specs.Past.{epoch_at, kept_in};
+ghost use Rattle.promises.specs.Past.{CallSoFar, epoch_at, kept_in};
 ghost use Rattle.promises.specs.After.{after, is_id, process_of};
 
 use crate::{LastSeen, Told};
 use audit_acts::kept_in;
+use audit_tree::reading_answer;
 use call_rules::Answer;
 use locus_ids::{CallId, EpochId, FileId, Mode, NoMemory, Serial, Stamp, Stamps};
 use operation_effects::WorkingContent;
-use trace_book::Descriptor;
+use trace_book::{Call, Descriptor, OneVersion, OpenMode};
 use tree_model::Granted;
 
 /// An open as it is granted.
@@ -48,10 +52,27 @@ impl Told {
             mode: opening.mode,
             epoch,
             inst: opening.inst,
+            steady: self.kept_version(id, opening),
         };
         self.calls.grant(id, descriptor, answer)?;
         self.seen = LastSeen::Another;
         Ok(())
+    }
+
+    /// The version that a descriptor of the call of this name keeps, where it is steady.
+    fn kept_version(&self, id: CallId, opening: &Opening) -> Option<OneVersion>
+        requires once { length (filter (is_id id) self.now.calls) ≤ 1 }
+        ensures { (k : CallSoFar) → find (is_id id) self.now.calls ≡ Some k → result ≡ cond (is_steady k.words) (version_at opening.now.file opening.now.stamp) None }
+    {
+        let call = self.calls.find(id)?;
+        if is_steady(call.words()) {
+            let stamp = opening.stamp?;
+            return Some(OneVersion {
+                file: opening.file,
+                stamp,
+            });
+        }
+        None
     }
 
     /// The process of the call of this name.
@@ -84,7 +105,7 @@ impl Told {
 
     /// What a granted open answers its call.
     fn granted_answer(&self, epoch: EpochId, opening: &Opening) -> Result<Answer, NoMemory>
-        ensures { IfOk result (λ answer. answer ≡ granted_answer opening.now.mode opening.now.inst opening.now.file (kept_in self.now (epoch_at self.now epoch) opening.now.file)) }
+        ensures { IfOk result (λ answer. answer ≡ granted_answer opening.now.mode opening.now.inst opening.now.file opening.now.stamp (kept_in self.now (epoch_at self.now epoch) opening.now.file)) }
     {
         match opening.mode {
             Mode::Mend => {
@@ -94,6 +115,7 @@ impl Told {
                     kept,
                 })
             }
+            Mode::Read => Ok(reading_answer(opening.inst, opening.file, opening.stamp)),
             _ => Ok(Answer::Opened {
                 inst: opening.inst,
                 ino: opening.file.ino,
@@ -113,5 +135,15 @@ impl Told {
             }
             None => Ok(Stamps::new(self.alloc)),
         }
+    }
+}
+
+/// The words ask for a steady descriptor.
+fn is_steady(words: &Call) -> bool
+    ensures { result ≡ is_steady words.now }
+{
+    match words {
+        Call::Open { path: _, mode } => matches!(mode, OpenMode::Steady),
+        _ => false,
     }
 }

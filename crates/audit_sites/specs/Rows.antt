@@ -10,7 +10,7 @@ use Rattle.trace_book.specs.declared.descriptor.Descriptor.{Descriptor}
 use Rattle.call_rules.specs.Walks.{root_of}
 use Rattle.tree_model.specs.Histories.{format_stamp}
 use Rattle.promises.specs.Past.{Site, Copy, Named, first_or, no_site}
-use Rattle.promises.specs.After.{change, is_freed}
+use Rattle.promises.specs.After.{change, held_by, is_freed}
 
 -- The list.
 
@@ -57,6 +57,10 @@ accepts process words s = record s { accepted = s.accepted + 1; descriptors = fi
 -- a number of a process stands for what it named by no number before
 abbrev pub names : Named → Site → Site
 names new s = record s { descriptors = new ∷ s.descriptors }
+
+-- a read of a steady descriptor makes it held by the instance that this opening stands for
+abbrev pub holds_again : ℕ → ℕ → Descriptor → Site → Site
+holds_again process fd opening s = record s { descriptors = change (λ (d : Named). (d.process == process) && (d.fd == fd)) (held_by (Some opening)) s.descriptors }
 
 -- the site has this version of its file in place of another
 abbrev pub takes : Copy → Site → Site

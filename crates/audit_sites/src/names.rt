@@ -1,8 +1,8 @@
-ghost use Rattle.std.specs.Prelude.{◌≡◌, ◌==◌, ◌&&◌, not, filter};
+ghost use Rattle.std.specs.Prelude.{◌≡◌, ◌==◌, ◌&&◌, Some, cond, not, filter};
 ghost use Rattle.std.specs.List.{find};
 ghost use Rattle.std.specs.Option.{option_map};
 ghost use Rattle.promises.specs.Past.{Named};
-ghost use Rattle.promises.specs.After.{is_freed};
+ghost use Rattle.promises.specs.After.{change, held_by, is_freed};
 
 use std::marker::Model;
 use trace_book::{Call, Descriptor};
@@ -47,6 +47,28 @@ pub(crate) fn named_in(rows: &[NamedDescriptor], process: u8, fd: u16) -> Option
         }
     }
     None
+}
+
+/// The number of the process is held by the instance that this opening stands for, and keeps its version.
+pub(crate) fn hold_again(rows: &mut [NamedDescriptor], process: u8, fd: u16, opening: Descriptor)
+    ensures { rows.new ≡ change (λ (d : Named). (d.process == process) && (d.fd == fd)) (held_by (Some opening)) rows.old }
+{
+    for row in rows.iter_mut() {
+        hold_row(row, process, fd, opening);
+    }
+}
+
+fn hold_row(row: &mut NamedDescriptor, process: u8, fd: u16, opening: Descriptor)
+    ensures { row.new ≡ cond ((row.old.process == process) && (row.old.fd == fd)) (held_by (Some opening) row.old) row.old }
+{
+    if is_of(row, process, fd) {
+        row.names = Descriptor {
+            mode: opening.mode,
+            epoch: opening.epoch,
+            inst: opening.inst,
+            steady: row.names.steady,
+        };
+    }
 }
 
 fn drop_number(rows: &mut Vec<NamedDescriptor>, process: u8, fd: u16)

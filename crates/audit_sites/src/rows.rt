@@ -1,7 +1,7 @@
 ghost use Rattle.std.specs.Prelude.{◌≡◌, ◌⊎◌, ◌+◌, ◌-◌, ◌<◌, length, map, OnOk, IfOk, IfSome, IfNone};
 ghost use Rattle.commit_graph.specs.Vectors.{numbers_from};
 ghost use Rattle.promises.specs.Past.{first_site};
-ghost use Rattle.audit_sites.specs.Rows.{row_of, with_site, IsNumbered, boots, stops, leaves, joins, accepts, names, takes};
+ghost use Rattle.audit_sites.specs.Rows.{row_of, with_site, IsNumbered, boots, stops, leaves, joins, accepts, holds_again, names, takes};
 
 use crate::site::SiteRow;
 use crate::starting::first_rows;
@@ -126,6 +126,16 @@ impl SiteRows {
             row.names(process, fd, descriptor)?;
         }
         Ok(())
+    }
+
+    /// The number of the process is held again by the instance that this opening stands for.
+    pub fn hold_again(&mut self, site: u8, process: u8, fd: u16, opening: Descriptor)
+        ensures { self.new ≡ with_site site (holds_again process fd opening) self.old }
+    {
+        if let Some(place) = place_of(self.rows.as_slice(), site) {
+            let row = &mut self.rows[place];
+            row.holds_again(process, fd, opening);
+        }
     }
 
     /// The site has this version of the file in place of another.

@@ -1,10 +1,10 @@
 ghost use Rattle.std.specs.Prelude.{◌≡◌, ◌+◌, OnOk};
 ghost use Rattle.call_rules.specs.Descriptors.{lowest_free};
 ghost use Rattle.promises.specs.Past.{no_site, stamp_in};
-ghost use Rattle.audit_sites.specs.Rows.{named_at, boots, stops, leaves, joins, accepts, names, takes};
+ghost use Rattle.audit_sites.specs.Rows.{named_at, boots, stops, leaves, joins, accepts, holds_again, names, takes};
 
 use crate::copies::{drop_file, stamp_in};
-use crate::names::{NamedDescriptor, free, named_in};
+use crate::names::{NamedDescriptor, free, hold_again, named_in};
 use audit_copies::CopyRow;
 use locus_ids::sizes::DESCRIPTORS;
 use locus_ids::{EpochId, FileId, NoMemory, Stamp};
@@ -177,6 +177,12 @@ impl SiteRow {
         };
         self.descriptors.insert(0, new)?;
         Ok(())
+    }
+
+    pub(crate) fn holds_again(&mut self, process: u8, fd: u16, opening: Descriptor)
+        ensures { self.new ≡ holds_again process fd opening self.old }
+    {
+        hold_again(self.descriptors.as_mut_slice(), process, fd, opening);
     }
 
     pub(crate) fn takes(&mut self, file: FileId, stamp: Stamp) -> Result<(), NoMemory>

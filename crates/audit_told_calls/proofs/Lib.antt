@@ -1,2 +1,3 @@
 pub mod Found
+pub mod Said
 pub use Rattle.audit_row_parts.proofs as of_audit_row_parts

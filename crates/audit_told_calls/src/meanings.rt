@@ -1,5 +1,6 @@
 ghost use Rattle.std.specs.Prelude.{◌≡◌, IfOk};
 ghost use Rattle.audit_rules.specs.Meant.{asked_by, asked_next, call_named, reply_meant, what_meant};
+ghost use Rattle.audit_told_calls.specs.Meanings.{is_whole};
 ghost use Rattle.audit_told_calls.specs.Once.{OneEach};
 
 use crate::asked::{asks, asks_after};
@@ -19,12 +20,22 @@ pub fn look_meant(
     requires { OneEach told.now }
     ensures { IfOk result (λ w. w ≡ what_meant (asked_by config.now told.now request (call_named told.now id)) read) }
 {
+    if !is_whole(&read) {
+        return Ok(read);
+    }
     let Some(row) = told.calls().find(id) else {
         return Ok(read);
     };
     let count = usize::from(request).saturating_sub(1);
     let asked = asks_after(config, told, row, count)?;
     Ok(audit_asked::what_meant(&asked, read))
+}
+
+/// The look is at a whole content.
+fn is_whole(read: &What) -> bool
+    ensures { result ≡ is_whole read.now }
+{
+    matches!(read, What::Whole { stamp: _ })
 }
 
 /// What a reply means by its text: the one that the script of its call gives, where that is read so.

@@ -13,7 +13,7 @@ mod places;
 mod working;
 
 pub use acting::{Added, act};
-pub use answering::{close_answer, granted_answer, outcome_answer};
+pub use answering::{close_answer, granted_answer, outcome_answer, reading_answer};
 pub use last_dir::LastDir;
 pub use opening::{
     excludes, has_kept, is_given, is_only, is_read, is_served, kept_refusal, numbers_used,

@@ -12,8 +12,8 @@ use Rattle.row_laws.specs.Shown.{EachRecord, trace_of}
 use Rattle.row_laws.proofs.AskedRun.{run_placed}
 use Rattle.past_laws.specs.Agreement.{past}
 use Rattle.past_laws.specs.Along.{EachComesSo, IsNamed}
-use Rattle.prompt_laws.specs.Due.{IsDueRow, RepliesComeNext}
-use Rattle.prompt_laws.proofs.RunDue.{replies_next}
+use Rattle.headline_promise_laws.specs.of_headline_laws.of_prompt_laws.Due.{IsDueRow, RepliesComeNext}
+use Rattle.headline_promise_laws.proofs.of_headline_laws.of_prompt_laws.RunDue.{replies_next}
 use Rattle.headline_promise_laws.proofs.Comes.{run_comes_so, run_is_named}
 use Rattle.audit_rules.specs.Consistent.{Sound}
 use Rattle.audit_laws.specs.Reading.{EachInTurn, LinesRise, audited_all, entry_as_read}

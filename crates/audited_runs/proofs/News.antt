@@ -26,7 +26,7 @@ use Rattle.promises.specs.Past.{site_at}
 use Rattle.promises.specs.Rows.{is_there, may_follow}
 use Rattle.past_laws.specs.Agreement.{past}
 use Rattle.row_laws.specs.Rows.{MemberRecord}
-use Rattle.prompt_laws.specs.Speaks.{IsCaller, IsOfProcess, IsSite, RecordSpeaks}
+use Rattle.headline_promise_laws.specs.of_headline_laws.of_prompt_laws.Speaks.{IsCaller, IsOfProcess, IsSite, RecordSpeaks}
 use Rattle.record_reading.specs.Ranges.{is_any_site, is_call_id, is_counted, is_epoch, is_instance, is_members, is_mend, is_process, is_request, is_words}
 use Rattle.record_text_laws.specs.Texts.{BootsAreLow, CountsRecord, JoinFits}
 use Rattle.record_text_laws.proofs.ByKind.{any_site, call_text, counted}
@@ -97,6 +97,7 @@ set_fits n (Some set) h = copies_fit n set h
 mode_fits : (n : ℕ) (m : OpenMode) → fits_mode n m ≡ true → fits_mode sites_max m ≡ true
 mode_fits n how.Read h = refl
 mode_fits n how.Write h = refl
+mode_fits n how.Steady h = refl
 mode_fits n (how.Resolve site) h = site_fits n site h
 
 -- words that a line may have in a cluster are such in any

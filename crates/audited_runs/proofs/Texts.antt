@@ -26,8 +26,8 @@ use Rattle.rest_laws.proofs.Shown.{shown_entries}
 use Rattle.rest_laws.proofs.StoreStepFirst.{four_groups}
 use Rattle.past_laws.specs.Along.{EachComesSo, IsNamed}
 use Rattle.past_laws.proofs.Agreeing.{may_follow_all, one_tree, reverse_more}
-use Rattle.prompt_laws.specs.Speaks.{IsSite, SpeaksOfWhatIs}
-use Rattle.prompt_laws.proofs.RunSpeaks.{records_speak}
+use Rattle.headline_promise_laws.specs.of_headline_laws.of_prompt_laws.Speaks.{IsSite, SpeaksOfWhatIs}
+use Rattle.headline_promise_laws.proofs.of_headline_laws.of_prompt_laws.RunSpeaks.{records_speak}
 use Rattle.headline_promise_laws.proofs.Comes.{run_comes_so, run_is_named}
 use Rattle.record_reading.specs.Ranges.{is_counted, is_record}
 use Rattle.record_text_laws.specs.Texts.{BootsAreLow, IsCountedCall, IsJoinFit, IsLined}

@@ -7,6 +7,8 @@ use Rattle.trace_book.specs.declared.call.Call.{Call}
 use Rattle.trace_book.specs.declared.call.Call.TheVariants as call
 use Rattle.trace_book.specs.declared.operation.Op.{Op}
 use Rattle.trace_book.specs.declared.operation.What.TheVariants as what
+use Rattle.trace_book.specs.declared.descriptor.Beginning.{Beginning}
+use Rattle.trace_book.specs.declared.descriptor.Beginning.TheVariants as begins
 use Rattle.trace_book.specs.declared.reply.Reply.{Reply}
 use Rattle.trace_book.specs.declared.reply.Reply.TheVariants as reply
 use Rattle.call_rules.specs.Descriptors.{lowest_free, beginning}
@@ -24,7 +26,7 @@ use Rattle.role_steps.specs.Own.{Every}
 use Rattle.role_steps.specs.Tables.{first_that}
 use Rattle.role_steps.specs.Views.{Frame, Users}
 use Rattle.role_steps.specs.Requests.{waiting_key, without_waiting, user_instance, with_user_instance, without_user_instance, descriptors_of, asks, next_request, asks_op_of, asks_close_of}
-use Rattle.role_steps.specs.Using.{after_reply, is_hopeless, without_hope, is_packed, asks_want, next_want, goes_on, accepted, frees, on_call, with_answer, takes_answer, asks_open_of, opened_answer, kept_for, mended_file, takes_open, on_open_done_of, on_open_done, asks_op_number, op_answer, on_op_done_of, on_op_done, close_answer, on_close_done_of, on_close_done, looks_again, content_answer, with_brought, takes_look, asks_take, on_look_done_of, on_look_done, own_call}
+use Rattle.role_steps.specs.Using.{after_reply, holds_again, is_hopeless, without_hope, is_packed, asks_want, next_want, goes_on, accepted, frees, on_call, with_answer, takes_answer, asks_open_of, opened_answer, kept_for, mended_file, takes_open, on_open_done_of, on_open_done, asks_op_number, op_answer, on_op_done_of, on_op_done, close_answer, on_close_done_of, on_close_done, looks_again, content_answer, with_brought, takes_look, asks_take, on_look_done_of, on_look_done, own_call}
 use Rattle.role_steps.specs.Using as using
 use Rattle.role_steps.specs.declared.users.Asking.{Asking}
 use Rattle.role_steps.specs.declared.users.Asking.TheVariants as asking
@@ -64,9 +66,14 @@ hope_bounded : (words : Call) (why : _) (u : Users) → UsersBounded u → Users
 hope_bounded (call.Mend file) why u g = elim (is_hopeless why) as (λ b. UsersBounded (cond b (record u { hopeless = u.hopeless ++ file ∷ [] }) u)) [ true ↦ g | false ↦ g ]
 hope_bounded _ why u g = g
 
+held_bounded : (f : Frame) (w : WaitingCall) (b : Beginning) (words : Call) (u : Users) → UsersBounded u → UsersBounded (holds_again f w b words u)
+held_bounded f w (begins.Reopens version last) (call.Read fd at len) u g = g
+held_bounded f w _ words u g = g
+
 reply_bounded : (f : Frame) (w : WaitingCall) (r : Reply) (u : Users) → UsersBounded u → UsersBounded (after_reply f w r u)
 reply_bounded f w (reply.Opened fd) u g = g
 reply_bounded f w (reply.No why) u g = hope_bounded w.words why u g
+reply_bounded f w (reply.Data bytes) u g = held_bounded f w w.begins w.words u g
 reply_bounded f w _ u g = g
 
 -- what is wanted next
@@ -101,7 +108,7 @@ answer_bounded : (f : Frame) (w : WaitingCall) (a : Answer) (u : Users) → IsBo
 answer_bounded f w a u h g = goes_bounded f (with_answer w a) u (h.numbered ∙ sym (length-append w.answers (a ∷ []))) g
 
 opened_bounded : (f : Frame) (kept : FileId → List Stamp) (serial : ℕ) (w : WaitingCall) (a : Granted) (u : Users) → IsBounded w → UsersBounded u → UsersBounded (takes_open f kept serial w a u).view
-opened_bounded f kept serial w (granted.Open ss ino size stamp vector) u h g = answer_bounded f w (opened_answer f serial ino (kept_for kept (mended_file w.words)) w.words) (with_user_instance (record { serial = serial; ss = ss; vector = vector; ops = 0 }) u) h g
+opened_bounded f kept serial w (granted.Open ss ino size stamp vector) u h g = answer_bounded f w (opened_answer f serial ino stamp (kept_for kept (mended_file w.words)) w.words w.asking) (with_user_instance (record { serial = serial; ss = ss; vector = vector; ops = 0 }) u) h g
 opened_bounded f kept serial w (granted.No why) u h g = answer_bounded f w (answer.Refused why) u h g
 
 pub on_open_done_bounded : (f : Frame) (kept : FileId → List Stamp) (serial : ℕ) (a : Granted) (u : Users) → UsersBounded u → UsersBounded (on_open_done f kept serial a u).view

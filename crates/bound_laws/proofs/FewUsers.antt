@@ -42,6 +42,7 @@ opening_few : (serial call process request : ℕ) (file : FileId) (m : OpenMode)
 opening_few serial call process request file mode.Read = refl
 opening_few serial call process request file mode.Write = refl
 opening_few serial call process request file (mode.Resolve site) = refl
+opening_few serial call process request file mode.Steady = refl
 
 op_few : (f : Frame) (w : WaitingCall) (o : Op) (i : Option UserInstance) (u : Users) → SendsFew (asks_op_of f w o i u)
 op_few f w o None u = few_none
@@ -72,7 +73,7 @@ answer_few : (f : Frame) (w : WaitingCall) (a : Answer) (u : Users) → SendsFew
 answer_few f w a u = want_few f (with_answer w a) (next_want f (with_answer w a) u) u (later_opens_none f.config.mounts (is_packed f) (lowest_free (descriptors_of u w.process)) w.words w.begins w.answers a)
 
 opened_few : (f : Frame) (kept : FileId → List Stamp) (serial : ℕ) (w : WaitingCall) (a : Granted) (u : Users) → SendsFew (takes_open f kept serial w a u)
-opened_few f kept serial w (granted.Open ss ino size stamp vector) u = answer_few f w (opened_answer f serial ino (kept_for kept (mended_file w.words)) w.words) (with_user_instance (record { serial = serial; ss = ss; vector = vector; ops = 0 }) u)
+opened_few f kept serial w (granted.Open ss ino size stamp vector) u = answer_few f w (opened_answer f serial ino stamp (kept_for kept (mended_file w.words)) w.words w.asking) (with_user_instance (record { serial = serial; ss = ss; vector = vector; ops = 0 }) u)
 opened_few f kept serial w (granted.No why) u = answer_few f w (answer.Refused why) u
 
 pub on_open_done_few : (f : Frame) (kept : FileId → List Stamp) (serial : ℕ) (a : Granted) (u : Users) → SendsFew (on_open_done f kept serial a u)

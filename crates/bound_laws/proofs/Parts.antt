@@ -1,5 +1,6 @@
 -- How many requests each part of a script makes at most.
-use Rattle.std.proofs.Common.{ℕ, ◌+◌, ◌≤◌, List, [], ◌∷◌, length, Option, Some, arith}
+use Rattle.std.proofs.Common.{ℕ, ◌+◌, ◌≤◌, Bool, true, false, cond, List, [], ◌∷◌, length, Option, Some, arith}
+use Rattle.locus_ids.specs.declared.ids.EpochId.{EpochId}
 use Rattle.locus_ids.specs.declared.ids.FileId.{FileId}
 use Rattle.locus_ids.specs.declared.ids.Serial.{Serial}
 use Rattle.locus_ids.specs.declared.ids.Kind.{Kind}
@@ -7,15 +8,17 @@ use Rattle.locus_ids.specs.declared.ids.Kind.TheVariants.{File, Dir}
 use Rattle.locus_ids.specs.declared.sites.Sites.{Sites}
 use Rattle.locus_ids.specs.declared.config.Mount.{Mount}
 use Rattle.locus_ids.specs.declared.refusal.Refusal.{Refusal}
-use Rattle.locus_ids.specs.declared.refusal.Refusal.TheVariants.{NotDir, IsDir}
+use Rattle.locus_ids.specs.declared.refusal.Refusal.TheVariants.{NotDir, IsDir, Stale}
+use Rattle.commit_graph.specs.Versions.{same_stamp}
 use Rattle.trace_book.specs.Names.{plain_name}
 use Rattle.trace_book.specs.declared.call.OpenMode.{OpenMode}
+use Rattle.trace_book.specs.declared.descriptor.OneVersion.{OneVersion}
 use Rattle.trace_book.specs.declared.operation.Op.{Op}
 use Rattle.trace_book.specs.declared.operation.Outcome.TheVariants as outcome
 use Rattle.trace_book.specs.declared.reply.Reply.{Reply}
 use Rattle.trace_book.specs.declared.reply.Reply.TheVariants as reply
 use Rattle.call_rules.specs.declared.answer.Answer.{Answer}
-use Rattle.call_rules.specs.declared.answer.Answer.TheVariants.{Showed, Described, Opened, Did, Ended, Refused}
+use Rattle.call_rules.specs.declared.answer.Answer.TheVariants.{Showed, Described, Opened, Reading, Did, Ended, Refused}
 use Rattle.call_rules.specs.declared.want.Want.{Want}
 use Rattle.call_rules.specs.declared.want.Want.TheVariants as want
 use Rattle.call_rules.specs.Closing.{Unchanged, closes, gives, give_up, close_all}
@@ -23,6 +26,7 @@ use Rattle.call_rules.specs.Making.{after_insert, after_make, fills, after_probe
 use Rattle.call_rules.specs.Naming.{renames}
 use Rattle.call_rules.specs.Opening.{opens_file, lists, describes, op_wants, close_wants, Shows}
 use Rattle.call_rules.specs.Removing.{removes, empties, opens_target, by_kind, finds}
+use Rattle.call_rules.specs.Reopening.{reads_again, reopened, reopens}
 
 -- ---- parts of scripts ----
 
@@ -186,6 +190,7 @@ pub opens_most : (mode : OpenMode) (free : Option ℕ) (file : FileId) (kind : K
 opens_most mode free file Dir answers = tt
 opens_most mode free file File [] = omega arith
 opens_most mode (Some fd) file File (Opened i ino ∷ []) = tt
+opens_most mode (Some fd) file File (Reading i version ∷ []) = tt
 opens_most mode free file File (Refused why ∷ []) = tt
 opens_most mode free file File (_ ∷ rest) = tt
 
@@ -200,3 +205,24 @@ close_most i [] = omega arith
 close_most i (Ended stamp ∷ []) = tt
 close_most i (Refused why ∷ []) = tt
 close_most i (_ ∷ rest) = tt
+
+-- ---- a version is opened again ----
+
+reads_again_most : (i : Serial) (at len : ℕ) → AtMost 2 (reads_again i at len)
+reads_again_most i at len [] = omega arith
+reads_again_most i at len (Did result ∷ []) = tt
+reads_again_most i at len (Refused why ∷ rest) = more 1 (give_up (Unchanged i ∷ []) why) (Refused why) rest (one_up i why)
+reads_again_most i at len (_ ∷ rest) = tt
+
+reopened_most : (kept : OneVersion) (last : EpochId) (at len : ℕ) (i : Serial) (granted : OneVersion) → AtMost 2 (reopened kept last at len i granted)
+reopened_most kept last at len i granted answers = over (same_stamp granted.stamp kept.stamp)
+  where
+    over : (b : Bool) → Within 2 (length answers) (cond b (reads_again i at len answers) (give_up (Unchanged i ∷ []) (Stale last) answers))
+    over true = reads_again_most i at len answers
+    over false = lift 1 2 (length answers) (length answers) (give_up (Unchanged i ∷ []) (Stale last) answers) (omega arith) (one_up i (Stale last) answers)
+
+pub reopens_most : (kept : OneVersion) (last : EpochId) (at len : ℕ) → AtMost 3 (reopens kept last at len)
+reopens_most kept last at len [] = omega arith
+reopens_most kept last at len (Reading i granted ∷ rest) = more 2 (reopened kept last at len i granted) (Reading i granted) rest (reopened_most kept last at len i granted)
+reopens_most kept last at len (Refused why ∷ []) = tt
+reopens_most kept last at len (_ ∷ rest) = tt

@@ -3,6 +3,7 @@ use Rattle.std.proofs.Common.{◌≡◌, ℕ, suc, ◌+◌, ◌≤◌, nat_lt, B
 use Rattle.std.proofs.lemmas.Bool.Decides.{nat_tests}
 use Rattle.role_steps.proofs.of_plain_facts.Tests.{and_first, and_second, not_false}
 use Rattle.locus_ids.specs.declared.ids.CallId.{CallId}
+use Rattle.locus_ids.specs.declared.ids.EpochId.{EpochId}
 use Rattle.locus_ids.specs.declared.ids.FileId.{FileId}
 use Rattle.locus_ids.specs.declared.ids.Serial.{Serial}
 use Rattle.locus_ids.specs.declared.ids.Stamp.{Stamp}
@@ -15,7 +16,8 @@ use Rattle.trace_book.specs.Names.{components, but_last, last_of}
 use Rattle.trace_book.specs.declared.call.Call.{Call}
 use Rattle.trace_book.specs.declared.call.Call.TheVariants as call
 use Rattle.trace_book.specs.declared.descriptor.Beginning.{Beginning}
-use Rattle.trace_book.specs.declared.descriptor.Beginning.TheVariants.{Denied, Uses, Walks}
+use Rattle.trace_book.specs.declared.descriptor.OneVersion.{OneVersion}
+use Rattle.trace_book.specs.declared.descriptor.Beginning.TheVariants.{Denied, Uses, Walks, Reopens, Frees}
 use Rattle.trace_book.specs.declared.reply.Reply.TheVariants as reply
 use Rattle.call_rules.specs.declared.answer.Answer.{Answer}
 use Rattle.call_rules.specs.declared.answer.Answer.TheVariants.{Entered, Brought, Opened, Merging, Did, Refused}
@@ -27,11 +29,12 @@ use Rattle.call_rules.specs.Making.{opens_dir, changes_dir}
 use Rattle.call_rules.specs.Mending.{after_mend, brings, mend_wants}
 use Rattle.call_rules.specs.Opening.{describes, close_wants, uses_wants, shown_in}
 use Rattle.call_rules.specs.Paths.{is_path}
+use Rattle.call_rules.specs.Reopening.{reopen_wants}
 use Rattle.call_rules.specs.Scripts.{path_wants, begun_wants, named_wants, where_packed, wants}
 use Rattle.call_rules.specs.Walks.{Walked, Asks, Fails, There, Strays, root_of, mounted_in, passes, walk, walked}
 use Rattle.call_rules.specs.Words.{names_entry, names_new, is_badly_named}
 use Rattle.bound_laws.specs.Requests.{most_requests, is_mend, IsRequest}
-use Rattle.bound_laws.proofs.Parts.{lift, more, one_up, probes_most, finds_most, renames_most, lists_most, describes_most, opens_most, op_most, close_most, writes, writes_once, Within, AtMost}
+use Rattle.bound_laws.proofs.Parts.{lift, more, one_up, probes_most, finds_most, renames_most, lists_most, describes_most, opens_most, op_most, close_most, reopens_most, writes, writes_once, Within, AtMost}
 
 -- ---- walks ----
 
@@ -134,15 +137,21 @@ uses_most (call.Abort fd) i answers = op_most i _ answers
 uses_most (call.Close fd) i answers = close_most i answers
 uses_most _ i answers = tt
 
--- one request is within the bound of each call
-within_walk : (words : Call) (k : ℕ) → 1 + k ≤ most_requests words + k
+reopen_most : (words : Call) (kept : OneVersion) (last : EpochId) → AtMost 3 (reopen_wants words kept last)
+reopen_most (call.Read fd at len) kept last answers = reopens_most kept last at len answers
+reopen_most _ kept last answers = tt
+
+-- three requests are within the bound of each call
+within_walk : (words : Call) (k : ℕ) → 3 + k ≤ most_requests words + k
 within_walk (call.Mail path bytes) k = omega arith
 within_walk _ k = omega arith
 
 begun_most : (mounts : List Mount) (free : Option ℕ) (words : Call) (begins : Beginning) → is_mend words ≡ false → is_badly_named mounts words ≡ false → AtMost (most_requests words) (begun_wants mounts free words begins)
 begun_most mounts free words (Denied why) usual named answers = tt
-begun_most mounts free words (Uses epoch inst) usual named answers = lift 1 (most_requests words) (length answers) (length answers) (uses_wants words inst answers) (within_walk words (length answers)) (uses_most words inst answers)
+begun_most mounts free words (Uses epoch inst) usual named answers = lift 1 (most_requests words) (length answers) (length answers) (uses_wants words inst answers) (let h : 3 + length answers ≤ most_requests words + length answers = within_walk words (length answers) in omega (arith, h)) (uses_most words inst answers)
 begun_most mounts free words (Walks id) usual named answers = path_most mounts free id words usual named answers
+begun_most mounts free words (Reopens kept last) usual named answers = lift 3 (most_requests words) (length answers) (length answers) (reopen_wants words kept last answers) (within_walk words (length answers)) (reopen_most words kept last answers)
+begun_most mounts free words Frees usual named answers = tt
 
 named_most : (mounts : List Mount) (free : Option ℕ) (words : Call) (begins : Beginning) → is_mend words ≡ false → AtMost (most_requests words) (named_wants mounts free words begins)
 named_most mounts free words begins usual answers =
@@ -236,6 +245,8 @@ packed_no_mend is_packed w h = over w h
 mend_later : (mounts : List Mount) (is_packed : ℕ → Bool) (free : Option ℕ) (file : FileId) (begins : Beginning) (a : Answer) (rest : List Answer) → OpensNoMend (wants mounts is_packed free (call.Mend file) begins (a ∷ rest))
 mend_later mounts is_packed free file (Denied why) a rest = tt
 mend_later mounts is_packed free file (Uses epoch inst) a rest = tt
+mend_later mounts is_packed free file (Reopens kept last) a rest = tt
+mend_later mounts is_packed free file Frees a rest = tt
 mend_later mounts is_packed free file (Walks id) a rest = packed_no_mend is_packed (mend_wants file (a ∷ rest)) (mend_wants_most file a rest)
 
 -- only the first request of a call opens a directory to mend it

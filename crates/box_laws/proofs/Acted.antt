@@ -2,7 +2,7 @@
 use Rattle.std.proofs.Common.{◌≡◌, ℕ, ◌==◌, Bool, true, false, not, List, [], ◌∷◌, ◌++◌, append-nil, Option, Some, None, refl, sym, ◌∙◌, ap, subst, ◌⊎◌, inl, inr}
 use Rattle.std.specs.List.{find, flat_map}
 use Rattle.plain_facts.proofs.Numbers.{equal}
-use Rattle.plain_facts.proofs.Tests.{and_first, and_second, not_true, or_other}
+use Rattle.plain_facts.proofs.Tests.{and_first, and_second, false_true, not_true, or_other}
 use Rattle.locus_ids.specs.declared.config.Config.{Config}
 use Rattle.locus_ids.specs.declared.ids.CallId.{CallId}
 use Rattle.locus_ids.specs.declared.ids.EpochId.{EpochId}
@@ -11,6 +11,7 @@ use Rattle.locus_ids.specs.declared.ids.Kind.{Kind}
 use Rattle.locus_ids.specs.declared.ids.Mode.TheVariants as mode
 use Rattle.locus_ids.specs.declared.ids.Serial.{Serial}
 use Rattle.locus_ids.specs.declared.ids.Stamp.{Stamp}
+use Rattle.commit_graph.specs.Grants.{is_read}
 use Rattle.commit_graph.specs.Vectors.{vector_of}
 use Rattle.commit_graph.specs.Versions.{content_of, is_in}
 use Rattle.commit_graph.specs.declared.history.Version.{Version}
@@ -18,6 +19,7 @@ use Rattle.trace_book.specs.Messages.{is_message}
 use Rattle.trace_book.specs.Names.{plain_name}
 use Rattle.trace_book.specs.Same.{same_call}
 use Rattle.trace_book.specs.declared.call.Call.TheVariants as call
+use Rattle.trace_book.specs.declared.descriptor.Beginning.{Beginning}
 use Rattle.trace_book.specs.declared.descriptor.Beginning.TheVariants as begins
 use Rattle.trace_book.specs.declared.operation.Op.{Op}
 use Rattle.trace_book.specs.declared.operation.Op.TheVariants as op
@@ -29,12 +31,14 @@ use Rattle.trace_book.specs.declared.record.Record.TheVariants as says
 use Rattle.dir_format.specs.Contents.{entries_of}
 use Rattle.file_effects.specs.Effects.{is_refusal}
 use Rattle.file_effects.specs.declared.work.Work.{Work}
+use Rattle.call_rules.specs.Descriptors.{beginning}
 use Rattle.call_rules.specs.declared.answer.Answer.{Answer}
 use Rattle.call_rules.specs.declared.want.Want.TheVariants as want
 use Rattle.role_steps.specs.Views.{Told, Shown}
 use Rattle.the_run.specs.Worlds.{Line}
 use Rattle.tree_model.specs.declared.accepted.Waiting.{Waiting}
 use Rattle.tree_model.specs.declared.instance.Instance.{Instance}
+use Rattle.tree_model.specs.Calls.{call_named}
 use Rattle.tree_model.specs.Files.{words_named}
 use Rattle.tree_model.specs.Folds.{Trace}
 use Rattle.tree_model.specs.Histories.{history, stamped_content}
@@ -53,6 +57,7 @@ use Rattle.tree_laws.specs.Past.{WasReleased}
 use Rattle.tree_laws.specs.Printed.{entries}
 use Rattle.tree_laws.proofs.Awaiting.{by_owner}
 use Rattle.tree_laws.proofs.Owing.{InGroup, found_every, in_group}
+use Rattle.tree_laws.proofs.OwnWalks.{walks_own}
 use Rattle.tree_laws.proofs.Rows.{followed_rows}
 use Rattle.tree_laws.proofs.Scripts.{script_stays}
 use Rattle.order_laws.specs.Joining.{PacksAreOfSites}
@@ -65,10 +70,12 @@ use Rattle.rest_laws.specs.of_holding_laws.MendWorking.{MendsNow}
 use Rattle.rest_laws.proofs.of_one_tree_laws.RemovePlaced.{Placed, Taken, taken_so}
 use Rattle.rest_laws.proofs.of_store_laws.AnswerAnswering.{acter_in}
 use Rattle.rest_laws.proofs.of_store_laws.Places.{open_is}
+use Rattle.rest_laws.proofs.of_store_laws.ScriptFitted.{Began, began}
 use Rattle.fit_laws.specs.EntryEntries.{MakesMessage}
-use Rattle.fit_laws.proofs.EntryActing.{acter_is, changed_plain, written_plain}
-use Rattle.fit_laws.proofs.EntryFacts.{IsPlain, makes_stay, plain_stays}
+use Rattle.fit_laws.proofs.EntryActing.{acter_is, asks_now, changed_plain, written_plain}
+use Rattle.fit_laws.proofs.EntryFacts.{IsKnown, IsPlain, makes_stay, plain_stays}
 use Rattle.fit_laws.proofs.EntryNamed.{trace_named}
+use Rattle.fit_laws.proofs.EntryWalking.{AsksBy}
 use Rattle.box_laws.specs.Boxes.{deeds, done_after, handles, is_among, is_handled, is_mail, makings, named_in, names_inserted, names_removed}
 use Rattle.box_laws.proofs.Boxing.{box_same}
 use Rattle.box_laws.proofs.Granting.{Mender}
@@ -127,7 +134,7 @@ module _ (c : Config) (packs : PacksAreOfSites c) (n : ℕ) (older : List Line) 
   live : WasReleased now e i → ⊥
   live q = released_shut c now (may, h) e i new q found_now
 
-  acter : ((d ≡ y.grant.call) × (begun before d ≡ Some (begins.Walks d))) ⊎ ((begun before d ≡ Some (begins.Uses e i)) × IsPlain c older f)
+  acter : ((d ≡ y.grant.call) × (begun before d ≡ Some (begins.Walks d))) ⊎ (((begun before d ≡ Some (begins.Uses e i)) × IsPlain c older f) ⊎ (is_read y.grant.mode ≡ true))
   acter = acter_is c older h (trace_named c packs older h).calls e i y was k d o may.in_time.owner may.in_time.asks
 
   file_now : IsPlain c older f → AtNow
@@ -212,17 +219,26 @@ module _ (c : Config) (packs : PacksAreOfSites c) (n : ℕ) (older : List Line) 
                   (box_later c n (Shown r) older h may tt once f.group (is_among (flat_map (named_in names_inserted (makings c before) f) kept)) (is_among (flat_map (named_in names_removed (makings c before) f) kept)) (entries_of (joined_content past (tree_of c e f.group before) f)) b)))
 
   -- whatever the instance is, where it is an ordinary one by what its operation does
-  module _ (commits : CommitsAreNew c before) (ordinary : IsOrdinary y.grant.mode → HasBox c older e i y → begun before d ≡ Some (begins.Walks d) → AtNow) where
+  module _ (commits : CommitsAreNew c before) (ordinary : IsOrdinary y.grant.mode → HasBox c older e i y → AtNow) where
+    -- what is only read isn't mended
+    unmended : is_read y.grant.mode ≡ true → y.grant.mode ≡ mode.Mend → ⊥
+    unmended reads m = false_true (sym (ap is_read m) ∙ reads)
+
     pub acted_by : AtNow
     acted_by = over acter (so.instances e i y was)
       where
-        over : ((d ≡ y.grant.call) × (begun before d ≡ Some (begins.Walks d))) ⊎ ((begun before d ≡ Some (begins.Uses e i)) × IsPlain c older f) → AtWork c older e i y → AtNow
-        over (inr a) w = file_now a.1
+        over : ((d ≡ y.grant.call) × (begun before d ≡ Some (begins.Walks d))) ⊎ (((begun before d ≡ Some (begins.Uses e i)) × IsPlain c older f) ⊎ (is_read y.grant.mode ≡ true)) → AtWork c older e i y → AtNow
+        over (inr (inl a)) w = file_now a.1
+        over (inr (inr reads)) (OfFile p) = file_now p
+        over (inr (inr reads)) (OfMessage m) = message_now m
+        over (inr (inr reads)) (Idle id) = absurd (unmended reads id.mode_is)
+        over (inr (inr reads)) (Mended m b) = absurd (unmended reads m.mode_is)
+        over (inr (inr reads)) (Ordinary m b) = ordinary m b
         over (inl a) (OfFile p) = file_now p
         over (inl a) (OfMessage m) = message_now m
         over (inl a) (Idle id) = idle_now id.mode_is a.0 a.1 id
         over (inl a) (Mended m b) = absurd (mended_none m.mode_is a.0 a.1 m)
-        over (inl a) (Ordinary m b) = ordinary m b a.1
+        over (inl a) (Ordinary m b) = ordinary m b
 
 -- ---- ordinary operations ----
 
@@ -252,6 +268,23 @@ module _ (c : Config) (packs : PacksAreOfSites c) (n : ℕ) (older : List Line) 
   handles_it : (o : Op) (may : TellsAct c older e i k result o) → Handled o → is_refusal result ≡ false → handles (words_named earlier (Some may.in_time.call)) o ≡ true
   handles_it o may handled q = subst (λ (z : Option CallId). handles (words_named earlier z) o ≡ true) may.in_time.owner (or_other (is_refusal result) (handles (words_named earlier (call_of_act earlier e i k)) o) q handled)
 
+  -- who inserts walks
+  inserter_walks : (d : CallId) (w : Waiting) → call_named earlier d ≡ Some w → (j : Serial) (name : List ℕ) (ino : ℕ) (kd : Kind) → script c earlier d None (log older d) ≡ want.Do j (op.Insert name ino kd) → begun earlier d ≡ Some (begins.Walks d)
+  inserter_walks d w named j name ino kd asked = started.begun_is ∙ ap Some (over begin refl (asks_now c older h (trace_named c packs older h).calls d w begin named started.begun_is (want.Do j (op.Insert name ino kd)) asked))
+    where
+      started : Began older d w
+      started = began older d w named
+
+      begin : Beginning
+      begin = beginning started.table w.epoch d w.words
+
+      over : (b : Beginning) → begin ≡ b → AsksBy (IsKnown c older) w.words b (want.Do j (op.Insert name ino kd)) → b ≡ begins.Walks d
+      over (begins.Walks x) q z = ap begins.Walks (walks_own started.table w.epoch d w.words x q)
+      over (begins.Uses at n) q z = absurd z
+      over (begins.Denied why) q z = absurd z
+      over (begins.Reopens version last) q z = absurd z
+      over begins.Frees q z = absurd z
+
   -- the file of a name that is taken out was seen whole
   saw_target : (name : List ℕ) (ino : ℕ) (may : TellsAct c older e i k result (op.Remove name ino)) (once : Once (op.Remove name ino)) (x : Instance) (s : Stamp) → find (is_target y.grant.call ino) tree.instances ≡ Some x → x.work.last ≡ Some s →
       Put c (With n (Shown (says.Act e i k (op.Remove name ino) result)) older) file.group name ino → Saw c (With n (Shown (says.Act e i k (op.Remove name ino) result)) older) file.group ino (vector_of gone_by x.grant.file s)
@@ -269,15 +302,18 @@ module _ (c : Config) (packs : PacksAreOfSites c) (n : ℕ) (older : List Line) 
       stands = (last_stands c older h e x.grant.inst x open_too (Some s) last).0
 
   module _ (m : IsOrdinary y.grant.mode) (b : HasBox c older e i y) where
-    inserted_now : (name : List ℕ) (ino : ℕ) (kd : Kind) (may : TellsAct c older e i k result (op.Insert name ino kd)) → Handled (op.Insert name ino kd) → begun earlier may.in_time.call ≡ Some (begins.Walks may.in_time.call) → is_refusal result ≡ false → is_message name ≡ true →
+    inserted_now : (name : List ℕ) (ino : ℕ) (kd : Kind) (may : TellsAct c older e i k result (op.Insert name ino kd)) → Handled (op.Insert name ino kd) → is_refusal result ≡ false → is_message name ≡ true →
         Put c (With n (Shown (says.Act e i k (op.Insert name ino kd) result)) older) file.group name ino × (level (entries_of y.work.content) name ≡ 0)
-    inserted_now name ino kd may handled walks q message = (
+    inserted_now name ino kd may handled q message = (
       put_now c n older h e i k name ino kd result may inside.accepted mail.0 mail.1 inside.named mail.2 walks message q file.group (sym (seat c older h e i y was).group_is),
       none_level (Put c older file.group) (Saw c older file.group) name message (λ a p. put_new c older low may.in_time.call inside.accepted mail.0 mail.1 inside.named mail.2 walks i name ino kd may.in_time.asks file.group a p) (entries_of y.work.content) b.each,
     )
       where
         inside : IsCallIn earlier e may.in_time.call
         inside = acter_in c older e i k (op.Insert name ino kd) result may
+
+        walks : begun earlier may.in_time.call ≡ Some (begins.Walks may.in_time.call)
+        walks = inserter_walks (may.in_time.call) inside.accepted inside.named i name ino kd may.in_time.asks.asked
 
         mail : (path : List ℕ) × (bytes : List ℕ) × (inside.accepted.words ≡ call.Mail path bytes)
         mail = mails inside.accepted.words (subst (λ (z : Option Waiting). is_mail (option_map (λ (w : Waiting). w.words) z) ≡ true) inside.named
@@ -315,30 +351,30 @@ module _ (c : Config) (packs : PacksAreOfSites c) (n : ℕ) (older : List Line) 
         over true q = same_now c packs n older h so low e i k op.Commit result may once handled y was m b (deeds earlier e i) (deeds_refused c packs n older h so low e i k op.Commit result may once handled y was q) refl refl refl
         over false q = same_now c packs n older h so low e i k op.Commit result may once handled y was m b (op.Commit ∷ deeds earlier e i) (deeds_done c packs n older h so low e i k op.Commit result may once handled y was q) refl refl refl
 
-    ordinary_acts : (o : Op) (may : TellsAct c older e i k result o) (once : Once o) (handled : Handled o) → begun earlier may.in_time.call ≡ Some (begins.Walks may.in_time.call) → After o
-    ordinary_acts (op.Probe name) may once handled walks = as_now c packs n older h so low e i k (op.Probe name) result may once handled y was refl refl refl tt m b (λ q. tt)
-    ordinary_acts (op.Find component) may once handled walks = as_now c packs n older h so low e i k (op.Find component) result may once handled y was refl refl refl tt m b (λ q. tt)
-    ordinary_acts (op.Insert name ino kd) may once handled walks = as_now c packs n older h so low e i k (op.Insert name ino kd) result may once handled y was refl refl refl tt m b (λ q g. inserted_now name ino kd may handled walks q g)
-    ordinary_acts (op.Remove name ino) may once handled walks = removed_now c packs n older h so low e i k (op.Remove name ino) result may once handled y was refl refl name ino (find (is_target y.grant.call ino) tree.instances) refl refl m b (λ x s found last g p. saw_target name ino may once x s found last p)
-    ordinary_acts (op.Rename component name) may once handled walks = as_now c packs n older h so low e i k (op.Rename component name) result may once handled y was refl refl refl tt m b (λ q. (
+    ordinary_acts : (o : Op) (may : TellsAct c older e i k result o) (once : Once o) (handled : Handled o) → After o
+    ordinary_acts (op.Probe name) may once handled = as_now c packs n older h so low e i k (op.Probe name) result may once handled y was refl refl refl tt m b (λ q. tt)
+    ordinary_acts (op.Find component) may once handled = as_now c packs n older h so low e i k (op.Find component) result may once handled y was refl refl refl tt m b (λ q. tt)
+    ordinary_acts (op.Insert name ino kd) may once handled = as_now c packs n older h so low e i k (op.Insert name ino kd) result may once handled y was refl refl refl tt m b (λ q g. inserted_now name ino kd may handled q g)
+    ordinary_acts (op.Remove name ino) may once handled = removed_now c packs n older h so low e i k (op.Remove name ino) result may once handled y was refl refl name ino (find (is_target y.grant.call ino) tree.instances) refl refl m b (λ x s found last g p. saw_target name ino may once x s found last p)
+    ordinary_acts (op.Rename component name) may once handled = as_now c packs n older h so low e i k (op.Rename component name) result may once handled y was refl refl refl tt m b (λ q. (
       not_true (is_message name) (and_first (not (is_message name)) (not (is_message (plain_name component))) (handles_it (op.Rename component name) may handled q)),
       not_true (is_message (plain_name component)) (and_second (not (is_message name)) (not (is_message (plain_name component))) (handles_it (op.Rename component name) may handled q)),
     ))
-    ordinary_acts op.Empty may once handled walks = as_now c packs n older h so low e i k op.Empty result may once handled y was refl refl refl tt m b (λ q. tt)
-    ordinary_acts (op.Read at len) may once handled walks = as_now c packs n older h so low e i k (op.Read at len) result may once handled y was refl refl refl tt m b (λ q. tt)
-    ordinary_acts (op.Write at bytes) may once handled walks = over (written_plain c older h (trace_named c packs older h).calls e i k (op.Write at bytes) result may y was at bytes refl)
+    ordinary_acts op.Empty may once handled = as_now c packs n older h so low e i k op.Empty result may once handled y was refl refl refl tt m b (λ q. tt)
+    ordinary_acts (op.Read at len) may once handled = as_now c packs n older h so low e i k (op.Read at len) result may once handled y was refl refl refl tt m b (λ q. tt)
+    ordinary_acts (op.Write at bytes) may once handled = over (written_plain c older h (trace_named c packs older h).calls e i k (op.Write at bytes) result may y was at bytes refl)
       where
         over : IsPlain c older file ⊎ MakesMessage older y.grant → After (op.Write at bytes)
         over (inl p) = OfFile (plain_stays c n (Shown (says.Act e i k (op.Write at bytes) result)) older h may file p)
         over (inr p) = OfMessage (makes_stay c n (Shown (says.Act e i k (op.Write at bytes) result)) older h may y.grant p)
-    ordinary_acts (op.Cut len) may once handled walks = OfFile (plain_stays c n (Shown (says.Act e i k (op.Cut len) result)) older h may file (changed_plain c older h (trace_named c packs older h).calls e i k (op.Cut len) result may y was (λ words z. z)))
-    ordinary_acts op.Mend may once handled walks = absurd (no_mend y.grant.mode m (open_is c older h e may.in_time.call now.request i mode.Mend now.file now.stamp now.place y now.was was).0)
+    ordinary_acts (op.Cut len) may once handled = OfFile (plain_stays c n (Shown (says.Act e i k (op.Cut len) result)) older h may file (changed_plain c older h (trace_named c packs older h).calls e i k (op.Cut len) result may y was refl (λ words z. z)))
+    ordinary_acts op.Mend may once handled = absurd (no_mend y.grant.mode m (open_is c older h e may.in_time.call now.request i mode.Mend now.file now.stamp now.place y now.was was).0)
       where
         now : MendsNow c older e may.in_time.call i
         now = mends_now c older e may.in_time.call i packs h commits (acter_in c older e i k op.Mend result may) may.in_time.asks
-    ordinary_acts op.Commit may once handled walks = commit_now may once handled
-    ordinary_acts op.Abort may once handled walks = abort_now may once handled
+    ordinary_acts op.Commit may once handled = commit_now may once handled
+    ordinary_acts op.Abort may once handled = abort_now may once handled
 
   -- what is done on an open instance leaves it so
   pub acted_work : (o : Op) (may : TellsAct c older e i k result o) (once : Once o) (handled : Handled o) → After o
-  acted_work o may once handled = acted_by c packs n older h so low e i k o result may once handled y was commits (λ m b walks. ordinary_acts m b o may once handled walks)
+  acted_work o may once handled = acted_by c packs n older h so low e i k o result may once handled y was commits (λ m b. ordinary_acts m b o may once handled)

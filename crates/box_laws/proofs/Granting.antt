@@ -123,6 +123,11 @@ opens_known : (Known : FileId → Kind → Type 0) (path : List ℕ) (m : OpenMo
 opens_known Known path m f (begins.Walks id) (want.Open g (how.Resolve site)) e k = subst (λ (x : FileId). Known x kind.File) (same_file_eq g f e) k
 opens_known Known path m f (begins.Uses at i) (want.Open g (how.Resolve site)) e k = absurd k
 opens_known Known path m f (begins.Denied why) (want.Open g (how.Resolve site)) e k = absurd k
+opens_known Known path m f (begins.Reopens version last) (want.Open g (how.Resolve site)) e k = absurd (reads_only k)
+  where
+    reads_only : how.Resolve site ≡ how.Read → ⊥
+    reads_only q = cc
+opens_known Known path m f begins.Frees (want.Open g (how.Resolve site)) e k = absurd k
 opens_known Known path m f b _ e k = absurd (true_false (sym e))
 
 -- the call as a tree has it

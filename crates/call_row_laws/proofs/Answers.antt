@@ -17,21 +17,31 @@ use Rattle.call_rules.specs.declared.answer.Answer.{Answer}
 use Rattle.call_rules.specs.declared.answer.Answer.TheVariants as answer
 use Rattle.role_steps.specs.Own.{Every}
 use Rattle.role_steps.specs.Views.{Frame}
-use Rattle.role_steps.specs.Using.{last_opened, own_serial, opened_answer, op_answer, close_answer, content_answer, with_brought, asks_open_of}
+use Rattle.role_steps.specs.Using.{last_opened, own_serial, asked_answer, opened_answer, op_answer, close_answer, content_answer, with_brought, asks_open_of, asks_op_number}
 use Rattle.role_steps.specs.Using as using
+use Rattle.wire_messages.specs.declared.body.Opening.TheVariants as how
 use Rattle.role_steps.specs.declared.users.Asking.{Asking}
 use Rattle.role_steps.specs.declared.users.Asking.TheVariants as asking
 use Rattle.role_steps.specs.declared.users.WaitingCall.{WaitingCall}
-use Rattle.call_row_laws.specs.Scripts.{OwnAnswer, BeginsOwn, IsOpened, EndsOpened}
-use Rattle.call_row_laws.specs.Serials.{AsksUnder, Opens, OpenedBy, Frees}
+use Rattle.call_row_laws.specs.Scripts.{OwnAnswer, BeginsOwn, IsOpened, EndsOpened, HasRead, HoldsOpened}
+use Rattle.call_row_laws.specs.Serials.{AsksUnder, Opens, OpenedBy, Frees, AsksOperation}
 use Rattle.call_row_laws.specs.Waiting.{SameCall}
 
 -- ---- the last answer ----
 
-pub last_more : (i n : Serial) (ino : ℕ) (xs : List Answer) → last_opened n (xs ++ answer.Opened i ino ∷ []) ≡ i
-last_more i n ino [] = refl
-last_more i n ino (answer.Opened j k ∷ xs) = last_more i j ino xs
-last_more i n ino (_ ∷ xs) = last_more i n ino xs
+-- the last answer opens this instance
+abbrev pub OpensLast : Answer → Serial → Type 0
+OpensLast (answer.Opened i ino) j = i ≡ j
+OpensLast (answer.Reading i version) j = i ≡ j
+OpensLast _ j = ⊥
+
+pub last_more : (i n : Serial) (a : Answer) (xs : List Answer) → OpensLast a i → last_opened n (xs ++ a ∷ []) ≡ i
+last_more i n (answer.Opened j ino) [] h = h
+last_more i n (answer.Reading j version) [] h = h
+last_more i n _ [] h = absurd h
+last_more i n a (answer.Opened j k ∷ xs) h = last_more i j a xs h
+last_more i n a (answer.Reading j version ∷ xs) h = last_more i j a xs h
+last_more i n a (_ ∷ xs) h = last_more i n a xs h
 
 pub ends_last : (xs : List Answer) (a : Answer) → EndsOpened (xs ++ a ∷ []) → IsOpened a
 ends_last [] a h = h
@@ -41,9 +51,44 @@ ends_last (x ∷ y ∷ ys) a h = ends_last (y ∷ ys) a h
 pub ends_own : (n : Serial) (xs : List Answer) → EndsOpened xs → OpenedBy (last_opened n xs).serial xs
 ends_own n [] h = absurd h
 ends_own n (answer.Opened i ino ∷ []) h = inl refl
+ends_own n (answer.Reading i version ∷ []) h = inl refl
 ends_own n (_ ∷ []) h = absurd h
 ends_own n (answer.Opened i ino ∷ b ∷ rest) h = inr (ends_own i (b ∷ rest) h)
+ends_own n (answer.Reading i version ∷ b ∷ rest) h = inr (ends_own i (b ∷ rest) h)
 ends_own n (_ ∷ b ∷ rest) h = inr (ends_own n (b ∷ rest) h)
+
+pub holds_own : (n : Serial) (xs : List Answer) → HoldsOpened xs → OpenedBy (last_opened n xs).serial xs
+holds_own n xs (inl h) = ends_own n xs h
+holds_own n xs (inr h) = read_own xs h
+  where
+    read_own : (xs : List Answer) → HasRead xs → OpenedBy (last_opened n xs).serial xs
+    read_own [] h = absurd h
+    read_own (a ∷ []) h = absurd h
+    read_own (answer.Opened i ino ∷ answer.Did r ∷ []) h = inl refl
+    read_own (answer.Reading i version ∷ answer.Did r ∷ []) h = inl refl
+    read_own (_ ∷ answer.Did r ∷ []) h = absurd h
+    read_own (a ∷ answer.Did r ∷ b ∷ rest) h = absurd h
+    read_own (a ∷ _ ∷ rest) h = absurd h
+
+abbrev pub IsDid : Answer → Type 0
+IsDid (answer.Did r) = Unit {0}
+IsDid _ = ⊥
+
+-- it was opened just before its one operation
+pub read_last : (xs : List Answer) (a : Answer) → HasRead (xs ++ a ∷ []) → IsDid a × EndsOpened xs
+read_last [] a h = absurd h
+read_last (x ∷ []) (answer.Did r) h = (tt, h)
+read_last (x ∷ []) _ h = absurd h
+read_last (x ∷ answer.Did r ∷ []) a h = absurd h
+read_last (x ∷ answer.Did r ∷ z ∷ zs) a h = absurd h
+read_last (x ∷ _ ∷ ys) a h = absurd h
+
+pub did_last : (n : Serial) (xs : List Answer) (a : Answer) → IsDid a → last_opened n (xs ++ a ∷ []) ≡ last_opened n xs
+did_last n [] (answer.Did r) h = refl
+did_last n [] _ h = absurd h
+did_last n (answer.Opened j k ∷ xs) a h = did_last j xs a h
+did_last n (answer.Reading j version ∷ xs) a h = did_last j xs a h
+did_last n (_ ∷ xs) a h = did_last n xs a h
 
 pub opened_more : (s : ℕ) (xs : List Answer) (a : Answer) → OpenedBy s (xs ++ a ∷ []) → OpenedBy s xs ⊎ Opens s a
 opened_more s [] a (inl h) = inr h
@@ -59,6 +104,7 @@ opened_more s (x ∷ xs) a (inr h) = shift (opened_more s xs a h)
 
 own_answer : (Q : ℕ → Type 0) (a : Answer) → ((s : ℕ) → Opens s a → Q s) → OwnAnswer (λ (i : Serial). Q i.serial) a
 own_answer Q (answer.Opened i ino) f = f i.serial refl
+own_answer Q (answer.Reading i version) f = f i.serial refl
 own_answer Q (answer.Merging i kept) f = f i.serial refl
 own_answer Q _ f = tt
 
@@ -70,43 +116,77 @@ pub begins_own : (Q : ℕ → Type 0) (words : Call) (b : Beginning) → ((s : �
 begins_own Q (call.Close fd) (begins.Uses e i) f = f i.serial refl
 begins_own Q (call.Close fd) (begins.Denied why) f = tt
 begins_own Q (call.Close fd) (begins.Walks id) f = tt
+begins_own Q (call.Close fd) (begins.Reopens version last) f = tt
+begins_own Q (call.Close fd) begins.Frees f = tt
 begins_own Q _ b f = tt
 
 -- ---- what each answer opens ----
 
-pub opens_it : (f : Frame) (serial ino s : ℕ) (kept : List Stamp) (words : Call) → Opens s (opened_answer f serial ino kept words) → serial ≡ s
-opens_it f serial ino s kept (call.Mend file) h = h
-opens_it f serial ino s kept _ h = h
+asked_opens : (f : Frame) (serial ino s : ℕ) (stamp : Stamp) (a : Asking) → Opens s (asked_answer f serial ino stamp a) → serial ≡ s
+asked_opens f serial ino s stamp (asking.Open n file how.Read) h = h
+asked_opens f serial ino s stamp _ h = h
 
-pub opened_is : (f : Frame) (serial ino : ℕ) (kept : List Stamp) (words : Call) → IsOpened (opened_answer f serial ino kept words) → opened_answer f serial ino kept words ≡ answer.Opened (own_serial f serial) ino
-opened_is f serial ino kept (call.Mend file) h = absurd h
-opened_is f serial ino kept _ h = refl
+asked_last : (f : Frame) (serial ino : ℕ) (stamp : Stamp) (a : Asking) → OpensLast (asked_answer f serial ino stamp a) (own_serial f serial)
+asked_last f serial ino stamp (asking.Open n file how.Read) = refl
+asked_last f serial ino stamp _ = refl
+
+pub opens_it : (f : Frame) (serial ino s : ℕ) (stamp : Stamp) (kept : List Stamp) (words : Call) (a : Asking) → Opens s (opened_answer f serial ino stamp kept words a) → serial ≡ s
+opens_it f serial ino s stamp kept (call.Mend file) a h = h
+opens_it f serial ino s stamp kept _ a h = asked_opens f serial ino s stamp a h
+
+pub opened_is : (f : Frame) (serial ino : ℕ) (stamp : Stamp) (kept : List Stamp) (words : Call) (a : Asking) → IsOpened (opened_answer f serial ino stamp kept words a) → OpensLast (opened_answer f serial ino stamp kept words a) (own_serial f serial)
+opened_is f serial ino stamp kept (call.Mend file) a h = absurd h
+opened_is f serial ino stamp kept _ a h = asked_last f serial ino stamp a
 
 -- the answer opens nothing
 abbrev pub OpensNone : Answer → Type 0
 OpensNone (answer.Opened inst ino) = ⊥
+OpensNone (answer.Reading inst version) = ⊥
 OpensNone (answer.Merging inst kept) = ⊥
 OpensNone _ = Unit {0}
 
 pub none_opens : (s : ℕ) (a : Answer) → OpensNone a → Opens s a → ⊥
 none_opens s (answer.Opened i ino) n h = n
+none_opens s (answer.Reading i version) n h = n
 none_opens s (answer.Merging i kept) n h = n
 none_opens s _ n h = h
 
 pub none_opened : (a : Answer) → OpensNone a → IsOpened a → ⊥
 none_opened (answer.Opened i ino) n h = n
+none_opened (answer.Reading i version) n h = n
 none_opened _ n h = h
+
+-- it is of no operation, too
+abbrev pub IsPlain : Answer → Type 0
+IsPlain (answer.Did r) = ⊥
+IsPlain a = OpensNone a
+
+pub plain_none : (a : Answer) → IsPlain a → OpensNone a
+plain_none (answer.Did r) h = tt
+plain_none _ h = h
+
+pub plain_did : (a : Answer) → IsPlain a → IsDid a → ⊥
+plain_did (answer.Did r) h d = h
+plain_did _ h d = d
+
+opened_did : (f : Frame) (serial ino : ℕ) (stamp : Stamp) (a : Asking) → IsDid (asked_answer f serial ino stamp a) → ⊥
+opened_did f serial ino stamp (asking.Open n file how.Read) d = d
+opened_did f serial ino stamp _ d = d
+
+pub open_did : (f : Frame) (serial ino : ℕ) (stamp : Stamp) (kept : List Stamp) (words : Call) (a : Asking) → IsDid (opened_answer f serial ino stamp kept words a) → ⊥
+open_did f serial ino stamp kept (call.Mend file) a d = d
+open_did f serial ino stamp kept _ a d = opened_did f serial ino stamp a d
 
 pub op_none : (r : Result) → OpensNone (op_answer r)
 op_none (result.No why) = tt
 op_none _ = tt
 
-pub close_none : (a : CloseAnswer) → OpensNone (close_answer a)
+pub close_none : (a : CloseAnswer) → IsPlain (close_answer a)
 close_none closing.Nothing = tt
 close_none (closing.Made stamp) = tt
 close_none (closing.No why) = tt
 
-pub content_none : (a : Asking) (bytes : List ℕ) → OpensNone (content_answer a bytes)
+pub content_none : (a : Asking) (bytes : List ℕ) → IsPlain (content_answer a bytes)
 content_none (asking.Look file what.List take) bytes = tt
 content_none (asking.Look file what.Stat take) bytes = tt
 content_none (asking.Look file (what.Name component) take) bytes = tt
@@ -154,3 +234,20 @@ close_test serial w (asking.Open s file how) h = absurd (false_true h)
 
 pub close_under : (serial : ℕ) (w : WaitingCall) → using.asks_close_of serial w ≡ true → AsksUnder serial w.asking
 close_under serial w h = close_test serial w w.asking h
+
+under_plain : (s : ℕ) (a : Asking) → AsksUnder s a → AsksOperation a → ⊥
+under_plain s (asking.Op serial ss n o seen) h p = h
+under_plain s _ h p = p
+
+-- a close is no operation
+pub close_plain : (serial : ℕ) (w : WaitingCall) → using.asks_close_of serial w ≡ true → AsksOperation w.asking → ⊥
+close_plain serial w h p = under_plain serial w.asking (close_under serial w h) p
+
+op_test : (serial n : ℕ) (r : Result) (w : WaitingCall) (a : Asking) → asks_op_number serial n r (record w { asking = a }) ≡ true → AsksOperation a
+op_test serial n r w (asking.Op s ss m o seen) h = tt
+op_test serial n r w (asking.Look file x take) h = false_true h
+op_test serial n r w (asking.Open s file how) h = false_true h
+op_test serial n r w (asking.Close s ss) h = false_true h
+
+pub op_asked : (serial n : ℕ) (r : Result) (w : WaitingCall) → asks_op_number serial n r w ≡ true → AsksOperation w.asking
+op_asked serial n r w h = op_test serial n r w w.asking h

@@ -10,7 +10,7 @@ use Rattle.trace_book.specs.declared.descriptor.Beginning.{Beginning}
 use Rattle.trace_book.specs.declared.descriptor.Beginning.TheVariants as begins
 use Rattle.trace_book.specs.declared.descriptor.Descriptor.{Descriptor}
 use Rattle.trace_book.specs.declared.record.Record.TheVariants as says
-use Rattle.call_rules.specs.Descriptors.{lowest_free, is_in, begins_on, beginning}
+use Rattle.call_rules.specs.Descriptors.{lowest_free, is_in, begins_close, beginning}
 use Rattle.call_rules.specs.declared.want.Want.{Want}
 use Rattle.call_rules.specs.declared.want.Want.TheVariants as want
 use Rattle.role_steps.specs.Own.{Every}
@@ -23,12 +23,12 @@ use Rattle.role_steps.specs.declared.users.DescriptorRow.{DescriptorRow}
 use Rattle.tree_model.specs.Folds.{Trace}
 use Rattle.the_run.specs.Kept.{Among}
 use Rattle.row_laws.specs.Shown.{with_told}
-use Rattle.call_row_laws.specs.Scripts.{BeginsWith, Starts, OnDescriptor}
+use Rattle.call_row_laws.specs.Scripts.{BeginsWith, HoldsOpened, Starts, OnDescriptor}
 use Rattle.call_row_laws.specs.Serials.{BeginsOn, Frees, Own, Holds, serial_of, IsOpenIn, HasInstance, Owned}
 use Rattle.call_row_laws.specs.Waiting.{after, AllAccepted, OfSite, KeyedAs, Waits, Goes}
 use Rattle.call_row_laws.specs.Standing.{UsersDo}
 use Rattle.call_row_laws.proofs.Rising.{row_found, row_there}
-use Rattle.call_row_laws.proofs.Starts.{wants_starts, begins_on_there, begins_there}
+use Rattle.call_row_laws.proofs.Starts.{wants_starts, begins_close_there, begins_there}
 use Rattle.call_row_laws.proofs.Going.{Idle, accept_goes, accept_row, leave_waits}
 use Rattle.call_row_laws.proofs.Owning.{counts_owned, leave_owned, freed_old, freed_owned}
 use Rattle.call_row_laws.proofs.UserSteps.{Lost, Ready, goes_do}
@@ -63,11 +63,13 @@ begins_serial : (s : ℕ) (b : Beginning) → BeginsOn s b → (i : Serial) × (
 begins_serial s (begins.Uses e i) h = (i, ((e, refl), h))
 begins_serial s (begins.Denied why) h = absurd h
 begins_serial s (begins.Walks id) h = absurd h
+begins_serial s (begins.Reopens version last) h = absurd h
+begins_serial s begins.Frees h = absurd h
 
-freed_row : (now : Option EpochId) (u : Users) (process fd s : ℕ) → Frees s (call.Close fd) (begins_on false now (descriptors_of u process fd)) → OnRow now u process fd s
+freed_row : (now : Option EpochId) (u : Users) (process fd s : ℕ) → Frees s (call.Close fd) (begins_close now (descriptors_of u process fd)) → OnRow now u process fd s
 freed_row now u process fd s h =
-    let k : (i : Serial) × (BeginsWith (begins_on false now (descriptors_of u process fd)) i × (i.serial ≡ s)) = begins_serial s (begins_on false now (descriptors_of u process fd)) h in
-    subst (OnRow now u process fd) k.1.1 (row_of now u process fd k.0 (begins_on_there false now (descriptors_of u process fd) k.0 k.1.0))
+    let k : (i : Serial) × (BeginsWith (begins_close now (descriptors_of u process fd)) i × (i.serial ≡ s)) = begins_serial s (begins_close now (descriptors_of u process fd)) h in
+    subst (OnRow now u process fd) k.1.1 (row_of now u process fd k.0 (begins_close_there now (descriptors_of u process fd) k.0 k.1.0))
 
 -- ---- a new call is asked something, or it is given its reply ----
 
@@ -90,13 +92,17 @@ begun_has K now u process id words i o h none =
 
 -- ---- a call is accepted ----
 
+unopened : {A : Type 0} → HoldsOpened [] → A
+unopened (inl e) = absurd e
+unopened (inr e) = absurd e
+
 -- a call that closes no descriptor holds nothing yet
 other_ready : (K : EpochId → Type 0) (f : Frame) (now : Option EpochId) (t : Trace) (u : Users) (process n : ℕ) (words : Call) → ((s : ℕ) → Frees s words (beginning (descriptors_of u process) now (own_call f.me f.boot n) words) → ⊥) → Owned K now u → Ready K f now t (record u { calls = n }) (accepted process n words (beginning (descriptors_of u process) now (own_call f.me f.boot n) words))
 other_ready K f now t u process n words none o = record {
   low = λ s k. absurd (held s k);
   calls = λ x s a k l. absurd (held s l);
   rows = λ d a p k. held (serial_of d) k;
-  opened = λ e. absurd e;
+  opened = λ e. unopened e;
   stays = λ l. absurd (lost_none b (record u { calls = n }) (next_want f w (record u { calls = n })) (wants_starts f.config.mounts (is_packed f) (lowest_free (descriptors_of u process)) (descriptors_of u process) now (own_call f.me f.boot n) words) (λ i h. begun_has K now u process (own_call f.me f.boot n) words i o h) l);
 }
   where
@@ -116,7 +122,7 @@ close_ready K f now t u process n fd o = record {
   low = λ s k. (let r : OnRow now u process fd s = held s k in let l : serial_of r.row ≤ u.serials = o.low r.row r.there in subst (λ (x : ℕ). x ≤ u.serials) r.serial l);
   calls = λ x s a k l. (let r : OnRow now u process fd s = held s l in absurd (o.no_call r.row x r.there r.open_now a (subst (λ (y : ℕ). Holds y x) (sym r.serial) k)));
   rows = λ d a p k. (let r : OnRow now u process fd (serial_of d) = held (serial_of d) k in let old : Among d u.descriptors × (descriptor_key d ≡ fd_key process fd → ⊥) = freed_old K now process fd u o d a in old.1 (o.one_descriptor d r.row old.0 r.there p r.open_now (sym r.serial) ∙ r.key));
-  opened = λ e. absurd e;
+  opened = λ e. unopened e;
   stays = λ l. absurd (lost_none b v (next_want f w v) (wants_starts f.config.mounts (is_packed f) (lowest_free (descriptors_of v process)) (descriptors_of u process) now (own_call f.me f.boot n) (call.Close fd)) (λ i h. begun_has K now u process (own_call f.me f.boot n) (call.Close fd) i o h) l);
 }
   where

@@ -179,6 +179,7 @@ fresh_stands s m x now none = record {
     no_call = λ d w a. absurd a;
     one_descriptor = λ d e a. absurd a;
     there = λ d a. absurd a;
+    asked_there = λ w a. absurd a;
     epochs = λ d a. absurd a;
   };
   tables = tt;
@@ -310,6 +311,7 @@ first_stands c s = record {
     no_call = λ d w a. absurd a;
     one_descriptor = λ d e a. absurd a;
     there = λ d a. absurd a;
+    asked_there = λ w a. absurd a;
     epochs = λ d a. absurd a;
   };
   tables = tt;

@@ -81,7 +81,7 @@ inside_done c s m t from (body.OpenDone serial answer) v e here h = inside_users
 inside_done c s m t from (body.Op serial n o seen) v e here h =
     store_done s m t (on_op (frame_in c s v.boot e) (mending v (group_of (instance_of v.store (from_user from serial)))) (from_user from serial) n o seen) v
     (on_op_serves (frame_in c s v.boot e) (mending v (group_of (instance_of v.store (from_user from serial)))) (from_user from serial) n o seen v.store) h
-inside_done c s m t from (body.OpDone serial n result) v e here h = inside_users s m t (on_op_done (frame_in c s v.boot e) serial n result) v e here (λ k o. on_op_done_do (WasIn s t) (frame_in c s v.boot e) (Some e.id) m t serial n result v.users h.waits o) h
+inside_done c s m t from (body.OpDone serial n result) v e here h = inside_users s m t (on_op_done (frame_in c s v.boot e) serial n result) v e here (λ k o. on_op_done_do (WasIn s t) (frame_in c s v.boot e) (Some e.id) m t serial n result v.users k h.waits o) h
 inside_done c s m t from (body.Close serial) v e here h = store_done s m t (on_close (frame_in c s v.boot e) (from_user from serial)) v (on_close_serves (frame_in c s v.boot e) (from_user from serial) v.store) h
 inside_done c s m t from (body.Closed inst made) v e here h = with_done s m t (on_closed (frame_in c s v.boot e) from inst made) (is_opened_in inst) v (on_closed_inward (frame_in c s v.boot e) from inst made) h
 inside_done c s m t from (body.ClosedOk inst) v e here h = store_done s m t (on_closed_ok (frame_in c s v.boot e) inst) v (on_closed_ok_serves (frame_in c s v.boot e) inst v.store) h

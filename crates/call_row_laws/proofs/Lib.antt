@@ -1,5 +1,6 @@
 pub mod Rising
 pub mod Scripts
+pub mod Rereads
 pub mod Starts
 pub mod Keeping
 pub mod Going

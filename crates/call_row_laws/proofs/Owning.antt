@@ -6,11 +6,13 @@ use Rattle.locus_ids.specs.declared.ids.EpochId.{EpochId}
 use Rattle.locus_ids.specs.declared.ids.FileId.{FileId}
 use Rattle.role_steps.specs.Views.{Users}
 use Rattle.role_steps.specs.Requests.{waiting_key, with_waiting, without_waiting, instance_serial, with_user_instance, without_user_instance, fd_key, descriptor_key, with_descriptor, without_descriptor}
+use Rattle.role_steps.specs.Using.{last_opened, no_serial}
 use Rattle.role_steps.specs.declared.users.WaitingCall.{WaitingCall}
 use Rattle.role_steps.specs.declared.users.DescriptorRow.{DescriptorRow}
 use Rattle.role_steps.specs.declared.users.UserInstance.{UserInstance}
 use Rattle.the_run.specs.Kept.{Among}
-use Rattle.call_row_laws.specs.Serials.{Holds, serial_of, IsOpenIn, HasInstance, Owned}
+use Rattle.call_row_laws.specs.Scripts.{EndsOpened}
+use Rattle.call_row_laws.specs.Serials.{Holds, serial_of, IsOpenIn, HasInstance, AsksOperation, HasOpened, Owned}
 use Rattle.call_row_laws.proofs.Rising.{key_case, put_rises, put_there, put_keeps, put_old, taken_rises, taken_keeps, taken_old}
 
 zero_least : (n : ℕ) → 0 ≤ n
@@ -19,13 +21,13 @@ zero_least n = omega arith
 -- ---- what doesn't matter ----
 
 pub counts_owned : (K : EpochId → Type 0) (now : Option EpochId) (n : ℕ) (u : Users) → Owned K now u → Owned K now (record u { calls = n })
-counts_owned K now n u h = record { waiting = h.waiting; descriptors = h.descriptors; held_low = h.held_low; one_call = h.one_call; low = h.low; no_call = h.no_call; one_descriptor = h.one_descriptor; there = h.there; epochs = h.epochs }
+counts_owned K now n u h = record { waiting = h.waiting; descriptors = h.descriptors; held_low = h.held_low; one_call = h.one_call; low = h.low; no_call = h.no_call; one_descriptor = h.one_descriptor; there = h.there; asked_there = h.asked_there; epochs = h.epochs }
 
 pub hopes_owned : (K : EpochId → Type 0) (now : Option EpochId) (files : List FileId) (u : Users) → Owned K now u → Owned K now (record u { hopeless = files })
-hopes_owned K now files u h = record { waiting = h.waiting; descriptors = h.descriptors; held_low = h.held_low; one_call = h.one_call; low = h.low; no_call = h.no_call; one_descriptor = h.one_descriptor; there = h.there; epochs = h.epochs }
+hopes_owned K now files u h = record { waiting = h.waiting; descriptors = h.descriptors; held_low = h.held_low; one_call = h.one_call; low = h.low; no_call = h.no_call; one_descriptor = h.one_descriptor; there = h.there; asked_there = h.asked_there; epochs = h.epochs }
 
 pub grow_owned : (K L : EpochId → Type 0) (now : Option EpochId) (u : Users) → ((e : EpochId) → K e → L e) → Owned K now u → Owned L now u
-grow_owned K L now u grow h = record { waiting = h.waiting; descriptors = h.descriptors; held_low = h.held_low; one_call = h.one_call; low = h.low; no_call = h.no_call; one_descriptor = h.one_descriptor; there = h.there; epochs = λ d a. grow d.descriptor.epoch (h.epochs d a) }
+grow_owned K L now u grow h = record { waiting = h.waiting; descriptors = h.descriptors; held_low = h.held_low; one_call = h.one_call; low = h.low; no_call = h.no_call; one_descriptor = h.one_descriptor; there = h.there; asked_there = h.asked_there; epochs = λ d a. grow d.descriptor.epoch (h.epochs d a) }
 
 -- ---- epochs ----
 
@@ -40,6 +42,7 @@ moves_owned K now later u none h = record {
   no_call = λ d w a o. absurd (none d a o);
   one_descriptor = λ d e a b o. absurd (none d a o);
   there = λ d a o. absurd (none d a o);
+  asked_there = h.asked_there;
   epochs = h.epochs;
 }
 
@@ -53,6 +56,7 @@ leave_owned K now u h = record {
   no_call = λ d w a o. absurd (false_true o);
   one_descriptor = λ d e a b o. absurd (false_true o);
   there = λ d a o. absurd (false_true o);
+  asked_there = λ w a. absurd a;
   epochs = h.epochs;
 }
 
@@ -60,8 +64,8 @@ leave_owned K now u h = record {
 
 pub put_owned : (K : EpochId → Type 0) (now : Option EpochId) (n : ℕ) (w : WaitingCall) (u : Users) → u.serials ≤ n → ((s : ℕ) → Holds s w → s ≤ n) →
     ((x : WaitingCall) (s : ℕ) → Among x u.waiting → Holds s x → Holds s w → waiting_key x ≡ waiting_key w) →
-    ((d : DescriptorRow) → Among d u.descriptors → IsOpenIn now d → Holds (serial_of d) w → ⊥) → Owned K now u → Owned K now (with_waiting w (record u { serials = n }))
-put_owned K now n w u le within alone apart h = record {
+    ((d : DescriptorRow) → Among d u.descriptors → IsOpenIn now d → Holds (serial_of d) w → ⊥) → HasOpened u w → Owned K now u → Owned K now (with_waiting w (record u { serials = n }))
+put_owned K now n w u le within alone apart has h = record {
   waiting = put_rises waiting_key w 0 u.waiting (zero_least (waiting_key w)) h.waiting;
   descriptors = h.descriptors;
   held_low = λ x s a k. by_low x s (old x a) k;
@@ -70,6 +74,7 @@ put_owned K now n w u le within alone apart h = record {
   no_call = λ d x a o b k. by_apart d x a o (old x b) k;
   one_descriptor = h.one_descriptor;
   there = h.there;
+  asked_there = λ x a. by_opened x (old x a);
   epochs = h.epochs;
 }
   where
@@ -93,6 +98,10 @@ put_owned K now n w u le within alone apart h = record {
     by_apart d x a o (inl e) k = apart d a o (subst (Holds (serial_of d)) e k)
     by_apart d x a o (inr p) k = h.no_call d x a o p.0 k
 
+    by_opened : (x : WaitingCall) → Old x → HasOpened u x
+    by_opened x (inl e) = subst (HasOpened u) (sym e) has
+    by_opened x (inr o) = h.asked_there x o.0
+
 pub answered_owned : (K : EpochId → Type 0) (now : Option EpochId) (w : WaitingCall) (u : Users) → Owned K now u → Owned K now (without_waiting w u)
 answered_owned K now w u h = record {
   waiting = taken_rises waiting_key (waiting_key w) 0 u.waiting h.waiting;
@@ -103,6 +112,7 @@ answered_owned K now w u h = record {
   no_call = λ d x a o b. h.no_call d x a o (old x b);
   one_descriptor = h.one_descriptor;
   there = h.there;
+  asked_there = λ x a. h.asked_there x (old x a);
   epochs = h.epochs;
 }
   where
@@ -117,11 +127,12 @@ renewed_has i s u k = key_case (HasInstance s (with_user_instance i u)) k.0.seri
     (λ ne. (k.0, (put_keeps instance_serial i u.instances k.0 k.1.0 ne, k.1.1)))
 
 pub renewed_owned : (K : EpochId → Type 0) (now : Option EpochId) (i : UserInstance) (u : Users) → Owned K now u → Owned K now (with_user_instance i u)
-renewed_owned K now i u h = record { waiting = h.waiting; descriptors = h.descriptors; held_low = h.held_low; one_call = h.one_call; low = h.low; no_call = h.no_call; one_descriptor = h.one_descriptor; there = λ d a o. renewed_has i (serial_of d) u (h.there d a o); epochs = h.epochs }
+renewed_owned K now i u h = record { waiting = h.waiting; descriptors = h.descriptors; held_low = h.held_low; one_call = h.one_call; low = h.low; no_call = h.no_call; one_descriptor = h.one_descriptor; there = λ d a o. renewed_has i (serial_of d) u (h.there d a o); asked_there = λ w a p e. renewed_has i (last_opened no_serial w.answers).serial u (h.asked_there w a p e); epochs = h.epochs }
 
--- no descriptor of the epoch has the instance that is closed
-pub closed_owned : (K : EpochId → Type 0) (now : Option EpochId) (serial : ℕ) (u : Users) → ((d : DescriptorRow) → Among d u.descriptors → IsOpenIn now d → serial_of d ≡ serial → ⊥) → Owned K now u → Owned K now (without_user_instance serial u)
-closed_owned K now serial u none h = record {
+-- no descriptor of the epoch has the instance that is closed, and no call asks an operation on it
+pub closed_owned : (K : EpochId → Type 0) (now : Option EpochId) (serial : ℕ) (u : Users) → ((d : DescriptorRow) → Among d u.descriptors → IsOpenIn now d → serial_of d ≡ serial → ⊥) →
+    ((w : WaitingCall) → Among w u.waiting → AsksOperation w.asking → EndsOpened w.answers → (last_opened no_serial w.answers).serial ≡ serial → ⊥) → Owned K now u → Owned K now (without_user_instance serial u)
+closed_owned K now serial u none alone h = record {
   waiting = h.waiting;
   descriptors = h.descriptors;
   held_low = h.held_low;
@@ -129,9 +140,13 @@ closed_owned K now serial u none h = record {
   low = h.low;
   no_call = h.no_call;
   one_descriptor = h.one_descriptor;
-  there = λ d a o. (let k : HasInstance (serial_of d) u = h.there d a o in (k.0, (taken_keeps instance_serial serial u.instances k.0 k.1.0 (λ e. none d a o (sym k.1.1 ∙ e)), k.1.1)));
+  there = λ d a o. left (serial_of d) (h.there d a o) (none d a o);
+  asked_there = λ w a p e. left (last_opened no_serial w.answers).serial (h.asked_there w a p e) (alone w a p e);
   epochs = h.epochs;
 }
+  where
+    left : (s : ℕ) → HasInstance s u → (s ≡ serial → ⊥) → HasInstance s (without_user_instance serial u)
+    left s k other = (k.0, (taken_keeps instance_serial serial u.instances k.0 k.1.0 (λ e. other (sym k.1.1 ∙ e)), k.1.1))
 
 -- ---- descriptors ----
 
@@ -146,6 +161,7 @@ opened_owned K now d u le no_call alone has known h = record {
   no_call = λ e w a o b k. by_call e w (old e a) o b k;
   one_descriptor = λ e g a b o p s. by_one e g (old e a) (old g b) o p s;
   there = λ e a o. by_there e (old e a) o;
+  asked_there = h.asked_there;
   epochs = λ e a. by_epoch e (old e a);
 }
   where
@@ -190,6 +206,7 @@ freed_owned K now process fd u h = record {
   no_call = λ d w a. h.no_call d w (old d a);
   one_descriptor = λ d e a b. h.one_descriptor d e (old d a) (old e b);
   there = λ d a. h.there d (old d a);
+  asked_there = h.asked_there;
   epochs = λ d a. h.epochs d (old d a);
 }
   where

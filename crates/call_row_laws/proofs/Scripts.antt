@@ -12,12 +12,14 @@ use Rattle.locus_ids.specs.declared.sites.Sites.{Sites}
 use Rattle.locus_ids.specs.declared.config.Mount.{Mount}
 use Rattle.locus_ids.specs.declared.refusal.Refusal.{Refusal}
 use Rattle.locus_ids.specs.declared.refusal.Refusal.TheVariants as refusal
+use Rattle.commit_graph.specs.Versions.{same_stamp}
 use Rattle.trace_book.specs.Messages.{message_name}
 use Rattle.trace_book.specs.Names.{components, last_of, but_last, plain_name}
 use Rattle.trace_book.specs.declared.call.Call.{Call}
 use Rattle.trace_book.specs.declared.call.Call.TheVariants as call
 use Rattle.trace_book.specs.declared.call.OpenMode.{OpenMode}
 use Rattle.trace_book.specs.declared.descriptor.Beginning.{Beginning}
+use Rattle.trace_book.specs.declared.descriptor.OneVersion.{OneVersion}
 use Rattle.trace_book.specs.declared.descriptor.Beginning.TheVariants as begins
 use Rattle.trace_book.specs.declared.operation.Op.{Op}
 use Rattle.trace_book.specs.declared.operation.Outcome.{Outcome}
@@ -34,6 +36,7 @@ use Rattle.call_rules.specs.Making.{after_insert, after_make, fills, after_probe
 use Rattle.call_rules.specs.Mending.{after_mend, brings, mend_wants}
 use Rattle.call_rules.specs.Naming.{renames}
 use Rattle.call_rules.specs.Opening.{opens_file, reply_to, op_wants, close_wants, uses_wants, lists, describes, Shows, shown_in}
+use Rattle.call_rules.specs.Reopening.{reads_again, reopened, reopen_wants}
 use Rattle.call_rules.specs.Removing.{removes, empties, opens_target, by_kind, finds}
 use Rattle.call_rules.specs.Scripts.{path_wants, begun_wants, named_wants, in_group, where_packed, wants}
 use Rattle.call_rules.specs.Walks.{Walked, Asks, Fails, There, Strays, root_of, mounted_in, passes, walk, walked}
@@ -223,6 +226,33 @@ uses_closed O (call.Abort fd) e i o answers = op_wants_closed O i _ answers
 uses_closed O (call.Close fd) e i o answers = close_wants_closed O i o answers
 uses_closed O _ e i o answers = tt
 
+-- ---- a version is opened again ----
+
+reads_again_closed : (O : Serial → Type 0) (i : Serial) (at len : ℕ) → O i → (answers : List Answer) → Every (OwnAnswer O) answers → Closed O ⊥ (reads_again i at len answers)
+reads_again_closed O i at len o [] h = tt
+reads_again_closed O i at len o (answer.Did outcome.Done ∷ []) h = tt
+reads_again_closed O i at len o (answer.Did (outcome.Found ino k) ∷ []) h = tt
+reads_again_closed O i at len o (answer.Did (outcome.Data bytes) ∷ []) h = tt
+reads_again_closed O i at len o (answer.Did (outcome.Committed stamp) ∷ []) h = tt
+reads_again_closed O i at len o (answer.Did (outcome.No why) ∷ []) h = tt
+reads_again_closed O i at len o (answer.Did r ∷ (a ∷ rest)) h = tt
+reads_again_closed O i at len o (answer.Refused why ∷ rest) h = give_up_closed O (Unchanged i ∷ []) why (o, tt) rest h.1
+reads_again_closed O i at len o (_ ∷ rest) h = tt
+
+reopened_closed : (O : Serial → Type 0) (kept : OneVersion) (last : EpochId) (at len : ℕ) (i : Serial) (granted : OneVersion) → O i → (answers : List Answer) → Every (OwnAnswer O) answers → Closed O ⊥ (reopened kept last at len i granted answers)
+reopened_closed O kept last at len i granted o answers h =
+    elim (same_stamp granted.stamp kept.stamp) as (λ b. Closed O ⊥ (cond b (reads_again i at len answers) (give_up (Unchanged i ∷ []) (refusal.Stale last) answers))) [
+      | true ↦ reads_again_closed O i at len o answers h
+      | false ↦ give_up_closed O (Unchanged i ∷ []) (refusal.Stale last) (o, tt) answers h
+    ]
+
+reopen_closed : (O : Serial → Type 0) (words : Call) (kept : OneVersion) (last : EpochId) (answers : List Answer) → Every (OwnAnswer O) answers → Closed O ⊥ (reopen_wants words kept last answers)
+reopen_closed O (call.Read fd at len) kept last [] h = tt
+reopen_closed O (call.Read fd at len) kept last (answer.Reading i granted ∷ rest) h = reopened_closed O kept last at len i granted h.0 rest h.1
+reopen_closed O (call.Read fd at len) kept last (answer.Refused why ∷ []) h = tt
+reopen_closed O (call.Read fd at len) kept last (_ ∷ rest) h = tt
+reopen_closed O _ kept last answers h = tt
+
 -- ---- open, list and stat ----
 
 lists_closed : (O : Serial → Type 0) (shows : Shows) (reached : List ℕ) (at : FileId) (k : Kind) (answers : List Answer) → Closed O ⊥ (lists shows reached at k answers)
@@ -242,6 +272,7 @@ opens_file_closed : (O : Serial → Type 0) (m : OpenMode) (free : Option ℕ) (
 opens_file_closed O m free file kind.Dir answers = tt
 opens_file_closed O m free file kind.File [] = tt
 opens_file_closed O m (Some fd) file kind.File (answer.Opened p ino ∷ []) = tt
+opens_file_closed O m (Some fd) file kind.File (answer.Reading p version ∷ []) = tt
 opens_file_closed O m None file kind.File (answer.Refused why ∷ []) = tt
 opens_file_closed O m (Some fd) file kind.File (answer.Refused why ∷ []) = tt
 opens_file_closed O m None file kind.File (_ ∷ rest) = tt
@@ -343,6 +374,8 @@ path_closed O mounts free id _ answers h = tt
 begun_closed : (O : Serial → Type 0) (mounts : List Mount) (free : Option ℕ) (words : Call) (b : Beginning) (answers : List Answer) → Every (OwnAnswer O) answers → BeginsOwn O words b → Closed O (EndsOpened answers) (begun_wants mounts free words b answers)
 begun_closed O mounts free words (begins.Denied why) answers h o = tt
 begun_closed O mounts free words (begins.Uses e i) answers h o = none_closed O (EndsOpened answers) (uses_wants words i answers) (uses_closed O words e i o answers)
+begun_closed O mounts free words (begins.Reopens kept last) answers h o = none_closed O (EndsOpened answers) (reopen_wants words kept last answers) (reopen_closed O words kept last answers h)
+begun_closed O mounts free words begins.Frees answers h o = tt
 begun_closed O mounts free words (begins.Walks id) answers h o = path_closed O mounts free id words answers h
 
 named_closed : (O : Serial → Type 0) (mounts : List Mount) (free : Option ℕ) (words : Call) (b : Beginning) (answers : List Answer) → Every (OwnAnswer O) answers → BeginsOwn O words b → Closed O (EndsOpened answers) (named_wants mounts free words b answers)

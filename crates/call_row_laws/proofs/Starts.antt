@@ -17,14 +17,16 @@ use Rattle.trace_book.specs.declared.call.OpenMode.{OpenMode}
 use Rattle.trace_book.specs.declared.descriptor.Beginning.{Beginning}
 use Rattle.trace_book.specs.declared.descriptor.Beginning.TheVariants as begins
 use Rattle.trace_book.specs.declared.descriptor.Descriptor.{Descriptor}
+use Rattle.trace_book.specs.declared.descriptor.OneVersion.{OneVersion}
 use Rattle.trace_book.specs.declared.reply.Reply.TheVariants as reply
 use Rattle.call_rules.specs.Mailing.{shown_messages}
 use Rattle.call_rules.specs.declared.answer.Answer.{Answer}
 use Rattle.call_rules.specs.declared.want.Want.{Want}
 use Rattle.call_rules.specs.declared.want.Want.TheVariants as want
-use Rattle.call_rules.specs.Descriptors.{lowest_free, is_in, begins_on, begins_walk, begins_open, beginning}
+use Rattle.call_rules.specs.Descriptors.{lowest_free, is_in, begins_again, begins_change, begins_close, begins_read, begins_walk, begins_open, beginning, held_or, stale_or}
 use Rattle.call_rules.specs.Making.{opens_dir, changes_dir}
 use Rattle.call_rules.specs.Opening.{opens_file, uses_wants, lists, describes, Shows, shown_in}
+use Rattle.call_rules.specs.Reopening.{reopen_wants}
 use Rattle.call_rules.specs.Scripts.{path_wants, begun_wants, named_wants, in_group, where_packed, wants}
 use Rattle.call_rules.specs.Walks.{Walked, Asks, Fails, There, Strays, root_of, mounted_in, passes, walk, walked}
 use Rattle.call_rules.specs.Words.{is_badly_named, is_too_long}
@@ -40,16 +42,44 @@ OnFile _ = Unit {0}
 -- not on a descriptor
 abbrev OnPath : Beginning → Type 0
 OnPath (begins.Uses e i) = ⊥
+OnPath (begins.Reopens version last) = ⊥
 OnPath _ = Unit {0}
 
-on_file : (changes : Bool) (now : Option EpochId) (d : Option Descriptor) → OnFile (begins_on changes now d)
-on_file changes now None = tt
-on_file true now (Some d) =
-    elim (is_in now d.epoch) as (λ b. OnFile (cond b (cond (is_read d.mode) (begins.Denied refusal.ReadOnly) (begins.Uses d.epoch d.inst)) (begins.Denied (refusal.Stale d.epoch)))) [
-      | true ↦ elim (is_read d.mode) as (λ b. OnFile (cond b (begins.Denied refusal.ReadOnly) (begins.Uses d.epoch d.inst))) [ true ↦ tt | false ↦ tt ]
-      | false ↦ tt
-    ]
-on_file false now (Some d) = elim (is_in now d.epoch) as (λ b. OnFile (cond b (begins.Uses d.epoch d.inst) (begins.Denied (refusal.Stale d.epoch)))) [ true ↦ tt | false ↦ tt ]
+-- neither by a walk nor by a read that opens again
+abbrev OnHeld : Beginning → Type 0
+OnHeld (begins.Walks id) = ⊥
+OnHeld (begins.Reopens version last) = ⊥
+OnHeld _ = Unit {0}
+
+on_read : (now : Option EpochId) (o : Option Descriptor) → OnFile (begins_read now o)
+on_read now None = tt
+on_read now (Some d) = elim (is_in now d.epoch) as (λ b. OnFile (cond b (begins.Uses d.epoch d.inst) (stale_or (begins_again now d.epoch) d.epoch d.steady))) [ true ↦ tt | false ↦ unheld now d.steady ]
+  where
+    unheld : (at : Option EpochId) (v : Option OneVersion) → OnFile (stale_or (begins_again at d.epoch) d.epoch v)
+    unheld at None = tt
+    unheld None (Some version) = tt
+    unheld (Some e) (Some version) = tt
+
+on_close : (now : Option EpochId) (o : Option Descriptor) → OnHeld (begins_close now o)
+on_close now None = tt
+on_close now (Some d) = elim (is_in now d.epoch) as (λ b. OnHeld (cond b (begins.Uses d.epoch d.inst) (stale_or (λ version. begins.Frees) d.epoch d.steady))) [ true ↦ tt | false ↦ unheld d.steady ]
+  where
+    unheld : (v : Option OneVersion) → OnHeld (stale_or (λ version. begins.Frees) d.epoch v)
+    unheld None = tt
+    unheld (Some version) = tt
+
+on_change : (now : Option EpochId) (o : Option Descriptor) → OnHeld (begins_change now o)
+on_change now None = tt
+on_change now (Some d) = by_version d.steady refl
+  where
+    plain : (a b : Bool) → OnHeld (cond a (cond b (begins.Denied refusal.ReadOnly) (begins.Uses d.epoch d.inst)) (begins.Denied (refusal.Stale d.epoch)))
+    plain true true = tt
+    plain true false = tt
+    plain false b = tt
+
+    by_version : (v : Option OneVersion) → d.steady ≡ v → OnHeld (begins_change now (Some d))
+    by_version None e = rw e (plain (is_in now d.epoch) (is_read d.mode))
+    by_version (Some version) e = rw e tt
 
 on_path : (id : CallId) (now : Option EpochId) → OnPath (begins_walk now id)
 on_path id None = tt
@@ -110,11 +140,11 @@ opens_starts b m free at kind.Dir = tt
 -- a call on a descriptor doesn't walk, and one that walks has none
 abbrev Suits : Call → Beginning → Type 0
 Suits (call.Read fd at len) b = OnFile b
-Suits (call.Write fd at bytes) b = OnFile b
-Suits (call.Cut fd len) b = OnFile b
-Suits (call.Commit fd) b = OnFile b
-Suits (call.Abort fd) b = OnFile b
-Suits (call.Close fd) b = OnFile b
+Suits (call.Write fd at bytes) b = OnHeld b
+Suits (call.Cut fd len) b = OnHeld b
+Suits (call.Commit fd) b = OnHeld b
+Suits (call.Abort fd) b = OnHeld b
+Suits (call.Close fd) b = OnHeld b
 Suits _ b = OnPath b
 
 walks_start : (mounts : List Mount) (free : Option ℕ) (id : CallId) (words : Call) → Suits words (begins.Walks id) → Starts (begins.Walks id) (path_wants mounts free id words [])
@@ -155,18 +185,24 @@ uses_start (call.Mails path) e i h = absurd h
 uses_start (call.Open path how) e i h = absurd h
 uses_start (call.Mend file) e i h = absurd h
 
+reopen_start : (words : Call) (kept : OneVersion) (last : EpochId) → Suits words (begins.Reopens kept last) → Starts (begins.Reopens kept last) (reopen_wants words kept last [])
+reopen_start (call.Read fd at len) kept last h = tt
+reopen_start _ kept last h = absurd h
+
 begun_starts : (mounts : List Mount) (free : Option ℕ) (words : Call) (b : Beginning) → Suits words b → Starts b (begun_wants mounts free words b [])
 begun_starts mounts free words (begins.Denied why) h = tt
 begun_starts mounts free words (begins.Uses e i) h = uses_start words e i h
+begun_starts mounts free words (begins.Reopens kept last) h = reopen_start words kept last h
+begun_starts mounts free words begins.Frees h = tt
 begun_starts mounts free words (begins.Walks id) h = walks_start mounts free id words h
 
 suits : (table : ℕ → Option Descriptor) (now : Option EpochId) (id : CallId) (words : Call) → Suits words (beginning table now id words)
-suits table now id (call.Read fd at len) = on_file false now (table fd)
-suits table now id (call.Write fd at bytes) = elim (is_too_long (call.Write fd at bytes)) as (λ b. OnFile (cond b (begins.Denied refusal.TooLong) (begins_on true now (table fd)))) [ true ↦ tt | false ↦ on_file true now (table fd) ]
-suits table now id (call.Cut fd len) = on_file true now (table fd)
-suits table now id (call.Commit fd) = on_file true now (table fd)
-suits table now id (call.Abort fd) = on_file true now (table fd)
-suits table now id (call.Close fd) = on_file false now (table fd)
+suits table now id (call.Read fd at len) = on_read now (table fd)
+suits table now id (call.Write fd at bytes) = elim (is_too_long (call.Write fd at bytes)) as (λ b. OnHeld (cond b (begins.Denied refusal.TooLong) (begins_change now (table fd)))) [ true ↦ tt | false ↦ on_change now (table fd) ]
+suits table now id (call.Cut fd len) = on_change now (table fd)
+suits table now id (call.Commit fd) = on_change now (table fd)
+suits table now id (call.Abort fd) = on_change now (table fd)
+suits table now id (call.Close fd) = on_close now (table fd)
 suits table now id (call.Create path sites) = on_path id now
 suits table now id (call.MakeDir path) = on_path id now
 suits table now id (call.Unlink path) = on_path id now
@@ -221,21 +257,54 @@ uses_inst e p i h = same h.0 h.1
     same : (x : EpochId) → begins.Uses e p ≡ begins.Uses x i → p ≡ i
     same x h = cc
 
-pub begins_on_there : (changes : Bool) (now : Option EpochId) (o : Option Descriptor) (i : Serial) → BeginsWith (begins_on changes now o) i → OnDescriptor now o i
-begins_on_there changes now None i h = absurd (denied refusal.BadDescriptor i h)
-begins_on_there true now (Some d) i h =
-    (elim (is_in now d.epoch) as (λ b. is_in now d.epoch ≡ b → BeginsWith (cond b (cond (is_read d.mode) (begins.Denied refusal.ReadOnly) (begins.Uses d.epoch d.inst)) (begins.Denied (refusal.Stale d.epoch))) i → OnDescriptor now (Some d) i) [
-      | true ↦ λ e. elim (is_read d.mode) as (λ b. BeginsWith (cond b (begins.Denied refusal.ReadOnly) (begins.Uses d.epoch d.inst)) i → OnDescriptor now (Some d) i) [
-        | true ↦ λ k. absurd (denied refusal.ReadOnly i k)
-        | false ↦ λ k. record { descriptor = d; is = refl; open_now = e; inst_is = uses_inst d.epoch d.inst i k }
-      ]
-      | false ↦ λ e k. absurd (denied (refusal.Stale d.epoch) i k)
-    ]) refl h
-begins_on_there false now (Some d) i h =
-    (elim (is_in now d.epoch) as (λ b. is_in now d.epoch ≡ b → BeginsWith (cond b (begins.Uses d.epoch d.inst) (begins.Denied (refusal.Stale d.epoch))) i → OnDescriptor now (Some d) i) [
+again_none : (now : Option EpochId) (last : EpochId) (version : OneVersion) (i : Serial) → BeginsWith (begins_again now last version) i → ⊥
+again_none None last version i h = denied refusal.NoPartition i h
+again_none (Some e) last version i h = differ h.0 h.1
+  where
+    differ : (x : EpochId) → begins.Reopens version last ≡ begins.Uses x i → ⊥
+    differ x k = cc
+
+frees_none : (i : Serial) → BeginsWith begins.Frees i → ⊥
+frees_none i h = differ h.0 h.1
+  where
+    differ : (x : EpochId) → begins.Frees ≡ begins.Uses x i → ⊥
+    differ x k = cc
+
+held_there : (now : Option EpochId) (d : Descriptor) (other : Beginning) (i : Serial) → (BeginsWith other i → ⊥) → BeginsWith (held_or now d other) i → OnDescriptor now (Some d) i
+held_there now d other i none h =
+    (elim (is_in now d.epoch) as (λ b. is_in now d.epoch ≡ b → BeginsWith (cond b (begins.Uses d.epoch d.inst) other) i → OnDescriptor now (Some d) i) [
       | true ↦ λ e k. record { descriptor = d; is = refl; open_now = e; inst_is = uses_inst d.epoch d.inst i k }
-      | false ↦ λ e k. absurd (denied (refusal.Stale d.epoch) i k)
+      | false ↦ λ e k. absurd (none k)
     ]) refl h
+
+pub begins_read_there : (now : Option EpochId) (o : Option Descriptor) (i : Serial) → BeginsWith (begins_read now o) i → OnDescriptor now o i
+begins_read_there now None i h = absurd (denied refusal.BadDescriptor i h)
+begins_read_there now (Some d) i h = held_there now d (stale_or (begins_again now d.epoch) d.epoch d.steady) i (unheld d.steady) h
+  where
+    unheld : (v : Option OneVersion) → BeginsWith (stale_or (begins_again now d.epoch) d.epoch v) i → ⊥
+    unheld None k = denied (refusal.Stale d.epoch) i k
+    unheld (Some version) k = again_none now d.epoch version i k
+
+pub begins_close_there : (now : Option EpochId) (o : Option Descriptor) (i : Serial) → BeginsWith (begins_close now o) i → OnDescriptor now o i
+begins_close_there now None i h = absurd (denied refusal.BadDescriptor i h)
+begins_close_there now (Some d) i h = held_there now d (stale_or (λ version. begins.Frees) d.epoch d.steady) i (unheld d.steady) h
+  where
+    unheld : (v : Option OneVersion) → BeginsWith (stale_or (λ version. begins.Frees) d.epoch v) i → ⊥
+    unheld None k = denied (refusal.Stale d.epoch) i k
+    unheld (Some version) k = frees_none i k
+
+pub begins_change_there : (now : Option EpochId) (o : Option Descriptor) (i : Serial) → BeginsWith (begins_change now o) i → OnDescriptor now o i
+begins_change_there now None i h = absurd (denied refusal.BadDescriptor i h)
+begins_change_there now (Some d) i h = by_version d.steady refl
+  where
+    plain : (a b : Bool) → is_in now d.epoch ≡ a → BeginsWith (cond a (cond b (begins.Denied refusal.ReadOnly) (begins.Uses d.epoch d.inst)) (begins.Denied (refusal.Stale d.epoch))) i → OnDescriptor now (Some d) i
+    plain true true e k = absurd (denied refusal.ReadOnly i k)
+    plain true false e k = record { descriptor = d; is = refl; open_now = e; inst_is = uses_inst d.epoch d.inst i k }
+    plain false b e k = absurd (denied (refusal.Stale d.epoch) i k)
+
+    by_version : (v : Option OneVersion) → d.steady ≡ v → OnDescriptor now (Some d) i
+    by_version None e = plain (is_in now d.epoch) (is_read d.mode) refl (rw e at h)
+    by_version (Some version) e = absurd (denied refusal.ReadOnly i (rw e at h))
 
 walk_none : (id : CallId) (now : Option EpochId) (i : Serial) → BeginsWith (begins_walk now id) i → ⊥
 walk_none id None i h = denied refusal.NoPartition i h
@@ -247,16 +316,16 @@ open_none id now (Some fd) i h = walk_none id now i h
 
 -- a call that begins on an instance has it of a descriptor of the epoch at hand
 pub begins_there : (table : ℕ → Option Descriptor) (now : Option EpochId) (id : CallId) (words : Call) (i : Serial) → BeginsWith (beginning table now id words) i → (fd : ℕ) × OnDescriptor now (table fd) i
-begins_there table now id (call.Read fd at len) i h = (fd, begins_on_there false now (table fd) i h)
+begins_there table now id (call.Read fd at len) i h = (fd, begins_read_there now (table fd) i h)
 begins_there table now id (call.Write fd at bytes) i h =
-    (elim (is_too_long (call.Write fd at bytes)) as (λ b. BeginsWith (cond b (begins.Denied refusal.TooLong) (begins_on true now (table fd))) i → (f : ℕ) × OnDescriptor now (table f) i) [
+    (elim (is_too_long (call.Write fd at bytes)) as (λ b. BeginsWith (cond b (begins.Denied refusal.TooLong) (begins_change now (table fd))) i → (f : ℕ) × OnDescriptor now (table f) i) [
       | true ↦ λ k. absurd (denied refusal.TooLong i k)
-      | false ↦ λ k. (fd, begins_on_there true now (table fd) i k)
+      | false ↦ λ k. (fd, begins_change_there now (table fd) i k)
     ]) h
-begins_there table now id (call.Cut fd len) i h = (fd, begins_on_there true now (table fd) i h)
-begins_there table now id (call.Commit fd) i h = (fd, begins_on_there true now (table fd) i h)
-begins_there table now id (call.Abort fd) i h = (fd, begins_on_there true now (table fd) i h)
-begins_there table now id (call.Close fd) i h = (fd, begins_on_there false now (table fd) i h)
+begins_there table now id (call.Cut fd len) i h = (fd, begins_change_there now (table fd) i h)
+begins_there table now id (call.Commit fd) i h = (fd, begins_change_there now (table fd) i h)
+begins_there table now id (call.Abort fd) i h = (fd, begins_change_there now (table fd) i h)
+begins_there table now id (call.Close fd) i h = (fd, begins_close_there now (table fd) i h)
 begins_there table now id (call.Create path sites) i h = absurd (walk_none id now i h)
 begins_there table now id (call.MakeDir path) i h = absurd (walk_none id now i h)
 begins_there table now id (call.Unlink path) i h = absurd (walk_none id now i h)

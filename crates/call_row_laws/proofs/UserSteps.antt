@@ -8,6 +8,8 @@ use Rattle.locus_ids.specs.declared.refusal.Refusal.{Refusal}
 use Rattle.trace_book.specs.declared.call.Call.{Call}
 use Rattle.trace_book.specs.declared.call.Call.TheVariants as call
 use Rattle.trace_book.specs.declared.descriptor.Beginning.{Beginning}
+use Rattle.trace_book.specs.declared.descriptor.Beginning.TheVariants as begins
+use Rattle.trace_book.specs.declared.descriptor.OneVersion.{OneVersion}
 use Rattle.trace_book.specs.declared.operation.Op.{Op}
 use Rattle.trace_book.specs.declared.operation.Outcome.{Outcome as Result}
 use Rattle.trace_book.specs.declared.reply.Reply.{Reply}
@@ -25,8 +27,8 @@ use Rattle.call_rules.specs.declared.want.Want.{Want}
 use Rattle.call_rules.specs.declared.want.Want.TheVariants as want
 use Rattle.role_steps.specs.Tables.{first_that}
 use Rattle.role_steps.specs.Views.{Frame, Users, quiet}
-use Rattle.role_steps.specs.Requests.{waiting_key, without_waiting, instance_serial, user_instance, with_user_instance, without_user_instance, descriptors_of, asks, next_request, asks_open, asks_op_of, asks_close_of, seen_by}
-use Rattle.role_steps.specs.Using.{last_opened, no_serial, opened_row, is_hopeless, without_hope, after_reply, replies, is_packed, asks_want, next_want, goes_on, with_answer, takes_answer, asks_open_of, own_serial, opened_answer, kept_for, mended_file, takes_open, on_open_done_of, on_open_done, asks_op_number, op_answer, on_op_done_of, on_op_done, close_answer, on_close_done_of, on_close_done, asks_take, looks_again, content_answer, with_brought, takes_look, on_look_done_of, on_look_done}
+use Rattle.role_steps.specs.Requests.{waiting_key, without_waiting, instance_serial, user_instance, with_user_instance, without_user_instance, descriptors_of, with_descriptor, asks, next_request, asks_open, asks_op_of, asks_close_of, seen_by}
+use Rattle.role_steps.specs.Using.{last_opened, no_serial, opened_row, is_hopeless, without_hope, holds_again, after_reply, replies, is_packed, asks_want, next_want, goes_on, with_answer, takes_answer, asks_open_of, own_serial, opened_answer, kept_for, mended_file, takes_open, on_open_done_of, on_open_done, asks_op_number, op_answer, on_op_done_of, on_op_done, close_answer, on_close_done_of, on_close_done, asks_take, looks_again, content_answer, with_brought, takes_look, on_look_done_of, on_look_done}
 use Rattle.role_steps.specs.Using as using
 use Rattle.role_steps.specs.declared.users.Asking.{Asking}
 use Rattle.role_steps.specs.declared.users.Asking.TheVariants as asking
@@ -35,16 +37,17 @@ use Rattle.role_steps.specs.declared.users.DescriptorRow.{DescriptorRow}
 use Rattle.role_steps.specs.declared.users.UserInstance.{UserInstance}
 use Rattle.tree_model.specs.Folds.{Trace}
 use Rattle.the_run.specs.Kept.{Among}
-use Rattle.call_row_laws.specs.Scripts.{IsOpened, EndsOpened, ClosedReply, Closed}
-use Rattle.call_row_laws.specs.Serials.{AsksUnder, Opens, OpenedBy, Frees, Own, Holds, serial_of, IsOpenIn, HasInstance, Owned}
+use Rattle.call_row_laws.specs.Scripts.{EndsOpened, HasRead, HoldsOpened, GivesRead, ClosedReply, Closed}
+use Rattle.call_row_laws.specs.Serials.{AsksUnder, Opens, OpenedBy, Frees, Own, Holds, serial_of, IsOpenIn, HasInstance, AsksOperation, HasOpened, Owned}
 use Rattle.call_row_laws.specs.Waiting.{after, Waits, Goes, SameCall}
 use Rattle.call_row_laws.specs.Standing.{UsersDo}
-use Rattle.call_row_laws.proofs.Rising.{row_found, first_found, put_there, taken_old}
+use Rattle.call_row_laws.proofs.Rising.{row_found, first_found, one_row, put_there, taken_old}
 use Rattle.call_row_laws.proofs.Scripts.{wants_closed}
+use Rattle.call_row_laws.proofs.Rereads.{wants_read}
 use Rattle.call_row_laws.proofs.Keeping.{key_same}
 use Rattle.call_row_laws.proofs.Going.{put_waits, answer_waits, goes_again}
-use Rattle.call_row_laws.proofs.Owning.{hopes_owned, put_owned, answered_owned, renewed_owned, closed_owned, opened_owned}
-use Rattle.call_row_laws.proofs.Answers.{last_more, ends_last, ends_own, opened_more, own_answers, begins_own, opens_it, opened_is, OpensNone, none_opens, none_opened, op_none, close_none, content_none, SameStage, stage_self, brought_stage, open_under, close_under}
+use Rattle.call_row_laws.proofs.Owning.{hopes_owned, put_owned, answered_owned, renewed_has, renewed_owned, closed_owned, opened_owned}
+use Rattle.call_row_laws.proofs.Answers.{last_more, ends_last, ends_own, holds_own, read_last, did_last, opened_more, own_answers, begins_own, opens_it, opened_is, OpensNone, none_opens, none_opened, IsPlain, plain_none, plain_did, open_did, op_none, close_none, content_none, SameStage, stage_self, brought_stage, open_under, close_under, close_plain, op_asked}
 
 -- ---- what a call may do next ----
 
@@ -60,7 +63,7 @@ pub record Ready (K : EpochId → Type 0) (f : Frame) (now : Option EpochId) (tr
   pub low : (s : ℕ) → Own s w → s ≤ u.serials
   pub calls : (x : WaitingCall) (s : ℕ) → Among x u.waiting → Holds s x → Own s w → waiting_key x ≡ waiting_key w
   pub rows : (d : DescriptorRow) → Among d u.descriptors → IsOpenIn now d → Own (serial_of d) w → ⊥
-  pub opened : EndsOpened w.answers → HasInstance (last_opened no_serial w.answers).serial u × K f.epoch
+  pub opened : HoldsOpened w.answers → HasInstance (last_opened no_serial w.answers).serial u × K f.epoch
   pub stays : Lost u (next_want f w u) → Waits f.me f.boot trace u.calls u.waiting
 
 quiet_do : (K : EpochId → Type 0) (f : Frame) (now : Option EpochId) (m : ℕ) (t : Trace) (u : Users) → Waits f.me f.boot t u.calls u.waiting → Owned K now u → UsersDo K f.me f.boot now m t (quiet u)
@@ -73,10 +76,10 @@ abbrev New : ℕ → ℕ → ℕ → Type 0
 New old n s = (old + 1 ≤ s) × (s ≤ n)
 
 asks_do : (K : EpochId → Type 0) (f : Frame) (now : Option EpochId) (m n : ℕ) (t : Trace) (u : Users) (w v : WaitingCall) → SameCall w v → u.serials ≤ n → Goes f.me f.boot t u.calls u.waiting w → Owned K now u → Ready K f now t u w →
-    ((s : ℕ) → Holds s v → Own s w ⊎ New u.serials n s) → UsersDo K f.me f.boot now m t (asks f v (record u { serials = n }))
-asks_do K f now m n t u w v same le g o r holds = record {
+    ((s : ℕ) → Holds s v → Own s w ⊎ New u.serials n s) → HasOpened u v → UsersDo K f.me f.boot now m t (asks f v (record u { serials = n }))
+asks_do K f now m n t u w v same le g o r holds has = record {
   waits = put_waits f.me f.boot u.calls t u.waiting w v same g;
-  owned = put_owned K now n v u le (λ s k. within s (holds s k)) (λ x s a k l. alone x s a k (holds s l)) (λ d a p k. apart d a p (holds (serial_of d) k)) o;
+  owned = put_owned K now n v u le (λ s k. within s (holds s k)) (λ x s a k l. alone x s a k (holds s l)) (λ d a p k. apart d a p (holds (serial_of d) k)) has o;
   rows = tt;
   own = tt;
   none = refl;
@@ -101,7 +104,7 @@ self_same : (w : WaitingCall) (a : Asking) → SameCall w (next_request w a)
 self_same w a = record { same_process = refl; same_number = refl; same_words = refl }
 
 open_do : (K : EpochId → Type 0) (f : Frame) (now : Option EpochId) (m : ℕ) (t : Trace) (u : Users) (w : WaitingCall) (file : FileId) (how : Opening) → Goes f.me f.boot t u.calls u.waiting w → Owned K now u → Ready K f now t u w → UsersDo K f.me f.boot now m t (asks_open f w file how u)
-open_do K f now m t u w file how g o r = asks_do K f now m (u.serials + 1) t u w (next_request w (asking.Open (u.serials + 1) file how)) (self_same w (asking.Open (u.serials + 1) file how)) (omega arith) g o r by_asking
+open_do K f now m t u w file how g o r = asks_do K f now m (u.serials + 1) t u w (next_request w (asking.Open (u.serials + 1) file how)) (self_same w (asking.Open (u.serials + 1) file how)) (omega arith) g o r by_asking (λ p e. absurd p)
   where
     by_asking : (s : ℕ) → (u.serials + 1 ≡ s) ⊎ Own s w → Own s w ⊎ New u.serials (u.serials + 1) s
     by_asking s (inl e) = inr (omega (arith, e), omega (arith, e))
@@ -114,7 +117,7 @@ op_do K f now m t u w o (Some i) stays g h r =
     let v : Users = with_user_instance (record i { ops = i.ops + 1 }) u in
     record {
       waits = put_waits f.me f.boot u.calls t u.waiting w (next_request w a) (self_same w a) g;
-      owned = put_owned K now u.serials (next_request w a) v (omega arith) (λ s k. by_low s k) (λ x s b k l. by_call x s b k l) (λ d b p k. by_row d b p k) (renewed_owned K now (record i { ops = i.ops + 1 }) u h);
+      owned = put_owned K now u.serials (next_request w a) v (omega arith) (λ s k. by_low s k) (λ x s b k l. by_call x s b k l) (λ d b p k. by_row d b p k) (λ p e. renewed_has (record i { ops = i.ops + 1 }) (last_opened no_serial w.answers).serial u (r.opened (inl e)).0) (renewed_owned K now (record i { ops = i.ops + 1 }) u h);
       rows = tt;
       own = tt;
       none = refl;
@@ -134,7 +137,7 @@ op_do K f now m t u w o (Some i) stays g h r =
 
 close_do : (K : EpochId → Type 0) (f : Frame) (now : Option EpochId) (m serial : ℕ) (t : Trace) (u : Users) (w : WaitingCall) (i : Option UserInstance) → user_instance u serial ≡ i → Own serial w → (i ≡ None → Waits f.me f.boot t u.calls u.waiting) → Goes f.me f.boot t u.calls u.waiting w → Owned K now u → Ready K f now t u w → UsersDo K f.me f.boot now m t (asks_close_of f w i u)
 close_do K f now m serial t u w None e own stays g h r = quiet_do K f now m t u (stays refl) h
-close_do K f now m serial t u w (Some i) e own stays g h r = asks_do K f now m u.serials t u w (next_request w (asking.Close i.serial i.ss)) (self_same w (asking.Close i.serial i.ss)) (omega arith) g h r by_asking
+close_do K f now m serial t u w (Some i) e own stays g h r = asks_do K f now m u.serials t u w (next_request w (asking.Close i.serial i.ss)) (self_same w (asking.Close i.serial i.ss)) (omega arith) g h r by_asking (λ p e. absurd p)
   where
     by_asking : (s : ℕ) → (i.serial ≡ s) ⊎ Own s w → Own s w ⊎ New u.serials u.serials s
     by_asking s (inl q) = inl (subst (λ (n : ℕ). Own n w) (sym (row_found instance_serial serial u.instances i e).1 ∙ q) own)
@@ -150,10 +153,8 @@ hope_do G _ why u h g = g
 abbrev Good : (EpochId → Type 0) → Frame → Option EpochId → Trace → Users → Type 0
 Good K f now t u = Waits f.me f.boot t u.calls u.waiting × Owned K now u
 
-replied : (K : EpochId → Type 0) (f : Frame) (now : Option EpochId) (t later : Trace) (u : Users) (w : WaitingCall) (r : Reply) → ClosedReply (EndsOpened w.answers) r → Owned K now u → Ready K f now t u w → Good K f now later (without_waiting w u) → Good K f now later (after_reply f w r (without_waiting w u))
-replied K f now t later u w (reply.Opened fd) ends o r g =
-    let own : Own serial w = inl (ends_own no_serial w.answers ends) in
-    (g.0, opened_owned K now (opened_row f w fd) (without_waiting w u) (r.low serial own) (λ x a k. by_old x (old x a) k own) (λ e a p s. r.rows e a p (subst (λ (n : ℕ). Own n w) (sym s) own)) (r.opened ends).0 (r.opened ends).1 g.1)
+replied : (K : EpochId → Type 0) (f : Frame) (now : Option EpochId) (t later : Trace) (u : Users) (w : WaitingCall) (r : Reply) → ClosedReply (EndsOpened w.answers) r → GivesRead w.begins w.answers (want.Give r) → Owned K now u → Ready K f now t u w → Good K f now later (without_waiting w u) → Good K f now later (after_reply f w r (without_waiting w u))
+replied K f now t later u w r ends read o h g = by_reply r ends read
   where
     serial : ℕ
     serial = (last_opened no_serial w.answers).serial
@@ -162,42 +163,56 @@ replied K f now t later u w (reply.Opened fd) ends o r g =
     old x a = taken_old waiting_key (waiting_key w) 0 u.waiting o.waiting x a
 
     by_old : (x : WaitingCall) → Among x u.waiting × (waiting_key x ≡ waiting_key w → ⊥) → Holds serial x → Own serial w → ⊥
-    by_old x a k own = a.1 (r.calls x serial a.0 k own)
-replied K f now t later u w (reply.No why) ends o r g = hope_do (Good K f now later) w.words why (without_waiting w u) (λ files. (g.0, hopes_owned K now files (without_waiting w u) g.1)) g
-replied K f now t later u w _ ends o r g = g
+    by_old x a k own = a.1 (h.calls x serial a.0 k own)
 
-give_do : (K : EpochId → Type 0) (f : Frame) (now : Option EpochId) (m : ℕ) (t : Trace) (u : Users) (w : WaitingCall) (r : Reply) → ClosedReply (EndsOpened w.answers) r → Goes f.me f.boot t u.calls u.waiting w → Owned K now u → Ready K f now t u w → UsersDo K f.me f.boot now m t (replies f w r u)
-give_do K f now m t u w r ends g o h =
+    holds : (fd : ℕ) (kept : Option OneVersion) → HoldsOpened w.answers → Good K f now later (with_descriptor (opened_row f w fd kept) (without_waiting w u))
+    holds fd kept opened =
+        let own : Own serial w = inl (holds_own no_serial w.answers opened) in
+        (g.0, opened_owned K now (opened_row f w fd kept) (without_waiting w u) (h.low serial own) (λ x a k. by_old x (old x a) k own) (λ e a p s. h.rows e a p (subst (λ (n : ℕ). Own n w) (sym s) own)) (h.opened opened).0 (h.opened opened).1 g.1)
+
+    again : (bytes : List ℕ) (b : Beginning) (words : Call) → GivesRead b w.answers (want.Give (reply.Data bytes)) → Good K f now later (holds_again f w b words (without_waiting w u))
+    again bytes (begins.Reopens version last) (call.Read fd at len) read = holds fd (Some version) (inr read)
+    again bytes (begins.Reopens version last) _ read = g
+    again bytes _ words read = g
+
+    by_reply : (r : Reply) → ClosedReply (EndsOpened w.answers) r → GivesRead w.begins w.answers (want.Give r) → Good K f now later (after_reply f w r (without_waiting w u))
+    by_reply (reply.Opened fd) ends read = holds fd _ (inl ends)
+    by_reply (reply.Data bytes) ends read = again bytes w.begins w.words read
+    by_reply (reply.No why) ends read = hope_do (Good K f now later) w.words why (without_waiting w u) (λ files. (g.0, hopes_owned K now files (without_waiting w u) g.1)) g
+    by_reply _ ends read = g
+
+give_do : (K : EpochId → Type 0) (f : Frame) (now : Option EpochId) (m : ℕ) (t : Trace) (u : Users) (w : WaitingCall) (r : Reply) → ClosedReply (EndsOpened w.answers) r → GivesRead w.begins w.answers (want.Give r) → Goes f.me f.boot t u.calls u.waiting w → Owned K now u → Ready K f now t u w → UsersDo K f.me f.boot now m t (replies f w r u)
+give_do K f now m t u w r ends read g o h =
     let later : Trace = after m (using.reply_record f.me f.boot w r ∷ []) t in
-    let k : Good K f now later (after_reply f w r (without_waiting w u)) = replied K f now t later u w r ends o h (answer_waits f.me f.boot m u.calls t u.waiting w r g, answered_owned K now w u o) in
+    let k : Good K f now later (after_reply f w r (without_waiting w u)) = replied K f now t later u w r ends read o h (answer_waits f.me f.boot m u.calls t u.waiting w r g, answered_owned K now w u o) in
     record { waits = k.0; owned = k.1; rows = (tt, tt); own = (refl, tt); none = refl }
 
 -- ---- a script goes on ----
 
-want_do : (K : EpochId → Type 0) (f : Frame) (now : Option EpochId) (m : ℕ) (t : Trace) (u : Users) (w : WaitingCall) (x : Want) → Closed (λ (i : Serial). Own i.serial w) (EndsOpened w.answers) x → (Lost u x → Waits f.me f.boot t u.calls u.waiting) → Goes f.me f.boot t u.calls u.waiting w → Owned K now u → Ready K f now t u w →
+want_do : (K : EpochId → Type 0) (f : Frame) (now : Option EpochId) (m : ℕ) (t : Trace) (u : Users) (w : WaitingCall) (x : Want) → Closed (λ (i : Serial). Own i.serial w) (EndsOpened w.answers) x → GivesRead w.begins w.answers x → (Lost u x → Waits f.me f.boot t u.calls u.waiting) → Goes f.me f.boot t u.calls u.waiting w → Owned K now u → Ready K f now t u w →
     UsersDo K f.me f.boot now m t (asks_want f w x u)
-want_do K f now m t u w (want.Look file what) c stays g o r = asks_do K f now m u.serials t u w (next_request w (asking.Look file what 1)) (self_same w (asking.Look file what 1)) (omega arith) g o r by_asking
+want_do K f now m t u w (want.Look file what) c read stays g o r = asks_do K f now m u.serials t u w (next_request w (asking.Look file what 1)) (self_same w (asking.Look file what 1)) (omega arith) g o r by_asking (λ p e. absurd p)
   where
     by_asking : (s : ℕ) → ⊥ ⊎ Own s w → Own s w ⊎ New u.serials u.serials s
     by_asking s (inl e) = absurd e
     by_asking s (inr k) = inl k
-want_do K f now m t u w (want.Open file how) c stays g o r = open_do K f now m t u w file _ g o r
-want_do K f now m t u w (want.OpenToMend file) c stays g o r = open_do K f now m t u w file _ g o r
-want_do K f now m t u w (want.Make group kind sites) c stays g o r = open_do K f now m t u w (record { group = group; ino = 0 }) _ g o r
-want_do K f now m t u w (want.Do i op) c stays g o r = op_do K f now m t u w op (user_instance u i.serial) stays g o r
-want_do K f now m t u w (want.Close i) c stays g o r = close_do K f now m i.serial t u w (user_instance u i.serial) refl c stays g o r
-want_do K f now m t u w (want.Give r) c stays g o h = give_do K f now m t u w r c g o h
-want_do K f now m t u w want.Never c stays g o r = quiet_do K f now m t u (stays tt) o
+want_do K f now m t u w (want.Open file how) c read stays g o r = open_do K f now m t u w file _ g o r
+want_do K f now m t u w (want.OpenToMend file) c read stays g o r = open_do K f now m t u w file _ g o r
+want_do K f now m t u w (want.Make group kind sites) c read stays g o r = open_do K f now m t u w (record { group = group; ino = 0 }) _ g o r
+want_do K f now m t u w (want.Do i op) c read stays g o r = op_do K f now m t u w op (user_instance u i.serial) stays g o r
+want_do K f now m t u w (want.Close i) c read stays g o r = close_do K f now m i.serial t u w (user_instance u i.serial) refl c stays g o r
+want_do K f now m t u w (want.Give r) c read stays g o h = give_do K f now m t u w r c read g o h
+want_do K f now m t u w want.Never c read stays g o r = quiet_do K f now m t u (stays tt) o
 
 pub goes_do : (K : EpochId → Type 0) (f : Frame) (now : Option EpochId) (m : ℕ) (t : Trace) (u : Users) (w : WaitingCall) → Goes f.me f.boot t u.calls u.waiting w → Owned K now u → Ready K f now t u w → UsersDo K f.me f.boot now m t (goes_on f w u)
 goes_do K f now m t u w g o r =
     want_do K f now m t u w (next_want f w u)
     (wants_closed (λ (i : Serial). Own i.serial w) f.config.mounts (is_packed f) (lowest_free (descriptors_of u w.process)) w.words w.begins w.answers (own_answers (λ s. Own s w) w.answers (λ s h. inl h)) (begins_own (λ s. Own s w) w.words w.begins (λ s h. inr h)))
-    r.stays g o r
+    (wants_read f.config.mounts (is_packed f) (lowest_free (descriptors_of u w.process)) w.words w.begins w.answers) r.stays g o r
 
 -- ---- an answer is taken ----
 
-takes_do : (K : EpochId → Type 0) (f : Frame) (now : Option EpochId) (m : ℕ) (t : Trace) (u : Users) (w v : WaitingCall) (a : Answer) → Among w u.waiting → SameStage w v → Waits f.me f.boot t u.calls u.waiting → Owned K now u → ((s : ℕ) → Opens s a → Holds s w) → (IsOpened a → HasInstance (last_opened no_serial (v.answers ++ a ∷ [])).serial u × K f.epoch) →
+takes_do : (K : EpochId → Type 0) (f : Frame) (now : Option EpochId) (m : ℕ) (t : Trace) (u : Users) (w v : WaitingCall) (a : Answer) → Among w u.waiting → SameStage w v → Waits f.me f.boot t u.calls u.waiting → Owned K now u → ((s : ℕ) → Opens s a → Holds s w) → (HoldsOpened (v.answers ++ a ∷ []) → HasInstance (last_opened no_serial (v.answers ++ a ∷ [])).serial u × K f.epoch) →
     UsersDo K f.me f.boot now m t (takes_answer f v a u)
 takes_do K f now m t u w v a there same h o opens ends =
     let x : WaitingCall = with_answer v a in
@@ -207,7 +222,7 @@ takes_do K f now m t u w v a there same h o opens ends =
       low = λ s k. o.held_low w s there (held s k);
       calls = λ y s b k l. o.one_call y w s b there k (held s l) ∙ key_same w x one;
       rows = λ e b p k. o.no_call e w b p there (held (serial_of e) k);
-      opened = λ e. ends (ends_last v.answers a e);
+      opened = ends;
       stays = λ l. h;
     }) in
     record { waits = d.waits; owned = d.owned; rows = (tt, d.rows); own = (tt, d.own); none = d.none }
@@ -221,15 +236,23 @@ takes_do K f now m t u w v a there same h o opens ends =
     held s (inr k) = inr (inr (subst (λ (b : Beginning). Frees s w.words b) (sym same.same_begins) (subst (λ (c : Call). Frees s c v.begins) (sym same.same.same_words) k)))
 
 -- an answer that opens nothing
-plain_do : (K : EpochId → Type 0) (f : Frame) (now : Option EpochId) (m : ℕ) (t : Trace) (u : Users) (w v : WaitingCall) (a : Answer) → OpensNone a → Among w u.waiting → SameStage w v → Waits f.me f.boot t u.calls u.waiting → Owned K now u → UsersDo K f.me f.boot now m t (takes_answer f v a u)
-plain_do K f now m t u w v a n there same h o = takes_do K f now m t u w v a there same h o (λ s k. absurd (none_opens s a n k)) (λ k. absurd (none_opened a n k))
+none_do : (K : EpochId → Type 0) (f : Frame) (now : Option EpochId) (m : ℕ) (t : Trace) (u : Users) (w v : WaitingCall) (a : Answer) → OpensNone a → Among w u.waiting → SameStage w v → Waits f.me f.boot t u.calls u.waiting → Owned K now u → (HasRead (v.answers ++ a ∷ []) → HasInstance (last_opened no_serial (v.answers ++ a ∷ [])).serial u × K f.epoch) →
+    UsersDo K f.me f.boot now m t (takes_answer f v a u)
+none_do K f now m t u w v a n there same h o read = takes_do K f now m t u w v a there same h o (λ s k. absurd (none_opens s a n k)) by_end
+  where
+    by_end : HoldsOpened (v.answers ++ a ∷ []) → HasInstance (last_opened no_serial (v.answers ++ a ∷ [])).serial u × K f.epoch
+    by_end (inl e) = absurd (none_opened a n (ends_last v.answers a e))
+    by_end (inr e) = read e
+
+plain_do : (K : EpochId → Type 0) (f : Frame) (now : Option EpochId) (m : ℕ) (t : Trace) (u : Users) (w v : WaitingCall) (a : Answer) → IsPlain a → Among w u.waiting → SameStage w v → Waits f.me f.boot t u.calls u.waiting → Owned K now u → UsersDo K f.me f.boot now m t (takes_answer f v a u)
+plain_do K f now m t u w v a n there same h o = none_do K f now m t u w v a (plain_none a n) there same h o (λ e. absurd (plain_did a n (read_last v.answers a e).0))
 
 -- ---- OpenDone ----
 
 takes_open_do : (K : EpochId → Type 0) (f : Frame) (now : Option EpochId) (m : ℕ) (t : Trace) (kept : FileId → List Stamp) (serial : ℕ) (w : WaitingCall) (a : Granted) (u : Users) → K f.epoch → Among w u.waiting → AsksUnder serial w.asking → Waits f.me f.boot t u.calls u.waiting → Owned K now u → UsersDo K f.me f.boot now m t (takes_open f kept serial w a u)
 takes_open_do K f now m t kept serial w (granted.Open ss ino size stamp vector) u k there asks h o =
-    takes_do K f now m t (with_user_instance i u) w w ans there (stage_self w) h (renewed_owned K now i u o) (λ s l. inl (subst (λ (n : ℕ). AsksUnder n w.asking) (opens_it f serial ino s stamps w.words l) asks))
-    (λ l. (subst (λ (n : ℕ). HasInstance n (with_user_instance i u)) (sym (ap (λ (j : Serial). j.serial) (ap (λ (b : Answer). last_opened no_serial (w.answers ++ b ∷ [])) (opened_is f serial ino stamps w.words l) ∙ last_more (own_serial f serial) no_serial ino w.answers))) (i, (put_there instance_serial i u.instances, refl)), k))
+    takes_do K f now m t (with_user_instance i u) w w ans there (stage_self w) h (renewed_owned K now i u o) (λ s l. inl (subst (λ (n : ℕ). AsksUnder n w.asking) (opens_it f serial ino s stamp stamps w.words w.asking l) asks))
+    by_end
   where
     i : UserInstance
     i = record { serial = serial; ss = ss; vector = vector; ops = 0 }
@@ -238,7 +261,15 @@ takes_open_do K f now m t kept serial w (granted.Open ss ino size stamp vector) 
     stamps = kept_for kept (mended_file w.words)
 
     ans : Answer
-    ans = opened_answer f serial ino stamps w.words
+    ans = opened_answer f serial ino stamp stamps w.words w.asking
+
+    by_end : HoldsOpened (w.answers ++ ans ∷ []) → HasInstance (last_opened no_serial (w.answers ++ ans ∷ [])).serial (with_user_instance i u) × K f.epoch
+    by_end (inl e) = (
+      subst (λ (n : ℕ). HasInstance n (with_user_instance i u)) (sym (ap (λ (j : Serial). j.serial) (last_more (own_serial f serial) no_serial ans w.answers (opened_is f serial ino stamp stamps w.words w.asking (ends_last w.answers ans e)))))
+          (i, (put_there instance_serial i u.instances, refl)),
+      k,
+    )
+    by_end (inr e) = absurd (open_did f serial ino stamp stamps w.words w.asking (read_last w.answers ans e).0)
 takes_open_do K f now m t kept serial w (granted.No why) u k there asks h o = plain_do K f now m t u w w (answer.Refused why) tt there (stage_self w) h o
 
 pub on_open_done_do : (K : EpochId → Type 0) (f : Frame) (now : Option EpochId) (m : ℕ) (t : Trace) (kept : FileId → List Stamp) (serial : ℕ) (a : Granted) (u : Users) → K f.epoch → Waits f.me f.boot t u.calls u.waiting → Owned K now u → UsersDo K f.me f.boot now m t (on_open_done f kept serial a u)
@@ -250,22 +281,34 @@ on_open_done_do K f now m t kept serial a u k h o = by_found (first_that (asks_o
 
 -- ---- OpDone, CloseDone ----
 
-pub on_op_done_do : (K : EpochId → Type 0) (f : Frame) (now : Option EpochId) (m : ℕ) (t : Trace) (serial n : ℕ) (x : Result) (u : Users) → Waits f.me f.boot t u.calls u.waiting → Owned K now u → UsersDo K f.me f.boot now m t (on_op_done f serial n x u)
-on_op_done_do K f now m t serial n x u h o = by_found (first_that (asks_op_number serial n x) u.waiting) refl
+pub on_op_done_do : (K : EpochId → Type 0) (f : Frame) (now : Option EpochId) (m : ℕ) (t : Trace) (serial n : ℕ) (x : Result) (u : Users) → K f.epoch → Waits f.me f.boot t u.calls u.waiting → Owned K now u → UsersDo K f.me f.boot now m t (on_op_done f serial n x u)
+on_op_done_do K f now m t serial n x u known h o = by_found (first_that (asks_op_number serial n x) u.waiting) refl
   where
+    ans : Answer
+    ans = op_answer x
+
     by_found : (w : Option WaitingCall) → first_that (asks_op_number serial n x) u.waiting ≡ w → UsersDo K f.me f.boot now m t (on_op_done_of f x w u)
     by_found None e = quiet_do K f now m t u h o
-    by_found (Some w) e = plain_do K f now m t u w w (op_answer x) (op_none x) (first_found (asks_op_number serial n x) u.waiting w e).0 (stage_self w) h o
+    by_found (Some w) e =
+        let r : Among w u.waiting × (asks_op_number serial n x w ≡ true) = first_found (asks_op_number serial n x) u.waiting w e in
+        none_do K f now m t u w w ans (op_none x) r.0 (stage_self w) h o
+        (λ l. (subst (λ (j : Serial). HasInstance j.serial u) (sym (did_last no_serial w.answers ans (read_last w.answers ans l).0)) (o.asked_there w r.0 (op_asked serial n x w r.1) (read_last w.answers ans l).1), known))
 
 pub on_close_done_do : (K : EpochId → Type 0) (f : Frame) (now : Option EpochId) (m : ℕ) (t : Trace) (serial : ℕ) (a : CloseAnswer) (u : Users) → Waits f.me f.boot t u.calls u.waiting → Owned K now u → UsersDo K f.me f.boot now m t (on_close_done f serial a u)
 on_close_done_do K f now m t serial a u h o = by_found (first_that (using.asks_close_of serial) u.waiting) refl
   where
+    -- the one call that asks the close asks no operation
+    other : (w : WaitingCall) → Among w u.waiting → using.asks_close_of serial w ≡ true → (y : WaitingCall) → Among y u.waiting → AsksOperation y.asking → EndsOpened y.answers → (last_opened no_serial y.answers).serial ≡ serial → ⊥
+    other w there test y a p l s =
+        let key : waiting_key y ≡ waiting_key w = o.one_call y w serial a there (inr (inl (subst (λ (n : ℕ). OpenedBy n y.answers) s (ends_own no_serial y.answers l)))) (inl (close_under serial w test)) in
+        close_plain serial w test (subst (λ (x : WaitingCall). AsksOperation x.asking) (one_row waiting_key 0 u.waiting o.waiting y w a there key) p)
+
     by_found : (x : Option WaitingCall) → first_that (using.asks_close_of serial) u.waiting ≡ x → UsersDo K f.me f.boot now m t (on_close_done_of f serial a x u)
     by_found None e = quiet_do K f now m t u h o
     by_found (Some w) e =
         let r : Among w u.waiting × (using.asks_close_of serial w ≡ true) = first_found (using.asks_close_of serial) u.waiting w e in
         plain_do K f now m t (without_user_instance serial u) w w (close_answer a) (close_none a) r.0 (stage_self w) h
-        (closed_owned K now serial u (λ d b p s. o.no_call d w b p r.0 (inl (subst (λ (n : ℕ). AsksUnder n w.asking) (sym s) (close_under serial w r.1)))) o)
+        (closed_owned K now serial u (λ d b p s. o.no_call d w b p r.0 (inl (subst (λ (n : ℕ). AsksUnder n w.asking) (sym s) (close_under serial w r.1)))) (λ y a p l s. other w r.0 r.1 y a p l s) o)
 
 -- ---- LookDone ----
 
@@ -275,7 +318,7 @@ again_do K f now m t w (asking.Look file what take) u there h o =
     let same : SameCall w v = record { same_process = refl; same_number = refl; same_words = refl } in
     record {
       waits = put_waits f.me f.boot u.calls t u.waiting w v same (goes_again f.me f.boot u.calls t u.waiting w w o.waiting there (record { same_process = refl; same_number = refl; same_words = refl }) h);
-      owned = put_owned K now u.serials v u (omega arith) (λ s k. o.held_low w s there (held s k)) (λ x s b k l. o.one_call x w s b there k (held s l)) (λ d b p k. o.no_call d w b p there (held (serial_of d) k)) o;
+      owned = put_owned K now u.serials v u (omega arith) (λ s k. o.held_low w s there (held s k)) (λ x s b k l. o.one_call x w s b there k (held s l)) (λ d b p k. o.no_call d w b p there (held (serial_of d) k)) (λ p e. absurd p) o;
       rows = (tt, tt);
       own = (tt, tt);
       none = refl;

@@ -1,5 +1,5 @@
 -- What a script may close, and when it replies to an open.
-use Rattle.std.specs.Prelude.{◌≡◌, true, List, [], ◌∷◌, Option, Some}
+use Rattle.std.specs.Prelude.{◌≡◌, ◌⊎◌, true, List, [], ◌∷◌, Option, Some}
 use Rattle.locus_ids.specs.declared.ids.EpochId.{EpochId}
 use Rattle.locus_ids.specs.declared.ids.Serial.{Serial}
 use Rattle.trace_book.specs.declared.call.Call.{Call}
@@ -20,6 +20,7 @@ use Rattle.call_rules.specs.declared.want.Want.TheVariants as want
 -- what the answer opens is the call's own
 abbrev pub OwnAnswer : (Serial → Type 0) → Answer → Type 0
 OwnAnswer O (answer.Opened inst ino) = O inst
+OwnAnswer O (answer.Reading inst version) = O inst
 OwnAnswer O (answer.Merging inst kept) = O inst
 OwnAnswer O _ = Unit {0}
 
@@ -30,6 +31,7 @@ BeginsOwn O _ _ = Unit {0}
 
 abbrev pub IsOpened : Answer → Type 0
 IsOpened (answer.Opened inst ino) = Unit {0}
+IsOpened (answer.Reading inst version) = Unit {0}
 IsOpened _ = ⊥
 
 -- the last answer opens an instance
@@ -37,6 +39,19 @@ abbrev pub EndsOpened : List Answer → Type 0
 EndsOpened [] = ⊥
 EndsOpened (a ∷ []) = IsOpened a
 EndsOpened (a ∷ b ∷ rest) = EndsOpened (b ∷ rest)
+
+-- one operation was done on the instance that was opened
+abbrev pub HasRead : List Answer → Type 0
+HasRead (a ∷ answer.Did result ∷ []) = IsOpened a
+HasRead _ = ⊥
+
+abbrev pub HoldsOpened : List Answer → Type 0
+HoldsOpened answers = EndsOpened answers ⊎ HasRead answers
+
+-- the bytes of a version that was opened again are those of its one operation
+abbrev pub GivesRead : Beginning → List Answer → Want → Type 0
+GivesRead (begins.Reopens version last) answers (want.Give (reply.Data bytes)) = HasRead answers
+GivesRead _ answers _ = Unit {0}
 
 abbrev pub ClosedReply : Type 0 → Reply → Type 0
 ClosedReply E (reply.Opened fd) = E

@@ -10,12 +10,14 @@ use Rattle.call_rules.specs.declared.answer.Answer.{Answer}
 use Rattle.call_rules.specs.declared.answer.Answer.TheVariants as answer
 use Rattle.role_steps.specs.Views.{Users}
 use Rattle.role_steps.specs.Requests.{waiting_key, descriptor_key}
+use Rattle.role_steps.specs.Using.{last_opened, no_serial}
 use Rattle.role_steps.specs.declared.users.Asking.{Asking}
 use Rattle.role_steps.specs.declared.users.Asking.TheVariants as asking
 use Rattle.role_steps.specs.declared.users.WaitingCall.{WaitingCall}
 use Rattle.role_steps.specs.declared.users.DescriptorRow.{DescriptorRow}
 use Rattle.role_steps.specs.declared.users.UserInstance.{UserInstance}
 use Rattle.the_run.specs.Kept.{Among}
+use Rattle.call_row_laws.specs.Scripts.{EndsOpened}
 
 -- the keys ascend, from this one on
 abbrev pub Rises : {A : Type 0} → (A → ℕ) → ℕ → List A → Type 0
@@ -33,6 +35,7 @@ AsksUnder s _ = ⊥
 -- the answer opens it
 abbrev pub Opens : ℕ → Answer → Type 0
 Opens s (answer.Opened inst ino) = inst.serial ≡ s
+Opens s (answer.Reading inst version) = inst.serial ≡ s
 Opens s (answer.Merging inst kept) = inst.serial ≡ s
 Opens s _ = ⊥
 
@@ -70,6 +73,14 @@ IsOpenIn now d = is_in now d.descriptor.epoch ≡ true
 abbrev pub HasInstance : ℕ → Users → Type 0
 HasInstance s u = (i : UserInstance) × (Among i u.instances × (i.serial ≡ s))
 
+abbrev pub AsksOperation : Asking → Type 0
+AsksOperation (asking.Op serial ss n o seen) = Unit {0}
+AsksOperation _ = ⊥
+
+-- what the call opened last is there while it asks an operation
+abbrev pub HasOpened : Users → WaitingCall → Type 0
+HasOpened u w = AsksOperation w.asking → EndsOpened w.answers → HasInstance (last_opened no_serial w.answers).serial u
+
 -- the epochs of descriptors are known; serial numbers are of one call or of one descriptor of the epoch at hand
 pub record Owned (known : EpochId → Type 0) (now : Option EpochId) (u : Users) : Type 0 where
   pub waiting : Rises waiting_key 0 u.waiting
@@ -80,4 +91,5 @@ pub record Owned (known : EpochId → Type 0) (now : Option EpochId) (u : Users)
   pub no_call : (d : DescriptorRow) (w : WaitingCall) → Among d u.descriptors → IsOpenIn now d → Among w u.waiting → Holds (serial_of d) w → ⊥
   pub one_descriptor : (d e : DescriptorRow) → Among d u.descriptors → Among e u.descriptors → IsOpenIn now d → IsOpenIn now e → serial_of d ≡ serial_of e → descriptor_key d ≡ descriptor_key e
   pub there : (d : DescriptorRow) → Among d u.descriptors → IsOpenIn now d → HasInstance (serial_of d) u
+  pub asked_there : (w : WaitingCall) → Among w u.waiting → HasOpened u w
   pub epochs : (d : DescriptorRow) → Among d u.descriptors → known d.descriptor.epoch

@@ -9,8 +9,9 @@ use Rattle.trace_book.specs.Same.{same_epoch}
 use Rattle.trace_book.specs.declared.call.Call.{Call}
 use Rattle.trace_book.specs.declared.call.Call.TheVariants as call
 use Rattle.trace_book.specs.declared.descriptor.Descriptor.{Descriptor}
+use Rattle.trace_book.specs.declared.descriptor.OneVersion.{OneVersion}
 use Rattle.trace_book.specs.declared.descriptor.Beginning.{Beginning}
-use Rattle.trace_book.specs.declared.descriptor.Beginning.TheVariants.{Denied, Uses, Walks}
+use Rattle.trace_book.specs.declared.descriptor.Beginning.TheVariants.{Denied, Uses, Walks, Reopens, Frees}
 use Rattle.call_rules.specs.Words.{is_too_long}
 
 abbrev pub free_or : ℕ → Option ℕ → Option Descriptor → Option ℕ
@@ -30,14 +31,37 @@ abbrev pub is_in : Option EpochId → EpochId → Bool
 is_in None e = false
 is_in (Some now) e = same_epoch now e
 
--- a call on a descriptor: it must be open, of the epoch that the site is in, and not only read where the call changes the
--- file, in this order
-abbrev pub begins_on : Bool → Option EpochId → Option Descriptor → Beginning
-begins_on changes now None = Denied BadDescriptor
-begins_on changes now (Some d) = cond (is_in now d.epoch) (cond changes (by_mode d) (Uses d.epoch d.inst)) (Denied (Stale d.epoch))
+-- A call on a descriptor that is open works on its instance while the site is in the epoch of that: the descriptor is held. One that isn't
+-- held is stale, but a steady one isn't.
+abbrev pub held_or : Option EpochId → Descriptor → Beginning → Beginning
+held_or now d otherwise = cond (is_in now d.epoch) (Uses d.epoch d.inst) otherwise
+
+abbrev pub stale_or : (OneVersion → Beginning) → EpochId → Option OneVersion → Beginning
+stale_or steady last None = Denied (Stale last)
+stale_or steady last (Some version) = steady version
+
+-- a read by a steady one opens its version again, so the site must be in an epoch
+abbrev pub begins_again : Option EpochId → EpochId → OneVersion → Beginning
+begins_again None last version = Denied NoPartition
+begins_again (Some e) last version = Reopens version last
+
+abbrev pub begins_read : Option EpochId → Option Descriptor → Beginning
+begins_read now None = Denied BadDescriptor
+begins_read now (Some d) = held_or now d (stale_or (begins_again now d.epoch) d.epoch d.steady)
+
+-- a close of a steady one asks nothing of anybody
+abbrev pub begins_close : Option EpochId → Option Descriptor → Beginning
+begins_close now None = Denied BadDescriptor
+begins_close now (Some d) = held_or now d (stale_or (λ version. Frees) d.epoch d.steady)
+
+-- what changes the file is refused where the descriptor is only read: of a steady one at once, of another one after it was found to be stale
+abbrev pub begins_change : Option EpochId → Option Descriptor → Beginning
+begins_change now None = Denied BadDescriptor
+begins_change now (Some d) = by d.steady
   where
-    by_mode : Descriptor → Beginning
-    by_mode d = cond (is_read d.mode) (Denied ReadOnly) (Uses d.epoch d.inst)
+    by : Option OneVersion → Beginning
+    by None = cond (is_in now d.epoch) (cond (is_read d.mode) (Denied ReadOnly) (Uses d.epoch d.inst)) (Denied (Stale d.epoch))
+    by (Some version) = Denied ReadOnly
 
 -- a call that walks a path: the site must be in an epoch
 abbrev pub begins_walk : Option EpochId → CallId → Beginning
@@ -53,12 +77,12 @@ begins_open now id (Some fd) = begins_walk now id
 -- past the greatest size is refused by its words, before any table is asked, and so is no use of a descriptor.
 abbrev pub beginning : (ℕ → Option Descriptor) → Option EpochId → CallId → Call → Beginning
 beginning table now id (call.Open path mode) = begins_open now id (lowest_free table)
-beginning table now id (call.Read fd at len) = begins_on false now (table fd)
-beginning table now id (call.Write fd at bytes) = cond (is_too_long (call.Write fd at bytes)) (Denied TooLong) (begins_on true now (table fd))
-beginning table now id (call.Cut fd len) = begins_on true now (table fd)
-beginning table now id (call.Commit fd) = begins_on true now (table fd)
-beginning table now id (call.Abort fd) = begins_on true now (table fd)
-beginning table now id (call.Close fd) = begins_on false now (table fd)
+beginning table now id (call.Read fd at len) = begins_read now (table fd)
+beginning table now id (call.Write fd at bytes) = cond (is_too_long (call.Write fd at bytes)) (Denied TooLong) (begins_change now (table fd))
+beginning table now id (call.Cut fd len) = begins_change now (table fd)
+beginning table now id (call.Commit fd) = begins_change now (table fd)
+beginning table now id (call.Abort fd) = begins_change now (table fd)
+beginning table now id (call.Close fd) = begins_close now (table fd)
 beginning table now id (call.Create path sites) = begins_walk now id
 beginning table now id (call.MakeDir path) = begins_walk now id
 beginning table now id (call.Unlink path) = begins_walk now id

@@ -7,6 +7,7 @@ pub mod Making
 pub mod Removing
 pub mod Naming
 pub mod Opening
+pub mod Reopening
 pub mod Mending
 pub mod Mailing
 pub mod Scripts

@@ -25,7 +25,7 @@ use Rattle.trace_book.specs.declared.reply.Reply.{Reply}
 use Rattle.trace_book.specs.declared.reply.Reply.TheVariants as reply
 use Rattle.trace_book.specs.Names.{plain_name}
 use Rattle.call_rules.specs.declared.answer.Answer.{Answer}
-use Rattle.call_rules.specs.declared.answer.Answer.TheVariants.{Showed, Described, Opened, Did, Ended, Refused}
+use Rattle.call_rules.specs.declared.answer.Answer.TheVariants.{Showed, Described, Opened, Reading, Did, Ended, Refused}
 use Rattle.call_rules.specs.declared.want.Want.{Want}
 use Rattle.call_rules.specs.declared.want.Want.TheVariants.{Look, Open, Do, Close, Give, Never}
 use Rattle.call_rules.specs.Walks.{is_first_root}
@@ -35,11 +35,18 @@ abbrev pub mode_of : OpenMode → Mode
 mode_of how.Read = mode.Read
 mode_of how.Write = mode.Write
 mode_of (how.Resolve site) = mode.Resolve
+mode_of how.Steady = mode.Read
+
+-- the words ask for a descriptor that reads one version and outlives changes of partition
+abbrev pub is_steady : Call → Bool
+is_steady (call.Open path how.Steady) = true
+is_steady _ = false
 
 abbrev pub opens_file : OpenMode → Option ℕ → FileId → Kind → List Answer → Want
 opens_file how free file Dir answers = Give (reply.No IsDir)
 opens_file how free file File [] = Open file how
 opens_file how (Some fd) file File (Opened i ino ∷ []) = Give (reply.Opened fd)
+opens_file how (Some fd) file File (Reading i version ∷ []) = Give (reply.Opened fd)
 opens_file how free file File (Refused why ∷ []) = Give (reply.No why)
 opens_file how free file File (_ ∷ rest) = Never
 

@@ -1,12 +1,14 @@
 -- A small cluster and some words, to see what the rules say of them.
-use Rattle.std.specs.Prelude.{ℕ, true, List, [], ◌∷◌, Option, None, Some, codes}
+use Rattle.std.specs.Prelude.{ℕ, ◌==◌, true, cond, List, [], ◌∷◌, Option, None, Some, codes}
 use Rattle.locus_ids.specs.declared.ids.CallId.{CallId}
 use Rattle.locus_ids.specs.declared.ids.EpochId.{EpochId}
 use Rattle.locus_ids.specs.declared.ids.FileId.{FileId}
+use Rattle.locus_ids.specs.declared.ids.Mode.TheVariants as mode
 use Rattle.locus_ids.specs.declared.ids.Serial.{Serial}
 use Rattle.locus_ids.specs.declared.config.Mount.{Mount}
 use Rattle.trace_book.specs.declared.call.Call.{Call}
 use Rattle.trace_book.specs.declared.descriptor.Descriptor.{Descriptor}
+use Rattle.trace_book.specs.declared.descriptor.OneVersion.{OneVersion}
 use Rattle.call_rules.specs.declared.answer.Answer.{Answer}
 use Rattle.call_rules.specs.declared.want.Want.{Want}
 use Rattle.call_rules.specs.Descriptors.{beginning}
@@ -34,3 +36,18 @@ file group ino = record { group = group; ino = ino }
 
 abbrev pub inst : ℕ → Serial
 inst n = record { us = 1; serial = n }
+
+-- Steady reading: descriptor 0 keeps the first version of a file, and an instance of an earlier epoch held it last.
+
+abbrev pub earlier_epoch : EpochId
+earlier_epoch = record { number = 1; site = 1; boot = 0 }
+
+abbrev pub version : ℕ → OneVersion
+version n = record { file = file 0 2; stamp = record { site = 1; n = n } }
+
+abbrev pub one_steady : ℕ → Option Descriptor
+one_steady fd = cond (fd == 0) (Some (record { mode = mode.Read; epoch = earlier_epoch; inst = inst 1; steady = Some (version 1) })) None
+
+-- what a call asks of a process with this descriptor alone
+abbrev pub asks_steadily : Option EpochId → Call → List Answer → Want
+asks_steadily now words answers = wants usr (λ group. true) (Some 1) words (beginning one_steady now first_call words) answers

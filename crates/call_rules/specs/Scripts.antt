@@ -8,7 +8,7 @@ use Rattle.locus_ids.specs.declared.refusal.Refusal.TheVariants.{BadName, NoStor
 use Rattle.trace_book.specs.declared.call.Call.{Call}
 use Rattle.trace_book.specs.declared.call.Call.TheVariants as call
 use Rattle.trace_book.specs.declared.descriptor.Beginning.{Beginning}
-use Rattle.trace_book.specs.declared.descriptor.Beginning.TheVariants.{Denied, Uses, Walks}
+use Rattle.trace_book.specs.declared.descriptor.Beginning.TheVariants.{Denied, Uses, Walks, Reopens, Frees}
 use Rattle.trace_book.specs.declared.reply.Reply.TheVariants as reply
 use Rattle.trace_book.specs.Names.{components, last_of}
 use Rattle.call_rules.specs.declared.answer.Answer.{Answer}
@@ -22,6 +22,7 @@ use Rattle.call_rules.specs.Naming.{rename_wants}
 use Rattle.call_rules.specs.Opening.{opens_file, lists, describes, shown_in, uses_wants}
 use Rattle.call_rules.specs.Mending.{mend_wants}
 use Rattle.call_rules.specs.Mailing.{shown_messages, mail_wants}
+use Rattle.call_rules.specs.Reopening.{reopen_wants}
 
 -- the call of this name, which walks a path, or mends; `free` is the lowest free descriptor of its process
 abbrev pub path_wants : List Mount → Option ℕ → CallId → Call → List Answer → Want
@@ -38,11 +39,13 @@ path_wants mounts free id (call.Mail path bytes) answers = mail_wants mounts id 
 path_wants mounts free id (call.Mails path) answers = walked mounts (components path) answers (lists shown_messages (last_of (components path)))
 path_wants mounts free id _ answers = Never
 
--- by where the call began: a refusal there is its reply
+-- by where the call began: a refusal there is its reply, and so is the close of what no instance holds
 abbrev pub begun_wants : List Mount → Option ℕ → Call → Beginning → List Answer → Want
 begun_wants mounts free words (Denied why) answers = Give (reply.No why)
 begun_wants mounts free words (Uses epoch inst) answers = uses_wants words inst answers
 begun_wants mounts free words (Walks id) answers = path_wants mounts free id words answers
+begun_wants mounts free words (Reopens kept last) answers = reopen_wants words kept last answers
+begun_wants mounts free words Frees answers = Give (reply.Closed None)
 
 -- a name that isn't allowed is refused before anything else
 abbrev pub named_wants : List Mount → Option ℕ → Call → Beginning → List Answer → Want

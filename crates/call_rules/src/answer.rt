@@ -1,5 +1,5 @@
 use locus_ids::{Kind, Names, Refusal, Serial, Stamp, Stamps};
-use trace_book::Outcome;
+use trace_book::{OneVersion, Outcome};
 
 /// What a request of a call was answered.
 #[derive(Drop)]
@@ -12,8 +12,10 @@ pub enum Answer {
     Described { kind: Kind, size: u32, stamp: Stamp },
     /// A look at the whole content of a version, which stays at the site that asked.
     Brought,
-    /// An open or a make: the instance, and its file's inode.
+    /// An open but to read or to mend, or a make: the instance, and its file's inode.
     Opened { inst: Serial, ino: u16 },
+    /// An open to read: the instance, and the version that it reads.
+    Reading { inst: Serial, version: OneVersion },
     /// An open to mend: the instance, and the stamps of the versions that are kept, ascending.
     Merging { inst: Serial, kept: Stamps },
     /// An operation that was carried out.

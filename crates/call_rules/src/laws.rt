@@ -20,7 +20,7 @@ ghost use Rattle.call_rules.specs.Paths.{is_component, is_path};
 ghost use Rattle.call_rules.specs.Words.{refused_by_words, is_badly_named};
 ghost use Rattle.call_rules.specs.Descriptors.{beginning};
 ghost use Rattle.call_rules.specs.Scripts.{wants};
-ghost use Rattle.call_rules.specs.Samples.{usr, asks, file, inst};
+ghost use Rattle.call_rules.specs.Samples.{asks, asks_steadily, earlier_epoch, file, first_epoch, inst, usr, version};
 
 /// What the words of a call refuse is its reply, whatever its site's tables are and wherever packs stand.
 pub fn words_refuse_first()
@@ -71,4 +71,20 @@ pub fn scripts_by_sample()
     ensures emptied_first { asks (words.RemoveDir (codes "/a@2")) (answer.Opened (inst 1) 1 ∷ answer.Did (outcome.Found 2 kind.Dir) ∷ answer.Opened (inst 2) 2 ∷ []) ≡ want.Do (inst 2) op.Empty }
     ensures removed_by_name { asks (words.RemoveDir (codes "/a@2")) (answer.Opened (inst 1) 1 ∷ answer.Did (outcome.Found 2 kind.Dir) ∷ answer.Opened (inst 2) 2 ∷ answer.Did outcome.Done ∷ []) ≡ want.Do (inst 1) (op.Remove (codes "a") 2) }
     ensures not_answered_so { asks (words.Stat (codes "/a")) (answer.Brought ∷ []) ≡ want.Never }
+{}
+
+/// What calls on a steady descriptor that no instance holds ask.
+pub fn steady_calls_by_sample()
+    ensures opened_again { asks_steadily (Some first_epoch) (words.Read 0 0 9) [] ≡ want.Open (file 0 2) how.Read }
+    ensures read_where_same { asks_steadily (Some first_epoch) (words.Read 0 0 9) (answer.Reading (inst 2) (version 1) ∷ []) ≡ want.Do (inst 2) (op.Read 0 9) }
+    ensures read_told { asks_steadily (Some first_epoch) (words.Read 0 0 9) (answer.Reading (inst 2) (version 1) ∷ answer.Did (outcome.Data (codes "a")) ∷ []) ≡ want.Give (reply.Data (codes "a")) }
+    ensures closed_where_other { asks_steadily (Some first_epoch) (words.Read 0 0 9) (answer.Reading (inst 2) (version 2) ∷ []) ≡ want.Close (inst 2) }
+    ensures stale_where_other { asks_steadily (Some first_epoch) (words.Read 0 0 9) (answer.Reading (inst 2) (version 2) ∷ answer.Ended None ∷ []) ≡ want.Give (reply.No (refusal.Stale earlier_epoch)) }
+    ensures refused_as_it_is { asks_steadily (Some first_epoch) (words.Read 0 0 9) (answer.Refused (refusal.Busy 1 1) ∷ []) ≡ want.Give (reply.No (refusal.Busy 1 1)) }
+    ensures read_alone { asks_steadily None (words.Read 0 0 9) [] ≡ want.Give (reply.No refusal.NoPartition) }
+    ensures written_alone { asks_steadily None (words.Write 0 0 (codes "a")) [] ≡ want.Give (reply.No refusal.ReadOnly) }
+    ensures committed { asks_steadily (Some first_epoch) (words.Commit 0) [] ≡ want.Give (reply.No refusal.ReadOnly) }
+    ensures closed_alone { asks_steadily None (words.Close 0) [] ≡ want.Give (reply.Closed None) }
+    ensures held_reads { asks_steadily (Some earlier_epoch) (words.Read 0 0 9) [] ≡ want.Do (inst 1) (op.Read 0 9) }
+    ensures held_closes { asks_steadily (Some earlier_epoch) (words.Close 0) [] ≡ want.Close (inst 1) }
 {}

@@ -4,7 +4,7 @@ use Rattle.locus_ids.specs.declared.ids.Serial.{Serial}
 use Rattle.locus_ids.specs.declared.refusal.Refusal.{Refusal}
 use Rattle.trace_book.specs.declared.reply.Reply.{Reply}
 use Rattle.call_rules.specs.declared.answer.Answer.{Answer}
-use Rattle.call_rules.specs.declared.answer.Answer.TheVariants.{Entered, Showed, Described, Brought, Opened, Merging, Did, Ended, Refused}
+use Rattle.call_rules.specs.declared.answer.Answer.TheVariants.{Entered, Showed, Described, Brought, Opened, Reading, Merging, Did, Ended, Refused}
 use Rattle.call_rules.specs.Closing.{Unchanged, close_all, give_up}
 
 pub refused_close : (i : Serial) (own : List Serial) (r : Reply) (why : Refusal) (rest : List Answer) → close_all (i ∷ own) r (Refused why ∷ rest) ≡ give_up (map Unchanged own) why rest
@@ -17,5 +17,6 @@ refused_close i (j ∷ own) r why (Showed names ∷ rest) = refl
 refused_close i (j ∷ own) r why (Described kind size stamp ∷ rest) = refl
 refused_close i (j ∷ own) r why (Brought ∷ rest) = refl
 refused_close i (j ∷ own) r why (Opened inst ino ∷ rest) = refl
+refused_close i (j ∷ own) r why (Reading inst version ∷ rest) = refl
 refused_close i (j ∷ own) r why (Merging inst kept ∷ rest) = refl
 refused_close i (j ∷ own) r why (Did result ∷ rest) = refl

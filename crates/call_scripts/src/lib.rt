@@ -10,6 +10,7 @@ mod opening;
 mod paths;
 mod reaching;
 mod removing;
+mod reopening;
 mod script;
 mod showing;
 mod using;

@@ -1,4 +1,6 @@
-ghost use Rattle.std.specs.Prelude.{◌≡◌, ◌∷◌, [], List, IfOk};
+ghost use Rattle.std.specs.Prelude.{◌≡◌, ◌∷◌, ℕ, [], List, Some, None, IfOk};
+ghost use Rattle.trace_book.specs.declared.reply.Reply.TheVariants as reply;
+ghost use Rattle.call_rules.specs.declared.want.Want.TheVariants as want;
 ghost use Rattle.call_rules.specs.Mailing.{shown_messages};
 ghost use Rattle.call_rules.specs.Opening.{describes, lists, opens_file, shown_in};
 
@@ -28,12 +30,13 @@ pub(crate) fn opens_file(
     }
     match answers {
         [] => Ok(Want::Open { file, mode }),
-        [Answer::Opened { inst: _, ino: _ }] => match free {
-            Some(fd) => Ok(Want::Give {
-                reply: Reply::Opened { fd },
-            }),
-            None => Ok(Want::Never),
-        },
+        [Answer::Opened { inst: _, ino: _ }] => Ok(numbered(free)),
+        [
+            Answer::Reading {
+                inst: _,
+                version: _,
+            },
+        ] => Ok(numbered(free)),
         [Answer::Refused { why }] => {
             let why = why.copy()?;
             Ok(Want::Give {
@@ -41,6 +44,19 @@ pub(crate) fn opens_file(
             })
         }
         _ => Ok(Want::Never),
+    }
+}
+
+/// The reply to an open that was granted.
+fn numbered(free: Option<u16>) -> Want
+    ensures none { free ≡ None → result ≡ want.Never }
+    ensures some { (fd : ℕ) → free ≡ Some fd → result ≡ want.Give (reply.Opened fd) }
+{
+    match free {
+        Some(fd) => Want::Give {
+            reply: Reply::Opened { fd },
+        },
+        None => Want::Never,
     }
 }
 

@@ -1,4 +1,4 @@
-ghost use Rattle.std.specs.Prelude.{◌≡◌, ◌∷◌, ◌++◌, [], List, IfOk, OnOk};
+ghost use Rattle.std.specs.Prelude.{◌≡◌, ◌∷◌, ◌++◌, [], List, IfOk, OnOk, take, OnErr};
 ghost use Rattle.trace_book.specs.Messages.{message_name};
 ghost use Rattle.trace_book.specs.Names.{components};
 ghost use Rattle.call_rules.specs.declared.answer.Answer.{Answer};
@@ -11,6 +11,7 @@ use crate::paths::{
     Message, list_wants, mail_wants, mails_wants, make_wants, open_wants, remove_wants,
     rename_wants, stat_wants,
 };
+use crate::reopening::reopen_wants;
 use crate::using::uses_wants;
 use crate::words::{is_badly_named, path_of};
 use call_rules::{Answer, Want};
@@ -63,6 +64,13 @@ impl Script {
         &self.words
     }
 
+    /// Where it began.
+    pub fn begins(&self) -> &Beginning
+        ensures { result.now ≡ self.now.begins }
+    {
+        &self.begins
+    }
+
     /// What its requests were answered so far.
     pub fn answers(&self) -> &[Answer]
         ensures { result.now ≡ self.now.answers }
@@ -74,6 +82,16 @@ impl Script {
     pub fn answer(&mut self, answer: Answer) -> Result<(), NoMemory>
         ensures { OnOk result (self.new ≡ record self.old { answers = self.old.answers ++ answer ∷ [] }) }
     {
+        self.answers.push(answer)?;
+        Ok(())
+    }
+
+    /// The first answers, so many or all, stay, and this one comes after them. After `NoMemory` it doesn't.
+    pub fn answer_after(&mut self, many: usize, answer: Answer) -> Result<(), NoMemory>
+        ensures ok { OnOk result (self.new ≡ record self.old { answers = take many self.old.answers ++ answer ∷ [] }) }
+        ensures err { OnErr result (self.new ≡ record self.old { answers = take many self.old.answers }) }
+    {
+        self.answers.truncate(many);
         self.answers.push(answer)?;
         Ok(())
     }
@@ -106,6 +124,12 @@ impl Script {
                 })
             }
             Beginning::Uses { epoch: _, inst } => uses_wants(&self.words, *inst, answers),
+            Beginning::Reopens { version, last } => {
+                reopen_wants(&self.words, *version, *last, answers)
+            }
+            Beginning::Frees => Ok(Want::Give {
+                reply: Reply::Closed { stamp: None },
+            }),
             Beginning::Walks { call } => {
                 let alloc = *self.answers.allocator();
                 let walk = Walk {

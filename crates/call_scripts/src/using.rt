@@ -61,7 +61,7 @@ fn op_reply(inst: Serial, answers: &[Answer]) -> Result<Want, NoMemory>
     }
 }
 
-fn reply_to(outcome: &Outcome) -> Result<Reply, NoMemory>
+pub(crate) fn reply_to(outcome: &Outcome) -> Result<Reply, NoMemory>
     ensures { IfOk result (λ r. r ≡ reply_to outcome.now) }
 {
     match outcome {

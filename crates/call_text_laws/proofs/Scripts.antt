@@ -11,6 +11,7 @@ use Rattle.plain_facts.proofs.Numbers.{at_most}
 use Rattle.locus_ids.specs.Sizes.{file_bytes_max, sites_max}
 use Rattle.locus_ids.specs.declared.config.Mount.{Mount}
 use Rattle.locus_ids.specs.declared.ids.CallId.{CallId}
+use Rattle.locus_ids.specs.declared.ids.EpochId.{EpochId}
 use Rattle.locus_ids.specs.declared.ids.FileId.{FileId}
 use Rattle.locus_ids.specs.declared.ids.Kind.{Kind}
 use Rattle.locus_ids.specs.declared.ids.Kind.TheVariants.{File, Dir}
@@ -25,6 +26,7 @@ use Rattle.trace_book.specs.Names.{but_last, components, is_name, last_of, plain
 use Rattle.trace_book.specs.declared.call.Call.{Call}
 use Rattle.trace_book.specs.declared.call.Call.TheVariants as call
 use Rattle.trace_book.specs.declared.call.OpenMode.{OpenMode}
+use Rattle.trace_book.specs.declared.descriptor.OneVersion.{OneVersion}
 use Rattle.trace_book.specs.declared.descriptor.Beginning.{Beginning}
 use Rattle.trace_book.specs.declared.descriptor.Beginning.TheVariants as begins
 use Rattle.trace_book.specs.declared.operation.Op.{Op}
@@ -41,6 +43,8 @@ use Rattle.call_rules.specs.Mailing.{shown_messages, tells_name}
 use Rattle.call_rules.specs.Making.{after_insert, after_make, after_probe, changes_dir, fills, opens_dir, probes}
 use Rattle.call_rules.specs.Mending.{after_mend, brings, mend_wants}
 use Rattle.call_rules.specs.Naming.{renames}
+use Rattle.call_rules.specs.of_commit_graph.Versions.{same_stamp}
+use Rattle.call_rules.specs.Reopening.{reads_again, reopened, reopens, reopen_wants}
 use Rattle.call_rules.specs.Opening.{Shows, before_name, close_wants, describes, lists, op_wants, opens_file, reply_to, shown_in, uses_wants, with_mounts, with_name}
 use Rattle.call_rules.specs.Paths.{is_path, path_bytes_max}
 use Rattle.call_rules.specs.Paths as rules
@@ -52,7 +56,7 @@ use Rattle.call_rules.specs.declared.answer.Answer.{Answer}
 use Rattle.call_rules.specs.declared.answer.Answer.TheVariants as answer
 use Rattle.call_rules.specs.declared.want.Want.{Want}
 use Rattle.call_rules.specs.declared.want.Want.TheVariants as want
-use Rattle.record_reading.specs.Ranges.{is_any_site, is_call_id, is_counted, is_file, is_group, is_inode, is_mend, is_refusal, is_reply, is_some_data, is_stamp, is_words, number_max}
+use Rattle.record_reading.specs.Ranges.{is_any_site, is_call_id, is_counted, is_epoch, is_file, is_group, is_inode, is_mend, is_refusal, is_reply, is_some_data, is_stamp, is_words, number_max}
 use Rattle.mailbox_join.proofs.Naming.{named}
 use Rattle.call_text_laws.specs.Wants.{is_answer, is_asked_op, is_asked_what, is_begun, is_free, is_gift, is_mount, is_want}
 use Rattle.call_text_laws.proofs.Names.{component_text, name_text, plain_text}
@@ -247,6 +251,7 @@ opens_text : (m : OpenMode) (free : Option ℕ) (file : FileId) (kind : Kind) �
 opens_text m free file Dir f k answers h = refl
 opens_text m free file File f k [] h = k
 opens_text m (Some fd) file File f k (answer.Opened i ino ∷ []) h = f
+opens_text m (Some fd) file File f k (answer.Reading i version ∷ []) h = f
 opens_text m free file File f k (answer.Refused why ∷ []) h = h.0
 opens_text m free file File f k (_ ∷ rest) h = refl
 
@@ -526,10 +531,35 @@ uses_says (call.Abort fd) i k = op_text i op.Abort refl
 uses_says (call.Close fd) i k = close_text i
 uses_says _ i k = λ answers h. refl
 
+reads_again_text : (i : Serial) (at len : ℕ) → is_asked_op (op.Read at len) ≡ true → Always (reads_again i at len)
+reads_again_text i at len k [] h = k
+reads_again_text i at len k (answer.Did result ∷ []) h = outcome_text result h.0
+reads_again_text i at len k (answer.Refused why ∷ rest) h = one_up i why h.0 rest h.1
+reads_again_text i at len k (_ ∷ rest) h = refl
+
+reopened_text : (kept granted : OneVersion) (last : EpochId) (at len : ℕ) (i : Serial) → is_asked_op (op.Read at len) ≡ true → is_epoch last ≡ true → Always (reopened kept last at len i granted)
+reopened_text kept granted last at len i k e answers h = over (same_stamp granted.stamp kept.stamp)
+  where
+    over : (b : Bool) → is_want (cond b (reads_again i at len answers) (give_up (Unchanged i ∷ []) (refusal.Stale last) answers)) ≡ true
+    over true = reads_again_text i at len k answers h
+    over false = one_up i (refusal.Stale last) e answers h
+
+reopens_text : (kept : OneVersion) (last : EpochId) (at len : ℕ) → is_asked_op (op.Read at len) ≡ true → is_file kept.file ≡ true → is_epoch last ≡ true → Always (reopens kept last at len)
+reopens_text kept last at len k f e [] h = f
+reopens_text kept last at len k f e (answer.Reading i granted ∷ rest) h = reopened_text kept granted last at len i k e rest h.1
+reopens_text kept last at len k f e (answer.Refused why ∷ []) h = h.0
+reopens_text kept last at len k f e (_ ∷ rest) h = refl
+
+reopen_says : (words : Call) (kept : OneVersion) (last : EpochId) → Words words → is_file kept.file ≡ true → is_epoch last ≡ true → Always (reopen_wants words kept last)
+reopen_says (call.Read fd at len) kept last k f e = reopens_text kept last at len (read_text sites_max fd at len k) f e
+reopen_says _ kept last k f e = λ answers h. refl
+
 begun_says : (mounts : List Mount) (free : Option ℕ) (words : Call) (b : Beginning) → list_all is_mount mounts ≡ true → is_free free ≡ true → is_badly_named mounts words ≡ false → Words words → is_begun b ≡ true → Always (begun_wants mounts free words b)
 begun_says mounts free words (begins.Denied why) m f named k b answers h = b
 begun_says mounts free words (begins.Uses e i) m f named k b answers h = uses_says words i k answers h
 begun_says mounts free words (begins.Walks id) m f named k b answers h = path_says mounts free id words m f (message_text id b) named k answers h
+begun_says mounts free words (begins.Reopens kept last) m f named k b answers h = (let p : (is_file kept.file ≡ true) × (is_epoch last ≡ true) = both_true (is_file kept.file) (is_epoch last) b in reopen_says words kept last k p.0 p.1 answers h)
+begun_says mounts free words begins.Frees m f named k b answers h = refl
 
 named_says : (mounts : List Mount) (free : Option ℕ) (words : Call) (b : Beginning) (answers : List Answer) → list_all is_mount mounts ≡ true → is_free free ≡ true → Words words → is_begun b ≡ true → Answered answers → is_want (named_wants mounts free words b answers) ≡ true
 named_says mounts free words b answers m f k begun h = over (is_badly_named mounts words) refl

@@ -18,7 +18,7 @@ use Rattle.call_rules.specs.declared.answer.Answer.{Answer}
 use Rattle.call_rules.specs.declared.answer.Answer.TheVariants as answer
 use Rattle.call_rules.specs.declared.want.Want.{Want}
 use Rattle.call_rules.specs.declared.want.Want.TheVariants as want
-use Rattle.record_reading.specs.Ranges.{is_call_id, is_data, is_file, is_group, is_inode, is_optional_stamp, is_refusal, is_reply, is_short, is_some_data, is_stamp, number_max}
+use Rattle.record_reading.specs.Ranges.{is_call_id, is_data, is_epoch, is_file, is_group, is_inode, is_optional_stamp, is_refusal, is_reply, is_short, is_some_data, is_stamp, number_max}
 
 -- ---- what calls are answered
 
@@ -36,6 +36,7 @@ is_answer (answer.Showed names) = list_all is_component names
 is_answer (answer.Described kind size stamp) = is_between 0 number_max size && is_stamp stamp
 is_answer answer.Brought = true
 is_answer (answer.Opened inst ino) = is_inode ino
+is_answer (answer.Reading inst version) = is_file version.file && is_stamp version.stamp
 is_answer (answer.Merging inst kept) = list_all is_stamp kept
 is_answer (answer.Did result) = is_gift result
 is_answer (answer.Ended stamp) = is_optional_stamp stamp
@@ -48,6 +49,8 @@ abbrev pub is_begun : Beginning → Bool
 is_begun (begins.Denied why) = is_refusal why
 is_begun (begins.Uses epoch inst) = true
 is_begun (begins.Walks id) = is_call_id id
+is_begun (begins.Reopens kept last) = is_file kept.file && is_epoch last
+is_begun begins.Frees = true
 
 -- a number of a descriptor, where one is free
 abbrev pub is_free : Option ℕ → Bool

@@ -3,6 +3,8 @@ use Rattle.std.proofs.Common.{◌≡◌, ℕ, ◌==◌, nat_lt, ◌⊎◌, Bool,
 use Rattle.locus_ids.specs.declared.ids.EpochId.{EpochId}
 use Rattle.trace_book.specs.declared.call.Call.{Call}
 use Rattle.trace_book.specs.declared.call.Call.TheVariants as call
+use Rattle.trace_book.specs.declared.descriptor.Beginning.{Beginning}
+use Rattle.trace_book.specs.declared.descriptor.Beginning.TheVariants as begins
 use Rattle.trace_book.specs.declared.operation.Op.{Op}
 use Rattle.trace_book.specs.declared.reply.Reply.{Reply}
 use Rattle.trace_book.specs.declared.reply.Reply.TheVariants as reply
@@ -14,7 +16,7 @@ use Rattle.wire_messages.specs.declared.packet.Packet.{Packet}
 use Rattle.role_steps.specs.Tables.{with_row, first_that}
 use Rattle.role_steps.specs.Views.{Frame, Users, SiteView, Outcome, quiet}
 use Rattle.role_steps.specs.Requests.{descriptors_of, waiting_key, user_instance, with_user_instance, without_waiting, request_packets, asks, asks_op_of, asks_close_of}
-use Rattle.role_steps.specs.Using.{is_hopeless, without_hope, after_reply, replies, asks_want, next_want, goes_on, frees, accepted, on_call, own_call}
+use Rattle.role_steps.specs.Using.{is_hopeless, without_hope, after_reply, holds_again, replies, asks_want, next_want, goes_on, frees, accepted, on_call, own_call}
 use Rattle.role_steps.specs.Mends.{starts_mend_of, starts_mend, starts_mends_in, starts_mends, has_mend_in, wants_mend, row_file}
 use Rattle.role_steps.specs.declared.synchronizing.FileRow.{FileRow}
 use Rattle.role_steps.specs.declared.synchronizing.SyncTable.{SyncTable}
@@ -85,9 +87,14 @@ hope_waiting : (words : Call) (why : Refusal) (u : Users) → (without_hope word
 hope_waiting (call.Mend file) why u = elim (is_hopeless why) as (λ b. (cond b (record u { hopeless = u.hopeless ++ file ∷ [] }) u).waiting ≡ u.waiting) [ true ↦ refl | false ↦ refl ]
 hope_waiting _ why u = refl
 
+again_waiting : (f : Frame) (w : WaitingCall) (b : Beginning) (words : Call) (u : Users) → (holds_again f w b words u).waiting ≡ u.waiting
+again_waiting f w (begins.Reopens version last) (call.Read fd at len) u = refl
+again_waiting f w _ words u = refl
+
 reply_waiting : (f : Frame) (w : WaitingCall) (r : Reply) (u : Users) → (after_reply f w r u).waiting ≡ u.waiting
 reply_waiting f w (reply.Opened fd) u = refl
 reply_waiting f w (reply.No why) u = hope_waiting w.words why u
+reply_waiting f w (reply.Data bytes) u = again_waiting f w w.begins w.words u
 reply_waiting f w _ u = refl
 
 replies_calls : (f : Frame) (w : WaitingCall) (r : Reply) (u : Users) → CallsAsk f u.waiting (replies f w r u).view.waiting (replies f w r u).sent

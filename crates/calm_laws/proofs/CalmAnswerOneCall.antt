@@ -112,6 +112,8 @@ begun_its : (c : Config) (file : FileId) (b : Beginning) (xs : Answers) → Want
 begun_its c file (begins.Denied why) xs = tt
 begun_its c file (begins.Uses e i) xs = tt
 begun_its c file (begins.Walks id) xs = mend_its file xs
+begun_its c file (begins.Reopens kept last) xs = tt
+begun_its c file begins.Frees xs = tt
 
 script_its : (c : Config) (before : _) (file : FileId) (w : Waiting) (o : Option Beginning) (xs : Answers) → w.words ≡ call.Mend file → WantsOf file (script_as c before (Some w) o None xs)
 script_its c before file w None xs is = tt

@@ -6,6 +6,8 @@ use Rattle.locus_ids.specs.declared.ids.Stamp.{Stamp}
 use Rattle.locus_ids.specs.declared.refusal.Refusal.{Refusal}
 use Rattle.trace_book.specs.declared.call.Call.{Call}
 use Rattle.trace_book.specs.declared.call.Call.TheVariants as call
+use Rattle.trace_book.specs.declared.descriptor.Beginning.{Beginning}
+use Rattle.trace_book.specs.declared.descriptor.Beginning.TheVariants as begins
 use Rattle.trace_book.specs.declared.operation.Op.{Op}
 use Rattle.trace_book.specs.declared.operation.Outcome.{Outcome as Result}
 use Rattle.trace_book.specs.declared.reply.Reply.{Reply}
@@ -23,7 +25,7 @@ use Rattle.wire_messages.specs.declared.body.LookAnswer.TheVariants as looked
 use Rattle.role_steps.specs.Own.{Every}
 use Rattle.role_steps.specs.Requests.{instance_serial, waiting_key, without_waiting, user_instance, with_user_instance, without_user_instance, descriptors_of, asks, asks_open, next_request, seen_by, asks_op_of, asks_close_of}
 use Rattle.role_steps.specs.Tables.{first_that}
-use Rattle.role_steps.specs.Using.{is_hopeless, without_hope, after_reply, replies, asks_want, next_want, goes_on, frees, accepted, on_call, with_answer, takes_answer, takes_open, on_open_done_of, on_open_done, on_op_done_of, on_op_done, on_close_done_of, on_close_done, looks_again, with_brought, content_answer, takes_look, on_look_done_of, on_look_done, asks_open_of, asks_op_number, asks_take, op_answer, close_answer, opened_answer, kept_for, mended_file, own_call}
+use Rattle.role_steps.specs.Using.{is_hopeless, without_hope, after_reply, holds_again, replies, asks_want, next_want, goes_on, frees, accepted, on_call, with_answer, takes_answer, takes_open, on_open_done_of, on_open_done, on_op_done_of, on_op_done, on_close_done_of, on_close_done, looks_again, with_brought, content_answer, takes_look, on_look_done_of, on_look_done, asks_open_of, asks_op_number, asks_take, op_answer, close_answer, opened_answer, kept_for, mended_file, own_call}
 use Rattle.role_steps.specs.Using as using
 use Rattle.role_steps.specs.Views.{Frame, Users, Outcome}
 use Rattle.role_steps.specs.declared.users.Asking.{Asking}
@@ -87,9 +89,14 @@ hope_held : (S : ℕ → Type 0) (words : Call) (why : Refusal) (u : Users) → 
 hope_held S (call.Mend file) why u h = cond_held S (is_hopeless why) (record u { hopeless = u.hopeless ++ file ∷ [] }) u (record { instances = h.instances; waiting = h.waiting }) h
 hope_held S _ why u h = h
 
+again_held : (S : ℕ → Type 0) (f : Frame) (w : WaitingCall) (b : Beginning) (words : Call) (u : Users) → AllHeld S u → AllHeld S (holds_again f w b words u)
+again_held S f w (begins.Reopens version last) (call.Read fd at len) u h = record { instances = h.instances; waiting = h.waiting }
+again_held S f w _ words u h = h
+
 reply_held : (S : ℕ → Type 0) (f : Frame) (w : WaitingCall) (r : Reply) (u : Users) → AllHeld S u → AllHeld S (after_reply f w r u)
 reply_held S f w (reply.Opened fd) u h = record { instances = h.instances; waiting = h.waiting }
 reply_held S f w (reply.No why) u h = hope_held S w.words why u h
+reply_held S f w (reply.Data bytes) u h = again_held S f w w.begins w.words u h
 reply_held S f w _ u h = h
 
 -- ---- a script goes on ----
@@ -128,7 +135,7 @@ Grants S serial (granted.No why) = Unit {0}
 takes_open_holds : (S : ℕ → Type 0) (f : Frame) (kept : FileId → List Stamp) (serial : ℕ) (w : WaitingCall) (a : Granted) (u : Users) → Grants S serial a → AllHeld S u → Holds S (takes_open f kept serial w a u)
 takes_open_holds S f kept serial w (granted.Open ss ino size stamp vector) u k h =
     let i : UserInstance = record { serial = serial; ss = ss; vector = vector; ops = 0 } in
-    takes_answer_holds S f w (opened_answer f serial ino (kept_for kept (mended_file w.words)) w.words) (with_user_instance i u) (record { instances = every_row (IsHeld S) instance_serial i u.instances k h.instances; waiting = h.waiting })
+    takes_answer_holds S f w (opened_answer f serial ino stamp (kept_for kept (mended_file w.words)) w.words w.asking) (with_user_instance i u) (record { instances = every_row (IsHeld S) instance_serial i u.instances k h.instances; waiting = h.waiting })
 takes_open_holds S f kept serial w (granted.No why) u k h = takes_answer_holds S f w _ u h
 
 open_done_of_holds : (S : ℕ → Type 0) (f : Frame) (kept : FileId → List Stamp) (serial : ℕ) (a : Granted) (o : Option WaitingCall) (u : Users) → Grants S serial a → AllHeld S u → Holds S (on_open_done_of f kept serial a o u)

@@ -70,6 +70,7 @@ make_opening c (want.Open file m) f set k h = absurd (other m h.1)
     other opens.Read e = cc
     other opens.Write e = cc
     other (opens.Resolve site) e = cc
+    other opens.Steady e = cc
 make_opening c (want.OpenToMend file) f set k h = absurd (other h.1)
   where
     other : how.Make set k ≡ how.Mend → ⊥

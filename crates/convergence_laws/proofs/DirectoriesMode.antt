@@ -1,6 +1,7 @@
 -- What a mend is granted is granted to mend its directory: its script asks no other open.
-use Rattle.std.proofs.Common.{◌≡◌, ℕ, Bool, true, false, cond, List, [], ◌∷◌, Option, Some, None, refl, sym, ◌∙◌, ap, subst}
+use Rattle.std.proofs.Common.{◌≡◌, ℕ, Bool, true, false, cond, List, [], ◌∷◌, Option, Some, None, refl, sym, ◌∙◌, ap, subst, inl, inr}
 use Rattle.role_steps.proofs.of_plain_facts.Tests.{true_false}
+use Rattle.role_steps.proofs.of_plain_facts.Options.{some_same}
 use Rattle.locus_ids.specs.declared.config.Config.{Config}
 use Rattle.locus_ids.specs.declared.ids.CallId.{CallId}
 use Rattle.locus_ids.specs.declared.ids.EpochId.{EpochId}
@@ -27,13 +28,15 @@ use Rattle.call_rules.specs.declared.want.Want.{Want}
 use Rattle.call_rules.specs.declared.want.Want.TheVariants as want
 use Rattle.the_run.specs.Worlds.{Line}
 use Rattle.tree_model.specs.Calls.{opening_of}
+use Rattle.tree_model.specs.declared.accepted.Waiting.{Waiting}
 use Rattle.lawful_trace.specs.Progress.{is_packed_in}
 use Rattle.lawful_trace.specs.TreeRows.{IsCallIn, is_open_of}
+use Rattle.lawful_trace.specs.Tables.{begun}
 use Rattle.tree_laws.specs.Following.{IsFollowed}
 use Rattle.tree_laws.specs.Past.{WasGranted}
 use Rattle.tree_laws.specs.Printed.{entries}
 use Rattle.order_laws.proofs.Standing.{same_file_eq}
-use Rattle.pull_laws.proofs.of_store_laws.ScriptNaming.{WalksSo, openers_walk, script_by}
+use Rattle.pull_laws.proofs.of_store_laws.ScriptNaming.{script_by, BeganOpening, BeganSo, openers_begin}
 use Rattle.pull_laws.proofs.of_one_tree_laws.RemovePlaced.{GrantedSo, Placed, granted_placed}
 use Rattle.holding_laws.proofs.MendMends.{IsMendCall}
 use Rattle.order_laws.specs.Joining.{PacksAreOfSites}
@@ -119,11 +122,22 @@ mend_mode c packs t h e d request i m f stamp ss was q mends = over q.accepted.w
     opens : (x : Descriptor) × (opening_of (entries t) d ≡ Some x)
     opens = opening_there t e d request i m f stamp ss was
 
-    walks : WalksSo t d
-    walks = openers_walk c t h d opens.0 opens.1
+    starts : BeganSo t d
+    starts = openers_begin c t h d opens.0 opens.1
+
+    -- a mend is no read
+    apart : (words : Call) → IsMendCall words → (fd at len : ℕ) → words ≡ call.Read fd at len → ⊥
+    apart words k fd at len is = subst IsMendCall is k
+
+    walks : begun (entries t) d ≡ Some (begins.Walks d)
+    walks = by starts.opening
+      where
+        by : BeganOpening t d starts.caller.words → begun (entries t) d ≡ Some (begins.Walks d)
+        by (inl k) = k
+        by (inr r) = absurd (apart q.accepted.words mends r.2.fd r.2.at r.2.len (ap (λ (y : Waiting). y.words) (some_same q.accepted starts.caller (sym q.named ∙ starts.named)) ∙ r.2.words_are))
 
     asked : is_open_of m f (wants c.mounts (is_packed_in c (entries t) q.accepted.epoch) None q.accepted.words (begins.Walks d) placed.before) ≡ true
-    asked = ap (is_open_of m f) (sym (script_by c t d q.accepted (begins.Walks d) None placed.before q.named walks.walks) ∙ placed.script_is) ∙ placed.fits.0
+    asked = ap (is_open_of m f) (sym (script_by c t d q.accepted (begins.Walks d) None placed.before q.named walks) ∙ placed.script_is) ∙ placed.fits.0
 
     over : (words : Call) → q.accepted.words ≡ words → IsMendCall words → IsToMend m f q.accepted.words
     over (call.Mend g) is k = record { mode_is = z.mode_is; words_are = is ∙ ap call.Mend z.file_is }

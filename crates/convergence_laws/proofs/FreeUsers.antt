@@ -11,6 +11,8 @@ use Rattle.locus_ids.specs.declared.sites.Links.{Links}
 use Rattle.commit_graph.specs.Versions.{same_file}
 use Rattle.trace_book.specs.declared.call.Call.{Call}
 use Rattle.trace_book.specs.declared.call.Call.TheVariants as call
+use Rattle.trace_book.specs.declared.descriptor.Beginning.{Beginning}
+use Rattle.trace_book.specs.declared.descriptor.Beginning.TheVariants as begins
 use Rattle.trace_book.specs.declared.reply.Reply.{Reply}
 use Rattle.trace_book.specs.declared.reply.Reply.TheVariants as reply
 use Rattle.trace_book.specs.declared.operation.Op.{Op}
@@ -36,7 +38,7 @@ use Rattle.role_steps.specs.Reports.{on_report, on_open, on_look, on_closed, on_
 use Rattle.role_steps.specs.Opens.{on_opened}
 use Rattle.role_steps.specs.Storage.{copy_of, with_copy}
 use Rattle.role_steps.specs.Tables.{row, first_that}
-use Rattle.role_steps.specs.Using.{without_hope, is_hopeless, after_reply, replies, asks_want, next_want, goes_on, with_answer, takes_answer, asks_open_of, on_open_done_of, asks_op_number, on_op_done_of, on_close_done_of, asks_take, with_brought, looks_again, takes_look, on_look_done_of, accepted, own_call}
+use Rattle.role_steps.specs.Using.{without_hope, is_hopeless, after_reply, holds_again, replies, asks_want, next_want, goes_on, with_answer, takes_answer, asks_open_of, on_open_done_of, asks_op_number, on_op_done_of, on_close_done_of, asks_take, with_brought, looks_again, takes_look, on_look_done_of, accepted, own_call}
 use Rattle.role_steps.specs.Using.{asks_close_of as asks_close_number}
 use Rattle.role_steps.specs.Views.{Frame, Users, SiteView, Outcome, quiet, and_then}
 use Rattle.role_steps.specs.declared.pulls.Pull.{Pull}
@@ -92,9 +94,14 @@ module _ (file : FileId) where
       by_hope false k = k
   hope_waited _ why u m = m
 
+  held_waited : (f : Frame) (w : WaitingCall) (b : Beginning) (words : Call) (u : Users) → Mends file (holds_again f w b words u).waiting → Mends file u.waiting
+  held_waited f w (begins.Reopens version last) (call.Read fd at len) u m = m
+  held_waited f w _ words u m = m
+
   reply_waited : (f : Frame) (w : WaitingCall) (r : Reply) (u : Users) → Mends file (after_reply f w r u).waiting → Mends file u.waiting
   reply_waited f w (reply.Opened fd) u m = m
   reply_waited f w (reply.No why) u m = hope_waited w.words why u m
+  reply_waited f w (reply.Data bytes) u m = held_waited f w w.begins w.words u m
   reply_waited f w _ u m = m
 
   replies_waited : (f : Frame) (w : WaitingCall) (r : Reply) (u : Users) → Waited file u (replies f w r u)

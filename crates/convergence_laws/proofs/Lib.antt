@@ -48,6 +48,7 @@ pub mod PulledWhole
 pub mod Pulled
 pub mod Convergence
 pub mod DirectoriesMended
+pub mod DirectoriesSteady
 pub mod DirectoriesOpeners
 pub mod DirectoriesClosed
 pub mod DirectoriesTold

@@ -36,7 +36,8 @@ use Rattle.order_laws.proofs.ProcessBegun.{comes_from}
 use Rattle.rest_laws.proofs.of_store_laws.ScriptFitted.{Began, began}
 use Rattle.rest_laws.proofs.of_store_laws.AnswerAskers.{op_had}
 use Rattle.fit_laws.proofs.CalmAskingInserting.{unpacked}
-use Rattle.fit_laws.proofs.CalmAskingWords.{IsUse, Uses, WalkAsks, named_so, use_so}
+use Rattle.fit_laws.proofs.CalmAskingWords.{IsUse, Uses, WalkAsks, named_so, use_so, AskedBy}
+use Rattle.fit_laws.proofs.EntryWalking.{RereaderAsks}
 
 -- ---- uses of descriptors ----
 
@@ -49,9 +50,8 @@ UseOp op.Commit = Unit {0}
 UseOp op.Abort = Unit {0}
 UseOp _ = ⊥
 
--- and by no call that walks
+-- and by no call but one that uses a descriptor
 abbrev pub NoWalk : Op → Type 0
-NoWalk (op.Read at len) = Unit {0}
 NoWalk (op.Cut len) = Unit {0}
 NoWalk op.Commit = Unit {0}
 NoWalk op.Abort = Unit {0}
@@ -64,6 +64,10 @@ use_op (call.Cut fd len) o u = subst UseOp (sym u) tt
 use_op (call.Commit fd) o u = subst UseOp (sym u) tt
 use_op (call.Abort fd) o u = subst UseOp (sym u) tt
 use_op _ o u = absurd u
+
+read_op : (i : Serial) (o : Op) → RereaderAsks (want.Do i o) → UseOp o
+read_op i (op.Read at len) r = tt
+read_op i _ r = absurd r
 
 -- who began at an instance asks a use
 used_so : (mounts : List Mount) (free : Option ℕ) (words : Call) (e : EpochId) (j : Serial) (xs : Answers) (i : Serial) (o : Op) → named_wants mounts free words (begins.Uses e j) xs ≡ want.Do i o → UseOp o
@@ -102,7 +106,7 @@ module _ (c : Config) (t : List Line) (h : IsFollowed c t) (e : EpochId) (d : Ca
   wanted = unpacked pk (named_wants c.mounts None w.words b (log t d)) i o asked
 
   -- it walks, or uses a descriptor
-  pub so : WalkAsks d w.words (want.Do i o) ⊎ Uses w.words b i o
+  pub so : AskedBy d w.words b i o
   so = named_so c.mounts None d w.words b (walks_as starts.table w.epoch d w.words) (log t d) i o wanted
 
   -- what it uses by a descriptor is of its epoch
@@ -113,8 +117,9 @@ module _ (c : Config) (t : List Line) (h : IsFollowed c t) (e : EpochId) (d : Ca
   pub own : (UseOp o → ⊥) → granted_to (entries t) e i ≡ Some d
   own other = over (comes_from c t h e d i inside (op_had c t d i o h (inside.accepted, inside.named) asks.asked))
     where
-      uses : begun (entries t) d ≡ Some (begins.Uses e i) → WalkAsks d w.words (want.Do i o) ⊎ Uses w.words b i o → ⊥
-      uses k (inr u) = other (use_op w.words o u.is_use)
+      uses : begun (entries t) d ≡ Some (begins.Uses e i) → AskedBy d w.words b i o → ⊥
+      uses k (inr (inl u)) = other (use_op w.words o u.is_use)
+      uses k (inr (inr r)) = other (read_op i o r)
       uses k (inl walks) = other (used_so c.mounts None w.words e i (log t d) i o (subst (λ (z : Beginning). named_wants c.mounts None w.words z (log t d) ≡ want.Do i o) (some_same b (begins.Uses e i) (sym starts.begun_is ∙ k)) wanted))
 
       over : (granted_to (entries t) e i ≡ Some d) ⊎ (begun (entries t) d ≡ Some (begins.Uses e i)) → granted_to (entries t) e i ≡ Some d
@@ -126,20 +131,25 @@ module _ (c : Config) (t : List Line) (h : IsFollowed c t) (e : EpochId) (d : Ca
   used use_it = over so
     where
       walks : (p : Op) → NoWalk p → WalkAsks d w.words (want.Do i p) → ⊥
-      walks (op.Read at len) k q = q
       walks (op.Cut len) k q = q
       walks op.Commit k q = q
       walks op.Abort k q = q
       walks _ k q = k
 
-      over : WalkAsks d w.words (want.Do i o) ⊎ Uses w.words b i o → Uses w.words b i o
+      reads : (p : Op) → NoWalk p → RereaderAsks (want.Do i p) → ⊥
+      reads (op.Read at len) k q = k
+      reads _ k q = q
+
+      over : AskedBy d w.words b i o → Uses w.words b i o
       over (inl q) = absurd (walks o use_it q)
-      over (inr u) = u
+      over (inr (inl u)) = u
+      over (inr (inr r)) = absurd (reads o use_it r)
 
   -- or a step of a walk
   pub walked : (UseOp o → ⊥) → WalkAsks d w.words (want.Do i o)
   walked other = over so
     where
-      over : WalkAsks d w.words (want.Do i o) ⊎ Uses w.words b i o → WalkAsks d w.words (want.Do i o)
+      over : AskedBy d w.words b i o → WalkAsks d w.words (want.Do i o)
       over (inl q) = q
-      over (inr u) = absurd (other (use_op w.words o u.is_use))
+      over (inr (inl u)) = absurd (other (use_op w.words o u.is_use))
+      over (inr (inr r)) = absurd (other (read_op i o r))

@@ -32,7 +32,7 @@ use Rattle.dir_format.specs.declared.entry.Entry.{Entry}
 use Rattle.dir_format.specs.Contents.{entries_of}
 use Rattle.dir_format.specs.Entries.{IsVector}
 use Rattle.file_effects.specs.Effects.{As, Effect, Removes, effect}
-use Rattle.call_rules.specs.Descriptors.{begins_on, beginning}
+use Rattle.call_rules.specs.Descriptors.{begins_change, beginning}
 use Rattle.call_rules.specs.Words.{is_too_long}
 use Rattle.call_rules.specs.declared.answer.Answer.{Answer}
 use Rattle.call_rules.specs.declared.answer.Answer.TheVariants as answer
@@ -88,7 +88,7 @@ use Rattle.fit_laws.proofs.CalmAskingRemoving.{Finding, LeavesOn, LeftSo, script
 use Rattle.fit_laws.proofs.CalmAskingSources.{source}
 use Rattle.fit_laws.proofs.CalmAskingStanding.{OnlyLeft, finds_still}
 use Rattle.fit_laws.proofs.CalmAskingTold.{WasActed, WasOpened, act_source, open_source}
-use Rattle.fit_laws.proofs.CalmAskingWords.{IsUse, Mails, Makes, NameSo, Uses, WalkAsks}
+use Rattle.fit_laws.proofs.CalmAskingWords.{IsUse, Mails, Makes, NameSo, WalkAsks, AskedBy}
 
 -- ---- what a remove has seen ----
 
@@ -118,7 +118,7 @@ short n e = grind (arith, nat_tests)
 write_short : (table : ℕ → Option Descriptor) (now : Option EpochId) (id : CallId) (words : Call) (e : EpochId) (i : Serial) (at : ℕ) (bytes : List ℕ) → beginning table now id words ≡ begins.Uses e i → IsUse words (op.Write at bytes) → at + length bytes ≤ file_bytes_max
 write_short table now id (call.Write fd a x) e i at bytes k u = subst (λ (n : ℕ). n + length bytes ≤ file_bytes_max) (sym (write_place at a bytes x u).0) (subst (λ (ys : List ℕ). a + length ys ≤ file_bytes_max) (sym (write_place at a bytes x u).1) (short (a + length x) (over (is_too_long (call.Write fd a x)) refl k)))
   where
-    over : (b : Bool) → is_too_long (call.Write fd a x) ≡ b → cond b (begins.Denied refusal.TooLong) (begins_on true now (table fd)) ≡ begins.Uses e i → is_too_long (call.Write fd a x) ≡ false
+    over : (b : Bool) → is_too_long (call.Write fd a x) ≡ b → cond b (begins.Denied refusal.TooLong) (begins_change now (table fd)) ≡ begins.Uses e i → is_too_long (call.Write fd a x) ≡ false
     over true is q = absurd (denied_uses refusal.TooLong e i q)
     over false is q = is
 write_short table now id (call.Read fd a len) e i at bytes k u = absurd (other u)
@@ -274,9 +274,10 @@ module _ (c : Config) (t : List Line) (past : Past c t) (e : EpochId) (ss : ℕ)
   doable op.Abort seen q = tt
   doable (op.Write at bytes) seen q = as_is (op.Write at bytes) seen q.at.work.content (write_acts at bytes q.at.work.content low) (λ m. refl)
     where
-      either : WalkAsks q.call q.inside.accepted.words (want.Do i (op.Write at bytes)) ⊎ Uses q.inside.accepted.words (b c t past.followed e q.call q.inside i (op.Write at bytes) q.asks q.at q.open_at.found) i (op.Write at bytes) → at + length bytes ≤ file_bytes_max
+      either : AskedBy q.call q.inside.accepted.words (b c t past.followed e q.call q.inside i (op.Write at bytes) q.asks q.at q.open_at.found) i (op.Write at bytes) → at + length bytes ≤ file_bytes_max
       either (inl m) = mailed_short c q.call.site q.inside.accepted.process q.inside.accepted.words at bytes (known_call c t past.followed past.rest.each q.call q.inside.accepted q.inside.named).range m
-      either (inr u) = write_short (starts c t past.followed e q.call q.inside i (op.Write at bytes) q.asks q.at q.open_at.found).table q.inside.accepted.epoch _ q.inside.accepted.words u.epoch i at bytes u.begins_so u.is_use
+      either (inr (inr k)) = absurd k
+      either (inr (inl u)) = write_short (starts c t past.followed e q.call q.inside i (op.Write at bytes) q.asks q.at q.open_at.found).table q.inside.accepted.epoch _ q.inside.accepted.words u.epoch i at bytes u.begins_so u.is_use
 
       low : at + length bytes ≤ file_bytes_max
       low = either (so c t past.followed e q.call q.inside i (op.Write at bytes) q.asks q.at q.open_at.found)

@@ -40,6 +40,7 @@ use Rattle.lawful_trace.specs.Progress.{is_packed_in}
 use Rattle.tree_laws.specs.Calls.{script_as}
 use Rattle.tree_laws.proofs.Holding.{Script}
 use Rattle.rest_laws.proofs.of_one_tree_laws.RemoveScripts.{Along, IsOr, along_same, goes, goes_walked, or_more, packed_is}
+use Rattle.rest_laws.proofs.of_holding_laws.MendReopens.{reopen_so}
 use Rattle.fit_laws.proofs.CalmAskingWords.{IsUse, Makes, WalkAsks, close_all_so, give_up_one, give_up_two, path_so, use_so}
 
 -- it inserts no entry
@@ -200,6 +201,8 @@ begun_inserts mounts free words h (begins.Uses epoch inst) i n ino k xs e = absu
     by (call.Abort fd) u = cc
     by _ u = u
 begun_inserts mounts free words h (begins.Walks id) i n ino k xs e = path_inserts mounts free id words h i n ino k xs e
+begun_inserts mounts free words h (begins.Reopens kept last) i n ino k xs e = absurd (no_insert _ i n ino k (reopen_so NotInsert kept (record { opens = tt; reads = λ j at len. tt; closes = λ j. tt; replies = λ r. tt; never = tt }) words last xs) e)
+begun_inserts mounts free words h begins.Frees i n ino k xs e = absurd (no_insert _ i n ino k tt e)
 
 named_inserts : (mounts : List Mount) (free : Option ℕ) (words : Call) (b : Beginning) (i : Serial) (n : List ℕ) (ino : ℕ) (k : Kind) (xs : List Answer) → named_wants mounts free words b xs ≡ want.Do i (op.Insert n ino k) → Inserts (named_wants mounts free words b) xs i
 named_inserts mounts free words b i n ino k xs e = over (is_badly_named mounts words) refl e
@@ -369,6 +372,11 @@ module _ (Q : Want → Answer → Type 0) (Known : FileId → Kind → Type 0) (
   begun_dir mounts free (call.MakeDir path) (begins.Uses e i) xs makes h = tt
   begun_dir mounts free (call.Mail path bytes) (begins.Uses e i) xs makes h = tt
   begun_dir mounts free _ (begins.Uses e i) xs makes h = absurd makes
+  begun_dir mounts free (call.Create path sites) (begins.Reopens kept last) xs makes h = tt
+  begun_dir mounts free (call.MakeDir path) (begins.Reopens kept last) xs makes h = tt
+  begun_dir mounts free (call.Mail path bytes) (begins.Reopens kept last) xs makes h = tt
+  begun_dir mounts free _ (begins.Reopens kept last) xs makes h = absurd makes
+  begun_dir mounts free words begins.Frees xs makes h = tt
 
   unpacked_answer : (pk : ℕ → Bool) (w : Want) (a : Answer) → Q (where_packed pk w) a → Q w a
   unpacked_answer pk w a k = over (packed_is pk w)

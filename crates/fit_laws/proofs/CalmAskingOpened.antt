@@ -12,6 +12,7 @@ use Rattle.locus_ids.specs.declared.ids.Serial.{Serial}
 use Rattle.trace_book.specs.declared.call.Call.{Call}
 use Rattle.trace_book.specs.declared.call.Call.TheVariants as call
 use Rattle.trace_book.specs.declared.call.OpenMode.{OpenMode}
+use Rattle.trace_book.specs.declared.call.OpenMode.TheVariants as how
 use Rattle.trace_book.specs.declared.descriptor.Beginning.{Beginning}
 use Rattle.trace_book.specs.declared.descriptor.Beginning.TheVariants as begins
 use Rattle.locus_ids.specs.declared.refusal.Refusal.TheVariants as refusal
@@ -36,13 +37,24 @@ use Rattle.order_laws.proofs.ProcessHad.{begun_user}
 use Rattle.rest_laws.proofs.of_store_laws.Places.{open_is}
 use Rattle.rest_laws.proofs.of_store_laws.ScriptFitted.{Began, began}
 use Rattle.rest_laws.proofs.of_store_laws.ScriptLasting.{OpensSo, open_so}
-use Rattle.rest_laws.proofs.of_store_laws.ScriptNaming.{Opens, script_by}
+use Rattle.rest_laws.proofs.of_store_laws.ScriptNaming.{Opens, RereadsIn, script_by}
+use Rattle.rest_laws.proofs.of_store_laws.ScriptReopening.{read_so}
 use Rattle.rest_laws.proofs.of_one_tree_laws.RemovePlaced.{GrantedSo, Placed, granted_placed}
-use Rattle.fit_laws.proofs.EntryNamers.{named_opened}
+use Rattle.fit_laws.proofs.EntryNamers.{named_begins}
 
 -- an open asks its own open alone, wherever it began
 opens_alone : (mounts : List Mount) (pk : ℕ → Bool) (path : List ℕ) (m : OpenMode) (b : Beginning) (xs : List Answer) → OpensSo m (wants mounts pk None (call.Open path m) b xs)
 opens_alone mounts pk path m (begins.Walks id) xs = open_so mounts pk None id path m xs
+opens_alone mounts pk path m (begins.Reopens kept last) xs = over (is_badly_named mounts (call.Open path m))
+  where
+    over : (x : Bool) → OpensSo m (where_packed pk (cond x (want.Give (reply.No refusal.BadName)) want.Never))
+    over true = tt
+    over false = tt
+opens_alone mounts pk path m begins.Frees xs = over (is_badly_named mounts (call.Open path m))
+  where
+    over : (x : Bool) → OpensSo m (where_packed pk (cond x (want.Give (reply.No refusal.BadName)) (want.Give (reply.Closed None))))
+    over true = tt
+    over false = tt
 opens_alone mounts pk path m (begins.Denied why) xs = over (is_badly_named mounts (call.Open path m))
   where
     over : (x : Bool) → OpensSo m (where_packed pk (cond x (want.Give (reply.No refusal.BadName)) (want.Give (reply.No why))))
@@ -59,8 +71,7 @@ mend_none m f (want.OpenToMend g) e k = k
 mend_none m f _ e k = true_false (sym e)
 
 pub named_mode : (c : Config) (t : List Line) → IsFollowed c t → (e : EpochId) (i : Serial) (d : CallId) → IsCallIn (entries t) e d → begun (entries t) d ≡ Some (begins.Uses e i) → (x : Instance) → instance_now c t e i ≡ Some x → x.grant.mode ≡ mode.Mend → ⊥
-named_mode c t h e i d inside uses x found mends = mend_none opens.how k.file p.asked (subst (λ (m : Mode). is_open_of m k.file p.asked ≡ true) (sym is.0 ∙ mends) p.fits.0)
-    (subst (OpensSo opens.how) (sym (ap (λ (words : Call). wants c.mounts pk None words b p.before) opens.words_are) ∙ (sym (script_by c t g u.for.caller b None p.before u.for.named starts.begun_is) ∙ p.script_is)) (opens_alone c.mounts pk opens.path opens.how b p.before))
+named_mode c t h e i d inside uses x found mends = over (named_begins c t h e i g u.for.caller u.for.is_granted u.for.named u.for.answered)
   where
     u : IsUser (entries t) e i d
     u = begun_user c t e i d h inside uses
@@ -68,14 +79,11 @@ named_mode c t h e i d inside uses x found mends = mend_none opens.how k.file p.
     g : CallId
     g = u.for.granted
 
-    opens : Opens u.for.caller.words
-    opens = named_opened c t h e i g u.for.caller u.for.is_granted u.for.named u.for.answered
-
     k : GrantIs t e i g
     k = granted_is c t h e i g u.for.is_granted
 
-    is : (x.grant.mode ≡ k.mode) × (x.grant.file ≡ k.file) × (x.grant.ss ≡ k.place) × (x.grant.call ≡ g)
-    is = open_is c t h e g k.request i k.mode k.file k.stamp k.place x k.was_granted found
+    is_so : (x.grant.mode ≡ k.mode) × (x.grant.file ≡ k.file) × (x.grant.ss ≡ k.place) × (x.grant.call ≡ g)
+    is_so = open_is c t h e g k.request i k.mode k.file k.stamp k.place x k.was_granted found
 
     p : Placed c t g (GrantedSo k.mode k.file i)
     p = granted_placed c t h e g k.request i k.mode k.file k.stamp k.place k.was_granted
@@ -88,3 +96,11 @@ named_mode c t h e i d inside uses x found mends = mend_none opens.how k.file p.
 
     pk : ℕ → Bool
     pk = is_packed_in c (entries t) u.for.caller.epoch
+
+    asks : (z : Beginning) → begun (entries t) g ≡ Some z → (m : OpenMode) (words : Call) → u.for.caller.words ≡ words → OpensSo m (wants c.mounts pk None words z p.before) → ⊥
+    asks z at m words is so = mend_none m k.file p.asked (subst (λ (y : Mode). is_open_of y k.file p.asked ≡ true) (sym is_so.0 ∙ mends) p.fits.0)
+        (subst (OpensSo m) (sym (ap (λ (y : Call). wants c.mounts pk None y z p.before) is) ∙ (sym (script_by c t g u.for.caller z None p.before u.for.named at) ∙ p.script_is)) so)
+
+    over : Opens u.for.caller.words ⊎ RereadsIn t g u.for.caller.words → ⊥
+    over (inl opens) = asks b starts.begun_is opens.how (call.Open opens.path opens.how) opens.words_are (opens_alone c.mounts pk opens.path opens.how b p.before)
+    over (inr again) = asks (begins.Reopens again.2.kept again.2.last) (again.1 ∙ ap Some again.2.begins_are) how.Read (call.Read again.2.fd again.2.at again.2.len) again.2.words_are (read_so c.mounts pk None again.2.fd again.2.at again.2.len again.2.kept again.2.last p.before)

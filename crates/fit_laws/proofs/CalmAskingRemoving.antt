@@ -33,7 +33,7 @@ use Rattle.tree_model.specs.declared.accepted.Waiting.{Waiting}
 use Rattle.lawful_trace.specs.Progress.{is_packed_in}
 use Rattle.tree_laws.specs.Calls.{script_as}
 use Rattle.tree_laws.proofs.Holding.{Script}
-use Rattle.rest_laws.proofs.of_one_tree_laws.RemoveOthers.{NotRemove, close_all_none, give_up_one, give_up_two, others_none, uses_none}
+use Rattle.rest_laws.proofs.of_one_tree_laws.RemoveOthers.{NotRemove, close_all_none, give_up_one, give_up_two, others_none, uses_none, reopens_none}
 use Rattle.rest_laws.proofs.of_one_tree_laws.RemoveScripts.{Along, IsOr, along_more, along_same, goes, goes_walked, packed_is}
 
 -- it leaves the content of a directory
@@ -175,6 +175,8 @@ begun_finding : (mounts : List Mount) (free : Option ℕ) (words : Call) (b : Be
 begun_finding mounts free words (begins.Denied why) i name ino xs e = absurd (no_do _ i name ino tt e)
 begun_finding mounts free words (begins.Uses epoch inst) i name ino xs e = absurd (no_do _ i name ino (uses_none words inst xs) e)
 begun_finding mounts free words (begins.Walks id) i name ino xs e = path_finding mounts free id words i name ino xs e
+begun_finding mounts free words (begins.Reopens kept last) i name ino xs e = absurd (no_do _ i name ino (reopens_none words kept last xs) e)
+begun_finding mounts free words begins.Frees i name ino xs e = absurd (no_do _ i name ino tt e)
 
 named_finding : (mounts : List Mount) (free : Option ℕ) (words : Call) (b : Beginning) (i : Serial) (name : List ℕ) (ino : ℕ) (xs : List Answer) → named_wants mounts free words b xs ≡ want.Do i (op.Remove name ino) → Finding (named_wants mounts free words b) xs i name ino
 named_finding mounts free words b i name ino xs e = over (is_badly_named mounts words) e

@@ -107,7 +107,7 @@ step_heard c n older (says.Look e call request f w result) d may step clear = (l
   where
     taken : take (request - 1) (heard c older d) ≡ log older d
     taken = ap (λ (m : ℕ). take (m - 1) (heard c older d)) (may.in_time.request_is ∙ ap (λ (y : CallId). length (log older y) + 1) step) ∙ (ap (take (length (log older d) + 1 - 1)) clear ∙ take_own (log older d))
-step_heard c n older (says.Grant e call request i m f stamp ss) d may step clear = (granted_answer m i f (kept_in c (entries older) e f), by_own call d _ (heard c older d) step ∙ ap (λ (xs : Answers). xs ++ granted_answer m i f (kept_in c (entries older) e f) ∷ []) clear)
+step_heard c n older (says.Grant e call request i m f stamp ss) d may step clear = (granted_answer m i f stamp (kept_in c (entries older) e f), by_own call d _ (heard c older d) step ∙ ap (λ (xs : Answers). xs ++ granted_answer m i f stamp (kept_in c (entries older) e f) ∷ []) clear)
 step_heard c n older (says.Refuse e call request i m f why) d may step clear = (answer.Refused why, by_own call d _ (heard c older d) step ∙ ap (λ (xs : Answers). xs ++ answer.Refused why ∷ []) clear)
 step_heard c n older (says.Act e i k o result) d may step clear = (outcome_answer result, by_owner (call_of_act (entries older) e i k) d _ (heard c older d) step ∙ ap (λ (xs : Answers). xs ++ outcome_answer result ∷ []) clear)
 step_heard c n older (says.Release e i f stamp) d may step clear = (close_answer stamp (instance_in (tree_of c e f.group (entries older)) i), by_owner (call_of_release (entries older) e i) d _ (heard c older d) step ∙ ap (λ (xs : Answers). xs ++ close_answer stamp (instance_in (tree_of c e f.group (entries older)) i) ∷ []) clear)

@@ -137,12 +137,13 @@ close_open : (i : Serial) (f : FileId) (m : OpenMode) → want.Close i ≡ want.
 close_open i f m e = cc
 
 -- what was opened has the name that its answer tells
-opened_is : (m : Mode) (i p : Serial) (f : FileId) (kept : List Stamp) (number : ℕ) → granted_answer m i f kept ≡ answer.Opened p number → i ≡ p
-opened_is mode.Mend i p f kept number e = cc
-opened_is mode.Read i p f kept number e = cc
-opened_is mode.Write i p f kept number e = cc
-opened_is mode.Resolve i p f kept number e = cc
-opened_is mode.Make i p f kept number e = cc
+opened_is : (m : Mode) (i p : Serial) (f : FileId) (stamp : Option Stamp) (kept : List Stamp) (number : ℕ) → granted_answer m i f stamp kept ≡ answer.Opened p number → i ≡ p
+opened_is mode.Mend i p f stamp kept number e = cc
+opened_is mode.Read i p f (Some stamp) kept number e = cc
+opened_is mode.Read i p f None kept number e = cc
+opened_is mode.Write i p f stamp kept number e = cc
+opened_is mode.Resolve i p f stamp kept number e = cc
+opened_is mode.Make i p f stamp kept number e = cc
 
 refused_opened : (p : Serial) (number : ℕ) (a : Answer) → a ≡ answer.Opened p number → (why : _) → a ≡ answer.Refused why → ⊥
 refused_opened p number a e why q = cc
@@ -169,14 +170,14 @@ module _ (c : Config) (n : ℕ) (older : List Line) (h : IsFollowed c older) (d 
     ss = ss;
     inside = subst (IsCallIn (entries older) at) step may.row.opens.step;
     writes = opens.1;
-    printed = record { epoch_is = refl; call_is = step; request_is = refl; serial_is = opened_is m i p g (kept_in c (entries older) at g) k (sym told); mode_is = refl; file_is = opens.0; stamp_is = refl; place_is = refl };
+    printed = record { epoch_is = refl; call_is = step; request_is = refl; serial_is = opened_is m i p g stamp (kept_in c (entries older) at g) k (sym told); mode_is = refl; file_is = opens.0; stamp_is = refl; place_is = refl };
   }
     where
       asks : Asks c older d may.in_time.opens.asks.wanted
       asks = subst (λ (y : CallId). Asks c older y may.in_time.opens.asks.wanted) step may.in_time.opens.asks.asks
 
-      told : answer.Opened p k ≡ granted_answer m i g (kept_in c (entries older) at g)
-      told = last_same ys ys (answer.Opened p k) (granted_answer m i g (kept_in c (entries older) at g)) (sym new ∙ (by_own call d _ (heard c older d) step ∙ ap (λ (xs : Answers). xs ++ granted_answer m i g (kept_in c (entries older) at g) ∷ []) (asks.nothing_waits ∙ is)))
+      told : answer.Opened p k ≡ granted_answer m i g stamp (kept_in c (entries older) at g)
+      told = last_same ys ys (answer.Opened p k) (granted_answer m i g stamp (kept_in c (entries older) at g)) (sym new ∙ (by_own call d _ (heard c older d) step ∙ ap (λ (xs : Answers). xs ++ granted_answer m i g stamp (kept_in c (entries older) at g) ∷ []) (asks.nothing_waits ∙ is)))
 
       answered : answers c (entries older) call ≡ log older call
       answered = by (hears c older call h)

@@ -39,6 +39,7 @@ use Rattle.call_rules.specs.declared.answer.Answer.TheVariants as answer
 use Rattle.call_rules.specs.declared.want.Want.{Want}
 use Rattle.tree_laws.proofs.OwnWalks.{WalksAs}
 use Rattle.call_rules.specs.declared.want.Want.TheVariants as want
+use Rattle.fit_laws.proofs.EntryWalking.{RereaderAsks, rereader_so}
 
 -- ---- what a call asks that walks ----
 
@@ -234,6 +235,7 @@ module _ (d : CallId) (words : Call) where
   opens_file_so m free f kind.Dir xs = tt
   opens_file_so m free f kind.File [] = tt
   opens_file_so m (Some fd) f kind.File (answer.Opened i ino ∷ []) = tt
+  opens_file_so m (Some fd) f kind.File (answer.Reading i version ∷ []) = tt
   opens_file_so m None f kind.File (answer.Refused why ∷ []) = tt
   opens_file_so m (Some fd) f kind.File (answer.Refused why ∷ []) = tt
   opens_file_so m None f kind.File (_ ∷ rest) = tt
@@ -323,14 +325,20 @@ pub record Uses (words : Call) (b : Beginning) (i : Serial) (o : Op) : Type 0 wh
   pub begins_so : b ≡ begins.Uses epoch i
   pub is_use : IsUse words o
 
-begun_so : (mounts : List Mount) (free : Option ℕ) (d : CallId) (words : Call) → is_badly_named mounts words ≡ false → (b : Beginning) → WalksAs d b → (xs : List Answer) (i : Serial) (o : Op) → begun_wants mounts free words b xs ≡ want.Do i o → WalkAsks d words (want.Do i o) ⊎ Uses words b i o
-begun_so mounts free d words h (begins.Denied why) own xs i o e = absurd (not_do _ i o tt e)
-begun_so mounts free d words h (begins.Uses epoch j) own xs i o e = (let k = use_so words j i o xs e in inr (record { epoch = epoch; begins_so = ap (begins.Uses epoch) k.0; is_use = k.1 }))
-begun_so mounts free d words h (begins.Walks id) own xs i o e = inl (subst (WalkAsks d words) e (subst (λ (z : CallId). WalkAsks d words (path_wants mounts free z words xs)) (sym own) (path_so mounts free d words h xs)))
+-- it is asked by a call that walks, by one that uses its descriptor, or by a read that opens a version again
+abbrev pub AskedBy : CallId → Call → Beginning → Serial → Op → Type 0
+AskedBy d words b i o = WalkAsks d words (want.Do i o) ⊎ (Uses words b i o ⊎ RereaderAsks (want.Do i o))
 
-pub named_so : (mounts : List Mount) (free : Option ℕ) (d : CallId) (words : Call) (b : Beginning) → WalksAs d b → (xs : List Answer) (i : Serial) (o : Op) → named_wants mounts free words b xs ≡ want.Do i o → WalkAsks d words (want.Do i o) ⊎ Uses words b i o
+begun_so : (mounts : List Mount) (free : Option ℕ) (d : CallId) (words : Call) → is_badly_named mounts words ≡ false → (b : Beginning) → WalksAs d b → (xs : List Answer) (i : Serial) (o : Op) → begun_wants mounts free words b xs ≡ want.Do i o → AskedBy d words b i o
+begun_so mounts free d words h (begins.Denied why) own xs i o e = absurd (not_do _ i o tt e)
+begun_so mounts free d words h (begins.Uses epoch j) own xs i o e = (let k = use_so words j i o xs e in inr (inl (record { epoch = epoch; begins_so = ap (begins.Uses epoch) k.0; is_use = k.1 })))
+begun_so mounts free d words h (begins.Walks id) own xs i o e = inl (subst (WalkAsks d words) e (subst (λ (z : CallId). WalkAsks d words (path_wants mounts free z words xs)) (sym own) (path_so mounts free d words h xs)))
+begun_so mounts free d words h (begins.Reopens kept last) own xs i o e = inr (inr (subst RereaderAsks e (rereader_so words kept last xs)))
+begun_so mounts free d words h begins.Frees own xs i o e = absurd (not_do _ i o tt e)
+
+pub named_so : (mounts : List Mount) (free : Option ℕ) (d : CallId) (words : Call) (b : Beginning) → WalksAs d b → (xs : List Answer) (i : Serial) (o : Op) → named_wants mounts free words b xs ≡ want.Do i o → AskedBy d words b i o
 named_so mounts free d words b own xs i o e = over (is_badly_named mounts words) refl e
   where
-    over : (x : Bool) → is_badly_named mounts words ≡ x → cond x (want.Give (reply.No refusal.BadName)) (begun_wants mounts free words b xs) ≡ want.Do i o → WalkAsks d words (want.Do i o) ⊎ Uses words b i o
+    over : (x : Bool) → is_badly_named mounts words ≡ x → cond x (want.Give (reply.No refusal.BadName)) (begun_wants mounts free words b xs) ≡ want.Do i o → AskedBy d words b i o
     over true k q = absurd (not_do _ i o tt q)
     over false k q = begun_so mounts free d words k b own xs i o q

@@ -13,12 +13,14 @@ use Rattle.locus_ids.specs.declared.ids.Mode.{Mode}
 use Rattle.locus_ids.specs.declared.ids.Mode.TheVariants as mode
 use Rattle.locus_ids.specs.declared.ids.Serial.{Serial}
 use Rattle.locus_ids.specs.declared.refusal.Refusal.TheVariants as refusal
+use Rattle.commit_graph.specs.Grants.{is_read}
 use Rattle.commit_graph.specs.Versions.{same_file}
 use Rattle.trace_book.specs.declared.call.Call.{Call}
 use Rattle.trace_book.specs.declared.call.Call.TheVariants as call
 use Rattle.trace_book.specs.declared.call.OpenMode.TheVariants as how
 use Rattle.trace_book.specs.declared.descriptor.Beginning.{Beginning}
 use Rattle.trace_book.specs.declared.descriptor.Beginning.TheVariants as begins
+use Rattle.trace_book.specs.declared.descriptor.OneVersion.{OneVersion}
 use Rattle.trace_book.specs.declared.operation.Op.{Op}
 use Rattle.trace_book.specs.declared.operation.Op.TheVariants as op
 use Rattle.trace_book.specs.declared.operation.Outcome.{Outcome}
@@ -46,6 +48,7 @@ use Rattle.tree_laws.specs.Instances.{instance_now}
 use Rattle.tree_laws.specs.Past.{WasGranted}
 use Rattle.tree_laws.specs.Printed.{entries}
 use Rattle.tree_laws.specs.Serials.{is_open_want}
+use Rattle.rest_laws.specs.of_one_tree_laws.of_lock_laws.Writing.{changes}
 use Rattle.tree_laws.proofs.Alone.{asking, numbered_every}
 use Rattle.tree_laws.proofs.Answered.{asker_unnamed}
 use Rattle.tree_laws.proofs.CarriedLooks.{one_epoch}
@@ -57,20 +60,21 @@ use Rattle.order_laws.proofs.Standing.{same_file_eq}
 use Rattle.order_laws.proofs.ProcessBegun.{comes_from}
 use Rattle.order_laws.proofs.ProcessGranting.{GrantIs, granted_is}
 use Rattle.rest_laws.proofs.of_store_laws.ScriptFitted.{Began, began}
-use Rattle.rest_laws.proofs.of_store_laws.ScriptNaming.{Opens, script_by}
+use Rattle.rest_laws.proofs.of_store_laws.ScriptNaming.{Opens, RereadsIn, script_by}
 use Rattle.rest_laws.proofs.of_store_laws.Places.{GrantedSo as IsGrantedSo, instance_granted, open_is}
 use Rattle.rest_laws.proofs.of_store_laws.AnswerAnswering.{acter_in}
 use Rattle.rest_laws.proofs.of_store_laws.AnswerAskers.{op_had}
 use Rattle.rest_laws.proofs.of_store_laws.AnswerDone.{open_grant}
 use Rattle.rest_laws.proofs.of_one_tree_laws.RemovePlaced.{GrantedSo, IsPlaced, Placed, Taken, granted_placed, taken_so}
+use Rattle.rest_laws.proofs.StoreStepAsking.{changed_open}
 use Rattle.rest_laws.proofs.of_one_tree_laws.RemoveScripts.{Along, IsOr, along_at, along_same}
 use Rattle.fit_laws.specs.EntryEntries.{MakesMessage, NamesFile}
 use Rattle.fit_laws.proofs.EntryFacts.{CloseAnswered, IsAnswered, IsKnown, IsPlain, MakeAnswered, WasEnded, WasMade, named_known, roots_known}
 use Rattle.fit_laws.proofs.EntryHeard.{Heard}
 use Rattle.fit_laws.proofs.EntryInserting.{Inserting, OpensIn, wants_inserting}
 use Rattle.fit_laws.proofs.EntryMade.{made_first, made_named}
-use Rattle.fit_laws.proofs.EntryNamers.{named_opened}
-use Rattle.fit_laws.proofs.EntryWalking.{AsksBy, DeniedAsks, UserAsks, WalkerAsks, wants_so}
+use Rattle.fit_laws.proofs.EntryNamers.{named_begins}
+use Rattle.fit_laws.proofs.EntryWalking.{AsksBy, DeniedAsks, RereaderAsks, UserAsks, WalkerAsks, wants_so}
 use Rattle.fit_laws.proofs.EntryWriting.{Writing, wants_writing}
 
 -- ---- opens ----
@@ -82,6 +86,7 @@ along_front P k (x ∷ xs) ys h = (h.0, along_front P (λ zs. k (x ∷ zs)) xs y
 -- what is granted was asked as an open
 opens_want : (m : Mode) (f : FileId) (w : Want) → is_open_of m f w ≡ true → is_open_want w ≡ true
 opens_want mode.Read f (want.Open g how.Read) e = refl
+opens_want mode.Read f (want.Open g how.Steady) e = refl
 opens_want mode.Read f _ e = absurd (true_false (sym e))
 opens_want mode.Write f (want.Open g how.Write) e = refl
 opens_want mode.Write f _ e = absurd (true_false (sym e))
@@ -105,9 +110,25 @@ denied_opens (want.OpenToMend f) e k = k
 denied_opens (want.Make group k sites) e q = q
 denied_opens _ e k = true_false (sym e)
 
+-- and who opens a version again opens it to read
+rereader_reads : (m : Mode) (f : FileId) (w : Want) → is_open_of m f w ≡ true → RereaderAsks w → is_read m ≡ true
+rereader_reads mode.Read f w e k = refl
+rereader_reads mode.Write f (want.Open g how.Write) e k = cc
+rereader_reads mode.Write f _ e k = absurd (true_false (sym e))
+rereader_reads mode.Resolve f (want.Open g (how.Resolve site)) e k = cc
+rereader_reads mode.Resolve f _ e k = absurd (true_false (sym e))
+rereader_reads mode.Mend f (want.OpenToMend g) e k = absurd k
+rereader_reads mode.Mend f _ e k = absurd (true_false (sym e))
+rereader_reads mode.Make f (want.Make group kd sites) e k = absurd k
+rereader_reads mode.Make f _ e k = absurd (true_false (sym e))
+
+walks_again : (id : CallId) (kept : OneVersion) (last : EpochId) → begins.Walks id ≡ begins.Reopens kept last → ⊥
+walks_again id kept last e = cc
+
 -- what is opened in a group is granted there
 opens_group : (group : ℕ) (m : Mode) (f : FileId) (w : Want) → is_open_of m f w ≡ true → OpensIn group w → f.group ≡ group
 opens_group group mode.Read f (want.Open g how.Read) e k = ap (λ (x : FileId). x.group) (sym (same_file_eq g f e)) ∙ k
+opens_group group mode.Read f (want.Open g how.Steady) e k = ap (λ (x : FileId). x.group) (sym (same_file_eq g f e)) ∙ k
 opens_group group mode.Read f _ e k = absurd (true_false (sym e))
 opens_group group mode.Write f (want.Open g how.Write) e k = ap (λ (x : FileId). x.group) (sym (same_file_eq g f e)) ∙ k
 opens_group group mode.Write f _ e k = absurd (true_false (sym e))
@@ -124,6 +145,7 @@ opener_opens Known words o m f w e k = over m w e (subst (λ (v : Call). WalkerA
   where
     over : (n : Mode) (v : Want) → is_open_of n f v ≡ true → WalkerAsks Known (call.Open o.path o.how) v → Known f kind.File
     over mode.Read (want.Open g how.Read) q z = subst (λ (x : FileId). Known x kind.File) (same_file_eq g f q) z
+    over mode.Read (want.Open g how.Steady) q z = subst (λ (x : FileId). Known x kind.File) (same_file_eq g f q) z
     over mode.Read _ q z = absurd (true_false (sym q))
     over mode.Write (want.Open g how.Write) q z = subst (λ (x : FileId). Known x kind.File) (same_file_eq g f q) z
     over mode.Write _ q z = absurd (true_false (sym q))
@@ -184,38 +206,52 @@ module _ (c : Config) (t : List Line) (h : IsFollowed c t) (heard : (d : CallId)
     asked_open : is_open_want placed.asked ≡ true
     asked_open = opens_want y.grant.mode y.grant.file placed.asked placed.fits.0
 
-    walks : (b : Beginning) → first ≡ b → b ≡ begins.Walks g
-    walks (begins.Walks x) q = ap begins.Walks (walks_own started.table by.inside.accepted.epoch g by.inside.accepted.words x q)
+    -- whom it was granted to walks, or was granted it to read
+    walks : (b : Beginning) → first ≡ b → (b ≡ begins.Walks g) ⊎ (is_read y.grant.mode ≡ true)
+    walks (begins.Walks x) q = inl (ap begins.Walks (walks_own started.table by.inside.accepted.epoch g by.inside.accepted.words x q))
+    walks (begins.Reopens kept last) q = inr (rereader_reads y.grant.mode y.grant.file placed.asked placed.fits.0 (subst (λ (b : Beginning). AsksBy Known by.inside.accepted.words b placed.asked) q opened))
+    walks begins.Frees q = absurd (denied_opens placed.asked asked_open (subst (λ (b : Beginning). AsksBy Known by.inside.accepted.words b placed.asked) q opened))
     walks (begins.Uses at j) q = absurd (user_opens placed.asked asked_open (subst (λ (b : Beginning). AsksBy Known by.inside.accepted.words b placed.asked) q opened))
     walks (begins.Denied why) q = absurd (denied_opens placed.asked asked_open (subst (λ (b : Beginning). AsksBy Known by.inside.accepted.words b placed.asked) q opened))
 
-    -- whom it was granted to walks
-    grantee_walks : begun (entries t) g ≡ Some (begins.Walks g)
-    grantee_walks = started.begun_is ∙ ap Some (walks first refl)
-
-    -- where a descriptor has named it, it is of a file that is no directory
-    named_plain : has_named (entries t) g ≡ true → IsPlain c t y.grant.file
-    named_plain has = opener_opens Known by.inside.accepted.words (named_opened c t h e i g by.inside.accepted granted by.inside.named has) y.grant.mode y.grant.file placed.asked placed.fits.0
-        (subst (λ (b : Beginning). AsksBy Known by.inside.accepted.words b placed.asked) (walks first refl) opened)
+    -- where a descriptor has named it, it is of a file that is no directory, or only to be read
+    named_plain : has_named (entries t) g ≡ true → IsPlain c t y.grant.file ⊎ (is_read y.grant.mode ≡ true)
+    named_plain has = over (walks first refl) (named_begins c t h e i g by.inside.accepted granted by.inside.named has)
+      where
+        over : (first ≡ begins.Walks g) ⊎ (is_read y.grant.mode ≡ true) → Opens by.inside.accepted.words ⊎ RereadsIn t g by.inside.accepted.words → IsPlain c t y.grant.file ⊎ (is_read y.grant.mode ≡ true)
+        over (inr reads) n = inr reads
+        over (inl w) (inl opens) = inl (opener_opens Known by.inside.accepted.words opens y.grant.mode y.grant.file placed.asked placed.fits.0 (subst (λ (b : Beginning). AsksBy Known by.inside.accepted.words b placed.asked) w opened))
+        over (inl w) (inr again) = absurd (walks_again g again.2.kept again.2.last (sym w ∙ (some_same first again.0 (sym started.begun_is ∙ again.1) ∙ again.2.begins_are)))
 
     owned : (n : ℕ) (d : CallId) → call_of_act (entries t) e i n ≡ Some d → (b : Bool) → has_named (entries t) g ≡ b → cond b (use_number (uses_of (entries t) e i) n) (Some g) ≡ Some d
     owned n d owner b k = ap (λ (z : Bool). cond z (use_number (uses_of (entries t) e i) n) (Some g)) (sym k) ∙ (sym (ap (unless_named (entries t) (use_number (uses_of (entries t) e i) n)) granted) ∙ owner)
 
-    -- who does an operation is whom it was granted to, or uses its descriptor
-    pub acter_is : (n : ℕ) (d : CallId) (o : Op) → call_of_act (entries t) e i n ≡ Some d → Asks c t d (want.Do i o) → ((d ≡ g) × (begun (entries t) d ≡ Some (begins.Walks d))) ⊎ ((begun (entries t) d ≡ Some (begins.Uses e i)) × IsPlain c t y.grant.file)
+    abbrev IsActer : CallId → Type 0
+    IsActer d = ((d ≡ g) × (begun (entries t) d ≡ Some (begins.Walks d))) ⊎ (((begun (entries t) d ≡ Some (begins.Uses e i)) × IsPlain c t y.grant.file) ⊎ (is_read y.grant.mode ≡ true))
+
+    -- who does an operation is whom it was granted to, or uses its descriptor, or it was granted only to be read
+    pub acter_is : (n : ℕ) (d : CallId) (o : Op) → call_of_act (entries t) e i n ≡ Some d → Asks c t d (want.Do i o) → IsActer d
     acter_is n d o owner asks = over (has_named (entries t) g) refl
       where
-        used : has_named (entries t) g ≡ true → IsUser (entries t) e i d → (granted_to (entries t) e i ≡ Some d) ⊎ (begun (entries t) d ≡ Some (begins.Uses e i)) → (begun (entries t) d ≡ Some (begins.Uses e i)) × IsPlain c t y.grant.file
-        used has u (inl own) = absurd (true_false (sym (subst (λ (z : CallId). has_named (entries t) z ≡ true) (some_same u.for.granted d (sym u.for.is_granted ∙ own)) u.for.answered) ∙ asker_unnamed c t d h (asking c t d (want.Do i o) asks)))
-        used has u (inr b) = (b, named_plain has)
+        plain : begun (entries t) d ≡ Some (begins.Uses e i) → IsPlain c t y.grant.file ⊎ (is_read y.grant.mode ≡ true) → IsActer d
+        plain b (inl p) = inr (inl (b, p))
+        plain b (inr reads) = inr (inr reads)
 
-        over : (b : Bool) → has_named (entries t) g ≡ b → ((d ≡ g) × (begun (entries t) d ≡ Some (begins.Walks d))) ⊎ ((begun (entries t) d ≡ Some (begins.Uses e i)) × IsPlain c t y.grant.file)
-        over false k = inl (sym same, subst (λ (z : CallId). begun (entries t) z ≡ Some (begins.Walks z)) same grantee_walks)
+        used : has_named (entries t) g ≡ true → IsUser (entries t) e i d → (granted_to (entries t) e i ≡ Some d) ⊎ (begun (entries t) d ≡ Some (begins.Uses e i)) → IsActer d
+        used has u (inl own) = absurd (true_false (sym (subst (λ (z : CallId). has_named (entries t) z ≡ true) (some_same u.for.granted d (sym u.for.is_granted ∙ own)) u.for.answered) ∙ asker_unnamed c t d h (asking c t d (want.Do i o) asks)))
+        used has u (inr b) = plain b (named_plain has)
+
+        over : (b : Bool) → has_named (entries t) g ≡ b → IsActer d
+        over false k = own (walks first refl)
           where
             same : g ≡ d
             same = some_same g d (owned n d owner false k)
+
+            own : (first ≡ begins.Walks g) ⊎ (is_read y.grant.mode ≡ true) → IsActer d
+            own (inl w) = inl (sym same, subst (λ (z : CallId). begun (entries t) z ≡ Some (begins.Walks z)) same (started.begun_is ∙ ap Some w))
+            own (inr reads) = inr (inr reads)
         over true k = (let u : IsUser (entries t) e i d = numbered_every (IsUser (entries t) e i) (uses_of (entries t) e i) n d (are_users c t h e i).uses (owned n d owner true k) in
-            inr (used k u (comes_from c t h e d i u.inside (op_had c t d i o h (u.inside.accepted, u.inside.named) asks.asked))))
+            used k u (comes_from c t h e d i u.inside (op_had c t d i o h (u.inside.accepted, u.inside.named) asks.asked)))
 
   -- ---- operations ----
 
@@ -229,13 +265,18 @@ module _ (c : Config) (t : List Line) (h : IsFollowed c t) (heard : (d : CallId)
     asks : Asks c t d (want.Do i o)
     asks = may.in_time.asks
 
+    -- what is only read isn't changed
+    unread : changes o ≡ true → is_read y.grant.mode ≡ true → ⊥
+    unread change reads = true_false (sym reads ∙ changed_open c t h e d i o y inside asks change found)
+
     -- what is written or cut
-    pub changed_plain : ((words : Call) → WalkerAsks Known words (want.Do i o) → ⊥) → IsPlain c t y.grant.file
-    changed_plain none = over (acter_is e i y found n d o may.in_time.owner asks)
+    pub changed_plain : changes o ≡ true → ((words : Call) → WalkerAsks Known words (want.Do i o) → ⊥) → IsPlain c t y.grant.file
+    changed_plain change none = over (acter_is e i y found n d o may.in_time.owner asks)
       where
-        over : ((d ≡ y.grant.call) × (begun (entries t) d ≡ Some (begins.Walks d))) ⊎ ((begun (entries t) d ≡ Some (begins.Uses e i)) × IsPlain c t y.grant.file) → IsPlain c t y.grant.file
+        over : IsActer e i y found d → IsPlain c t y.grant.file
         over (inl k) = absurd (none inside.accepted.words (asks_now d inside.accepted (begins.Walks d) inside.named k.1 (want.Do i o) asks.asked))
-        over (inr k) = k.1
+        over (inr (inl k)) = k.1
+        over (inr (inr reads)) = absurd (unread change reads)
 
     -- what a call writes that walks is what it has made
     module _ (at : ℕ) (bytes : List ℕ) (is : o ≡ op.Write at bytes) (own : d ≡ y.grant.call) (walks : begun (entries t) d ≡ Some (begins.Walks d)) where
@@ -276,9 +317,10 @@ module _ (c : Config) (t : List Line) (h : IsFollowed c t) (heard : (d : CallId)
     pub written_plain : (at : ℕ) (bytes : List ℕ) → o ≡ op.Write at bytes → IsPlain c t y.grant.file ⊎ MakesMessage t y.grant
     written_plain at bytes is = over (acter_is e i y found n d o may.in_time.owner asks)
       where
-        over : ((d ≡ y.grant.call) × (begun (entries t) d ≡ Some (begins.Walks d))) ⊎ ((begun (entries t) d ≡ Some (begins.Uses e i)) × IsPlain c t y.grant.file) → IsPlain c t y.grant.file ⊎ MakesMessage t y.grant
+        over : IsActer e i y found d → IsPlain c t y.grant.file ⊎ MakesMessage t y.grant
         over (inl k) = inr (written_made at bytes is k.0 k.1)
-        over (inr k) = inl k.1
+        over (inr (inl k)) = inl k.1
+        over (inr (inr reads)) = absurd (unread (ap changes is) reads)
 
   -- who inserts an entry has made what it names
   module _ (packs : PacksAreOfSites c) (e : EpochId) (d : CallId) (inside : IsCallIn (entries t) e d) (i : Serial) (name : List ℕ) (ino : ℕ) (k : Kind) (asks : Asks c t d (want.Do i (op.Insert name ino k))) (y : Instance) (found : instance_now c t e i ≡ Some y) where

@@ -36,6 +36,7 @@ use Rattle.tree_model.specs.Files.{kind_made}
 use Rattle.tree_laws.proofs.Holding.{Script}
 use Rattle.rest_laws.proofs.of_store_laws.AnswerScripting.{walked_so}
 use Rattle.rest_laws.proofs.of_one_tree_laws.RemoveScripts.{Along, IsOr, along_more, along_same, goes, goes_walked, or_more, packed_is}
+use Rattle.rest_laws.proofs.of_holding_laws.MendReopens.{reopen_so}
 use Rattle.fit_laws.proofs.EntryAsked.{IsOfDirs, IsOfFiles, Parts, UserParts, close_all_so, describes_so, finds_so, give_up_one, give_up_two, lists_so, mend_so, opens_dir_so, renames_so, uses_so}
 
 -- what is opened or made is of the group
@@ -97,6 +98,7 @@ opens_file_none : (m : OpenMode) (free : Option ℕ) (f : FileId) (k : Kind) (xs
 opens_file_none m free f kind.Dir xs = tt
 opens_file_none m free f kind.File [] = tt
 opens_file_none m (Some fd) f kind.File (answer.Opened i ino ∷ []) = tt
+opens_file_none m (Some fd) f kind.File (answer.Reading i version ∷ []) = tt
 opens_file_none m None f kind.File (answer.Refused why ∷ []) = tt
 opens_file_none m (Some fd) f kind.File (answer.Refused why ∷ []) = tt
 opens_file_none m None f kind.File (_ ∷ rest) = tt
@@ -265,6 +267,8 @@ begun_inserting : (mounts : List Mount) (free : Option ℕ) (words : Call) (b : 
 begun_inserting mounts free words (begins.Denied why) i n ino k xs e = absurd (no_insert _ i n ino k tt e)
 begun_inserting mounts free words (begins.Uses epoch inst) i n ino k xs e = absurd (no_insert _ i n ino k (user_none words inst xs) e)
 begun_inserting mounts free words (begins.Walks id) i n ino k xs e = path_inserting mounts free id words i n ino k xs e
+begun_inserting mounts free words (begins.Reopens kept last) i n ino k xs e = absurd (no_insert _ i n ino k (reopen_so NotInsert kept (record { opens = tt; reads = λ j at len. tt; closes = λ j. tt; replies = λ r. tt; never = tt }) words last xs) e)
+begun_inserting mounts free words begins.Frees i n ino k xs e = absurd (no_insert _ i n ino k tt e)
 
 named_inserting : (mounts : List Mount) (free : Option ℕ) (words : Call) (b : Beginning) (i : Serial) (n : List ℕ) (ino : ℕ) (k : Kind) (xs : List Answer) → named_wants mounts free words b xs ≡ want.Do i (op.Insert n ino k) → Inserting words (named_wants mounts free words b) xs ino k
 named_inserting mounts free words b i n ino k xs e = over (is_badly_named mounts words) e

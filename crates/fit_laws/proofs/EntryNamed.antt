@@ -342,7 +342,7 @@ module _ (c : Config) (packs : PacksAreOfSites c) (older : List Line) (followed 
         over : IsPlain c older x.grant.file ⊎ MakesMessage older x.grant → IsPlain c (With n (Shown r) older) x.grant.file ⊎ MakesMessage (With n (Shown r) older) x.grant
         over (inl p) = inl (plain_stays c n (Shown r) older followed may x.grant.file p)
         over (inr m) = inr (makes_stay c n (Shown r) older followed may x.grant m)
-    rightly d i k (op.Cut len) result may same x found = inl (plain_stays c n (Shown (says.Act d i k (op.Cut len) result)) older followed may x.grant.file (changed_plain c older followed so.calls d i k (op.Cut len) result may x (subst (λ (y : EpochId). instance_now c older y i ≡ Some x) (sym same) (open_now c older followed e g i x found)) (λ words z. z)))
+    rightly d i k (op.Cut len) result may same x found = inl (plain_stays c n (Shown (says.Act d i k (op.Cut len) result)) older followed may x.grant.file (changed_plain c older followed so.calls d i k (op.Cut len) result may x (subst (λ (y : EpochId). instance_now c older y i ≡ Some x) (sym same) (open_now c older followed e g i x found)) refl (λ words z. z)))
     rightly d i k _ result may same x found = inl tt
 
     -- where the one that is found becomes so, all become so
@@ -439,6 +439,8 @@ module _ (c : Config) (packs : PacksAreOfSites c) (older : List Line) (followed 
         asked_by : (b : Beginning) → AsksBy (IsKnown c older) inside.accepted.words b (want.Look f (what.Name component)) → kind_of_file c before f ≡ kind.Dir
         asked_by (begins.Walks id) k = k
         asked_by (begins.Uses at i) k = absurd k
+        asked_by (begins.Reopens kept last) k = absurd k
+        asked_by begins.Frees k = absurd k
         asked_by (begins.Denied why) k = absurd k
 
         -- a component is asked of a directory
@@ -458,10 +460,10 @@ module _ (c : Config) (packs : PacksAreOfSites c) (older : List Line) (followed 
 
     -- ---- opens ----
 
-    granted_so : (e : EpochId) (call : CallId) (request : ℕ) (i : Serial) (m : Mode) (f : FileId) (stamp : Option Stamp) (ss : ℕ) (kept : List Stamp) (may : MayTell c older (Shown (says.Grant e call request i m f stamp ss))) → call ≡ d → (w : Want) (asked : FileId) (it : Opening) → mode_of it ≡ m → f.group ≡ asked.group → IsOpening c w asked it → So (says.Grant e call request i m f stamp ss) w (granted_answer m i f kept)
+    granted_so : (e : EpochId) (call : CallId) (request : ℕ) (i : Serial) (m : Mode) (f : FileId) (stamp : Option Stamp) (ss : ℕ) (kept : List Stamp) (may : MayTell c older (Shown (says.Grant e call request i m f stamp ss))) → call ≡ d → (w : Want) (asked : FileId) (it : Opening) → mode_of it ≡ m → f.group ≡ asked.group → IsOpening c w asked it → So (says.Grant e call request i m f stamp ss) w (granted_answer m i f stamp kept)
     granted_so e call request i m f stamp ss kept may same (want.Open file how_so) asked it is group o = tt
     granted_so e call request i m f stamp ss kept may same (want.OpenToMend file) asked it is group o = tt
-    granted_so e call request i m f stamp ss kept may same (want.Make g k sites) asked it is group o = subst (λ (y : Mode). MakeAnswered (With n (Shown r) older) d g (granted_answer y i f kept)) (sym made) (record {
+    granted_so e call request i m f stamp ss kept may same (want.Make g k sites) asked it is group o = subst (λ (y : Mode). MakeAnswered (With n (Shown r) older) d g (granted_answer y i f stamp kept)) (sym made) (record {
       epoch = e;
       inside = subst (IsCallIn (entries (With n (Shown r) older)) e) same (in_stays c n (Shown r) older e call followed may may.row.opens.step);
       request = request;
@@ -513,7 +515,7 @@ module _ (c : Config) (packs : PacksAreOfSites c) (older : List Line) (followed 
     step_so : (r : Record) → MayTell c older (Shown r) → StepRecord before r d → (a : Answer) → Waits c (With n (Shown r) older) d a → So r (asked_now c older d) a
     step_so (says.Look e call request f w result) may step a waits = told_so (says.Look e call request f w result) a (look_answer c before f w result) (want.Look f w) (take (request - 1) (heard c older d)) (by_own call d _ (heard c older d) step)
         (subst (λ (y : CallId). asked_now c older y ≡ want.Look f w) step may.in_time.asks.asked) (looked_so e call request f w result may step) waits
-    step_so (says.Grant e call request i m f stamp ss) may step a waits = told_so (says.Grant e call request i m f stamp ss) a (granted_answer m i f (kept_in c before e f)) may.in_time.opens.asks.wanted (heard c older d) (by_own call d _ (heard c older d) step)
+    step_so (says.Grant e call request i m f stamp ss) may step a waits = told_so (says.Grant e call request i m f stamp ss) a (granted_answer m i f stamp (kept_in c before e f)) may.in_time.opens.asks.wanted (heard c older d) (by_own call d _ (heard c older d) step)
         (subst (λ (y : CallId). asked_now c older y ≡ may.in_time.opens.asks.wanted) step may.in_time.opens.asks.asks.asked)
         (granted_so e call request i m f stamp ss (kept_in c before e f) may step may.in_time.opens.asks.wanted may.in_time.opens.asked may.in_time.opens.it may.in_time.opens.mode_is may.in_time.opens.group_is may.in_time.opens.asks.opening_is) waits
     step_so (says.Refuse e call request i m f why) may step a waits = told_so (says.Refuse e call request i m f why) a (answer.Refused why) may.in_time.opens.asks.wanted (heard c older d) (by_own call d _ (heard c older d) step)

@@ -2,6 +2,7 @@
 -- file, and only a call on a descriptor writes or cuts.
 use Rattle.std.proofs.Common.{◌≡◌, ℕ, Bool, true, false, cond, List, [], ◌∷◌, Option, Some, None, refl, sym, ◌∙◌, ap, subst, inl, inr}
 use Rattle.locus_ids.specs.declared.ids.CallId.{CallId}
+use Rattle.locus_ids.specs.declared.ids.EpochId.{EpochId}
 use Rattle.locus_ids.specs.declared.config.Mount.{Mount}
 use Rattle.locus_ids.specs.declared.ids.FileId.{FileId}
 use Rattle.locus_ids.specs.declared.ids.Kind.{Kind}
@@ -13,8 +14,10 @@ use Rattle.trace_book.specs.Names.{but_last, components, last_of}
 use Rattle.trace_book.specs.declared.call.Call.{Call}
 use Rattle.trace_book.specs.declared.call.Call.TheVariants as call
 use Rattle.trace_book.specs.declared.call.OpenMode.{OpenMode}
+use Rattle.trace_book.specs.declared.call.OpenMode.TheVariants as how
 use Rattle.trace_book.specs.declared.descriptor.Beginning.{Beginning}
 use Rattle.trace_book.specs.declared.descriptor.Beginning.TheVariants as begins
+use Rattle.trace_book.specs.declared.descriptor.OneVersion.{OneVersion}
 use Rattle.trace_book.specs.declared.operation.Op.{Op}
 use Rattle.trace_book.specs.declared.operation.Op.TheVariants as op
 use Rattle.trace_book.specs.declared.operation.What.{What}
@@ -26,6 +29,7 @@ use Rattle.call_rules.specs.Making.{opens_dir, probes}
 use Rattle.call_rules.specs.Naming.{renames}
 use Rattle.call_rules.specs.Opening.{describes, lists, opens_file, shown_in}
 use Rattle.call_rules.specs.Removing.{finds}
+use Rattle.call_rules.specs.Reopening.{reopen_wants}
 use Rattle.call_rules.specs.Scripts.{begun_wants, named_wants, path_wants, wants, where_packed}
 use Rattle.call_rules.specs.Walks.{mounted_in, passes, root_of, walk, walked}
 use Rattle.call_rules.specs.Words.{is_badly_named}
@@ -34,6 +38,7 @@ use Rattle.call_rules.specs.declared.answer.Answer.TheVariants as answer
 use Rattle.call_rules.specs.declared.want.Want.{Want}
 use Rattle.call_rules.specs.declared.want.Want.TheVariants as want
 use Rattle.tree_laws.proofs.Holding.{Script}
+use Rattle.rest_laws.proofs.of_holding_laws.MendReopens.{reopen_so}
 use Rattle.rest_laws.proofs.of_one_tree_laws.RemoveScripts.{Along, IsOr, along_same, goes, goes_walked, packed_is}
 use Rattle.fit_laws.specs.EntryEntries.{IsMail}
 use Rattle.fit_laws.proofs.EntryAsked.{IsOfDirs, IsOfFiles, IsWhole, Parts, WritesSo, describes_so, finds_so, lists_so, mend_so, opens_dir_so, probes_so, renames_so, uses_so}
@@ -73,10 +78,24 @@ abbrev pub DeniedAsks : Want → Type 0
 DeniedAsks (want.Give r) = Unit {0}
 DeniedAsks _ = ⊥
 
+-- what a read asks that opens a version again
+abbrev pub RereaderAsks : Want → Type 0
+RereaderAsks (want.Open f m) = m ≡ how.Read
+RereaderAsks (want.Do i (op.Read at len)) = Unit {0}
+RereaderAsks (want.Close i) = Unit {0}
+RereaderAsks (want.Give r) = Unit {0}
+RereaderAsks want.Never = Unit {0}
+RereaderAsks _ = ⊥
+
+pub rereader_so : (words : Call) (kept : OneVersion) (last : EpochId) (xs : List Answer) → RereaderAsks (reopen_wants words kept last xs)
+rereader_so words kept last xs = reopen_so RereaderAsks kept (record { opens = refl; reads = λ i at len. tt; closes = λ i. tt; replies = λ r. tt; never = tt }) words last xs
+
 abbrev pub AsksBy : (FileId → Kind → Type 0) → Call → Beginning → Want → Type 0
 AsksBy Known words (begins.Walks id) w = WalkerAsks Known words w
 AsksBy Known words (begins.Uses e i) w = UserAsks w
 AsksBy Known words (begins.Denied why) w = DeniedAsks w
+AsksBy Known words (begins.Reopens kept last) w = RereaderAsks w
+AsksBy Known words begins.Frees w = DeniedAsks w
 
 -- ---- a script ----
 
@@ -137,6 +156,7 @@ module _ (Q : Want → Answer → Type 0) (Known : FileId → Kind → Type 0) (
   opens_file_so path m free f kind.Dir xs known = tt
   opens_file_so path m free f kind.File [] known = known
   opens_file_so path m (Some fd) f kind.File (answer.Opened i ino ∷ []) known = tt
+  opens_file_so path m (Some fd) f kind.File (answer.Reading i version ∷ []) known = tt
   opens_file_so path m None f kind.File (answer.Refused why ∷ []) known = tt
   opens_file_so path m (Some fd) f kind.File (answer.Refused why ∷ []) known = tt
   opens_file_so path m None f kind.File (_ ∷ rest) known = tt
@@ -193,11 +213,15 @@ module _ (Q : Want → Answer → Type 0) (Known : FileId → Kind → Type 0) (
   begun_so mounts free words (begins.Walks id) xs h = path_so mounts free id words xs h
   begun_so mounts free words (begins.Denied why) xs h = tt
   begun_so mounts free words (begins.Uses e i) xs h = uses_so UserAsks (record { gives = λ r. tt; never = tt; closes = λ j. tt }) (λ j o k. k) words i xs
+  begun_so mounts free words (begins.Reopens kept last) xs h = rereader_so words kept last xs
+  begun_so mounts free words begins.Frees xs h = tt
 
   given_so : (words : Call) (b : Beginning) (r : Reply) → AsksBy Known words b (want.Give r)
   given_so words (begins.Walks id) r = tt
   given_so words (begins.Denied why) r = tt
   given_so words (begins.Uses e i) r = tt
+  given_so words (begins.Reopens kept last) r = tt
+  given_so words begins.Frees r = tt
 
   unpacked : (pk : ℕ → Bool) (w : Want) (a : Answer) → Q (where_packed pk w) a → Q w a
   unpacked pk w a k = over (packed_is pk w)

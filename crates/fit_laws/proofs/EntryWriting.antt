@@ -69,6 +69,7 @@ opens_file_none : (m : OpenMode) (free : Option ℕ) (f : FileId) (k : Kind) (xs
 opens_file_none m free f kind.Dir xs = tt
 opens_file_none m free f kind.File [] = tt
 opens_file_none m (Some fd) f kind.File (answer.Opened i ino ∷ []) = tt
+opens_file_none m (Some fd) f kind.File (answer.Reading i version ∷ []) = tt
 opens_file_none m None f kind.File (answer.Refused why ∷ []) = tt
 opens_file_none m (Some fd) f kind.File (answer.Refused why ∷ []) = tt
 opens_file_none m None f kind.File (_ ∷ rest) = tt

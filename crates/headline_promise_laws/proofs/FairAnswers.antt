@@ -160,9 +160,10 @@ looked_no_end c before f what.List (served.At stamp) = tt
 looked_no_end c before f what.Stat (served.At stamp) = tt
 looked_no_end c before f (what.Whole asked) (served.At stamp) = tt
 
-pub granted_no_end : (m : Mode) (i : Serial) (f : FileId) (ss : List Stamp) → IsNoEnd (granted_answer m i f ss)
-granted_no_end mode.Mend i f ss = tt
-granted_no_end _ i f ss = tt
+pub granted_no_end : (m : Mode) (i : Serial) (f : FileId) (stamp : Option Stamp) (ss : List Stamp) → IsNoEnd (granted_answer m i f stamp ss)
+granted_no_end mode.Read i f (Some stamp) ss = tt
+granted_no_end mode.Read i f None ss = tt
+granted_no_end _ i f stamp ss = tt
 
 pub outcome_no_end : (r : Outcome) → IsNoEnd (outcome_answer r)
 outcome_no_end (outcome.No why) = tt

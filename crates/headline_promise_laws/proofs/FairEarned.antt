@@ -90,14 +90,14 @@ looked_won s xs m a f w i numbered asks h = still_won s (take (m - 1) xs) a i (a
         up (suc r) q = omega arith
 
 -- a make and an open that resolves earn what they are granted
-pub grant_earns : (m : Mode) (i : Serial) (f : FileId) (kept : List Stamp) (w : Want) → is_open_of m f w ≡ true → begins_owing m ≡ true → earns w (granted_answer m i f kept) i ≡ true
-grant_earns mode.Make i f kept (want.Make group kind sites) asks h = serial_own i
-grant_earns mode.Resolve i f kept (want.Open g (how.Resolve site)) asks h = serial_own i
-grant_earns mode.Read i f kept w asks h = false_true h
-grant_earns mode.Write i f kept w asks h = false_true h
-grant_earns mode.Mend i f kept w asks h = false_true h
-grant_earns mode.Make i f kept _ asks h = false_true asks
-grant_earns mode.Resolve i f kept _ asks h = false_true asks
+pub grant_earns : (m : Mode) (i : Serial) (f : FileId) (stamp : Option Stamp) (kept : List Stamp) (w : Want) → is_open_of m f w ≡ true → begins_owing m ≡ true → earns w (granted_answer m i f stamp kept) i ≡ true
+grant_earns mode.Make i f stamp kept (want.Make group kind sites) asks h = serial_own i
+grant_earns mode.Resolve i f stamp kept (want.Open g (how.Resolve site)) asks h = serial_own i
+grant_earns mode.Read i f stamp kept w asks h = false_true h
+grant_earns mode.Write i f stamp kept w asks h = false_true h
+grant_earns mode.Mend i f stamp kept w asks h = false_true h
+grant_earns mode.Make i f stamp kept _ asks h = false_true asks
+grant_earns mode.Resolve i f stamp kept _ asks h = false_true asks
 
 -- Operations.
 

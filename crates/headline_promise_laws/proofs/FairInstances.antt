@@ -43,9 +43,9 @@ use Rattle.lawful_trace.specs.Lawful.{MayCome}
 use Rattle.lawful_trace.specs.Progress.{answers, wants_after, wants_next, outcome_answer, granted_answer, look_answer as answer_by, close_answer as close_by}
 use Rattle.lawful_trace.specs.Tables.{is_call, call_of_act, call_of_release, has_named, unless_named, use_number, uses_of}
 use Rattle.lawful_trace.specs.TreeRows.{IsCallIn, granted_group, is_next_or_again}
-use Rattle.promises.specs.Past.{Past, Epoch, CallSoFar, Instance, Named, asks_after, epoch_at, ends, first_or, is_named, is_on, is_close, is_writer, unformed}
+use Rattle.promises.specs.Past.{Past, Epoch, CallSoFar, Instance, asks_after, epoch_at, ends, first_or, is_named, is_on, is_close, is_writer, unformed}
 use Rattle.promises.specs.Tree.{work_after}
-use Rattle.promises.specs.After.{is_id, is_epoch, is_home_of, is_ender, change, told_by, answered, close_answer, acted, released, opened_as, process_of, taken_by, with_epoch, uses}
+use Rattle.promises.specs.After.{is_id, is_epoch, is_home_of, is_ender, change, told_by, answered, close_answer, acted, released, opened_as, process_of, with_epoch, uses, named_by, once_named}
 use Rattle.past_laws.specs.Agreement.{Agrees, past, waiting_as}
 use Rattle.past_laws.specs.Along.{EachComesSo, IsNamed}
 use Rattle.past_laws.specs.Standing.{InstanceStands, EpochStands}
@@ -63,9 +63,12 @@ use Rattle.past_laws.proofs.CallsUsers.{numbered}
 use Rattle.past_laws.proofs.FilesFirst.{Committer, committer}
 use Rattle.past_laws.proofs.TreesLists.{any_one}
 use Rattle.headline_promise_laws.specs.Fair.{Script, changes, earns, closes, fits, won_by, none_won}
-use Rattle.headline_promise_laws.proofs.FairAnswers.{script_of, script_stays, open_no_close}
+use Rattle.headline_promise_laws.proofs.FairAnswers.{script_of, script_stays, open_no_close, NotUses}
 use Rattle.headline_promise_laws.proofs.FairEarned.{no_close, still_won, now_won, looked_won, grant_earns, earned, TellsDone, earned_after}
 use Rattle.headline_promise_laws.proofs.FairSteps.{ReleaseFits}
+use Rattle.trace_book.specs.declared.descriptor.Beginning.TheVariants as begins
+use Rattle.trace_book.specs.declared.descriptor.Descriptor.{Descriptor}
+use Rattle.trace_book.specs.declared.reply.Reply.TheVariants as reply
 
 -- The call of an open instance is of its epoch, and has won it by its answers where the work is earned and none has named it.
 pub record Holds (c : Config) (trace : Trace) (calls : List CallSoFar) (e : EpochId) (g : Granted) (named : Bool) (work : Work) : Type 0 where
@@ -138,9 +141,9 @@ still c n (says.Look at id m f what result) before p may a e j k own within apar
         is_numbered d = is_next_or_again m (length (answers c before d))
 still c n (says.Grant at id m i mode f stamp ss) before p may a e j k own within apart h = unless (same_call id k.id) (script_of c before k) (answers c before k.id) _ j it h
   where
-    it : same_call id k.id ≡ true → won_by none_won (script_of c before k) (answers c before k.id ++ granted_answer mode i f (kept_by c before at f) ∷ []) j ≡ true
+    it : same_call id k.id ≡ true → won_by none_won (script_of c before k) (answers c before k.id ++ granted_answer mode i f stamp (kept_by c before at f) ∷ []) j ≡ true
     it q = (let asked = open_no_close mode f (wants_next c before id) may.opens.asked in
-        still_won (script_of c before k) (answers c before k.id) (granted_answer mode i f (kept_by c before at f)) j (ap (λ (v : Want). closes v j) (next_asks c before p a k own id (sym (call_eq id k.id q)) (wants_next c before id) refl asked.1) ∙ no_close (wants_next c before id) j asked.0) h)
+        still_won (script_of c before k) (answers c before k.id) (granted_answer mode i f stamp (kept_by c before at f)) j (ap (λ (v : Want). closes v j) (next_asks c before p a k own id (sym (call_eq id k.id q)) (wants_next c before id) refl asked.1) ∙ no_close (wants_next c before id) j asked.0) h)
 still c n (says.Refuse at id m i mode f why) before p may a e j k own within apart h = unless (same_call id k.id) (script_of c before k) (answers c before k.id) _ j it h
   where
     it : same_call id k.id ≡ true → won_by none_won (script_of c before k) (answers c before k.id ++ answer.Refused why ∷ []) j ≡ true
@@ -250,9 +253,9 @@ grant_holds c n at id m i mode f stamp ss before p may a = by (called_in c befor
     by k = next_holds c n (says.Grant at id m i mode f stamp ss) before p may a at g true false (opened_as p g stamp).work (opened_as p g stamp).work (record { call = k.call; own = k.own; is = k.is; within = k.within; won = λ u v. false_true (sym u) })
         (λ u v. (let asked = open_no_close mode f (wants_next c before id) may.opens.asked in
         let asks = next_asks c before p a k.call k.own id k.is (wants_next c before id) refl asked.1 in
-        ap (λ (b : Bool). won_by none_won (script_of c before k.call) (cond b (answers c before k.call.id ++ granted_answer mode i f (kept_by c before at f) ∷ []) (answers c before k.call.id)) i) (call_test id k.call.id (sym k.is))
-        ∙ now_won (script_of c before k.call) (answers c before k.call.id) (granted_answer mode i f (kept_by c before at f)) i (ap (λ (w : Want). closes w i) asks ∙ no_close (wants_next c before id) i asked.0)
-        (ap (λ (w : Want). earns w (granted_answer mode i f (kept_by c before at f)) i) asks ∙ grant_earns mode i f (kept_by c before at f) (wants_next c before id) may.opens.asked (owing (begins_owing mode) v))))
+        ap (λ (b : Bool). won_by none_won (script_of c before k.call) (cond b (answers c before k.call.id ++ granted_answer mode i f stamp (kept_by c before at f) ∷ []) (answers c before k.call.id)) i) (call_test id k.call.id (sym k.is))
+        ∙ now_won (script_of c before k.call) (answers c before k.call.id) (granted_answer mode i f stamp (kept_by c before at f)) i (ap (λ (w : Want). closes w i) asks ∙ no_close (wants_next c before id) i asked.0)
+        (ap (λ (w : Want). earns w (granted_answer mode i f stamp (kept_by c before at f)) i) asks ∙ grant_earns mode i f stamp (kept_by c before at f) (wants_next c before id) may.opens.asked (owing (begins_owing mode) v))))
 
 -- Operations.
 
@@ -377,11 +380,19 @@ replies_hold c n s process id r before p may a all = at (answered_one c before p
     at k = subst (λ (q : Past). AllHold c (With n w before) (told_by c w p).calls q.epochs) (sym (answered_past before p s process id r c k)) (each_mapped (λ (t : Epoch). EachHolds c before p.calls t.id t.opened) (λ (t : Epoch). EachHolds c (With n w before) (told_by c w p).calls t.id t.opened) _ one p.epochs all)
       where
         takes : EpochId → Instance → Bool
-        takes e x = list_any (λ (d : Named). is_in (Some d.names.epoch) e && is_named d.names.inst x) (taken_by r k.one)
+        takes e x = list_any (λ (d : Descriptor). is_in (Some d.epoch) e && is_named d.inst x) (named_by r k.one)
 
-        one : (t : Epoch) → EachHolds c before p.calls t.id t.opened → EachHolds c (With n w before) (told_by c w p).calls t.id (change (takes t.id) (λ (x : Instance). record x { named = true }) t.opened)
-        one t h = each_changed (λ (x : Instance). Holds c before p.calls t.id x.grant x.named x.work) (λ (x : Instance). Holds c (With n w before) (told_by c w p).calls t.id x.grant x.named x.work) (takes t.id) (λ (x : Instance). record x { named = true })
-            (λ x q j. kept c n w before p may a t.id x.grant x.named true x.work x.work tt (λ u v. false_true (sym u)) j)
+        -- what it names is won no more
+        named_now : (t : Epoch) (x : Instance) → Holds c before p.calls t.id x.grant x.named x.work → Holds c (With n w before) (told_by c w p).calls t.id x.grant true x.work
+        named_now t x j = kept c n w before p may a t.id x.grant x.named true x.work x.work tt (λ u v. false_true (sym u)) j
+
+        named_so : (q : Reply) (t : Epoch) (x : Instance) → Holds c (With n w before) (told_by c w p).calls t.id x.grant true x.work → Holds c (With n w before) (told_by c w p).calls t.id (once_named q x).grant (once_named q x).named (once_named q x).work
+        named_so (reply.Data bytes) t x j = j
+        named_so _ t x j = j
+
+        one : (t : Epoch) → EachHolds c before p.calls t.id t.opened → EachHolds c (With n w before) (told_by c w p).calls t.id (change (takes t.id) (once_named r) t.opened)
+        one t h = each_changed (λ (x : Instance). Holds c before p.calls t.id x.grant x.named x.work) (λ (x : Instance). Holds c (With n w before) (told_by c w p).calls t.id x.grant x.named x.work) (takes t.id) (once_named r)
+            (λ x q j. named_so r t x (named_now t x j))
             (λ x q j. kept c n w before p may a t.id x.grant x.named x.named x.work x.work tt (λ u v. (u, v)) j) t.opened h
 
 -- All records.
@@ -428,9 +439,14 @@ hold_at c trace calls e (t ∷ ts) k = at (is_epoch e t) (hold_at c trace calls 
     at true later = k.0
     at false later = later
 
+-- a call that uses no instance of a descriptor begins at none
+not_on : (b : Beginning) (e : EpochId) (i : Serial) (x : Bool) → NotUses b → (is_on b e i && x) ≡ false
+not_on (begins.Uses at j) e i x other = absurd other
+not_on _ e i x other = refl
+
 pub release_fits : (c : Config) (before : Trace) (p : Past) (e : EpochId) (i : Serial) (f : FileId) (stamp : Option Stamp) → MayCome c before (says.Release e i f stamp) → Agrees c before p → AllHold c before p.calls p.epochs
     → ((y : TreeInstance) → instance_in (tree_of c e f.group before) i ≡ Some y → y.work.owes ≡ false) → ReleaseFits c before p (says.Release e i f stamp)
-release_fits c before p e i f stamp may a all owed k own mine id walks = by (releases_open c before p e i f stamp may a)
+release_fits c before p e i f stamp may a all owed k own mine walks = by (releases_open c before p e i f stamp may a)
   where
     by : Releases c before p e i f → fits (won_by none_won (asks_after c p k) k.answers) (want.Close i) (close_by stamp (instance_in (tree_of c e f.group before) i)) ≡ true
     by r = ap (λ (o : Option TreeInstance). fits (won_by none_won (asks_after c p k) k.answers) (want.Close i) (close_by stamp o)) r.found
@@ -456,7 +472,7 @@ release_fits c before p e i f stamp may a all owed k own mine id walks = by (rel
 
         -- no descriptor has named it, and the call is the one that it was granted to
         unnamed : (b : Bool) → cond b (is_on k.begins (epoch_at p e).id x.grant.inst && is_close k.words) (same_call k.id x.grant.call) ≡ true → (b ≡ false) × (same_call k.id x.grant.call ≡ true)
-        unnamed true h = false_true (sym (ap (λ (z : Beginning). is_on z (epoch_at p e).id x.grant.inst && is_close k.words) walks) ∙ h)
+        unnamed true h = false_true (sym (not_on k.begins (epoch_at p e).id x.grant.inst (is_close k.words) walks) ∙ h)
         unnamed false h = (refl, h)
 
         alone : (x.named ≡ false) × (same_call k.id x.grant.call ≡ true)

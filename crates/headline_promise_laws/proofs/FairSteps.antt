@@ -1,5 +1,5 @@
 -- Each record keeps that requests are answered fairly, where releases are.
-use Rattle.std.proofs.Common.{◌≡◌, ℕ, ◌-◌, Bool, true, false, cond, List, [], ◌∷◌, ◌++◌, take, Option, Some, refl, sym, ◌∙◌, ap, subst}
+use Rattle.std.proofs.Common.{◌≡◌, ℕ, ◌-◌, Bool, true, false, cond, List, [], ◌∷◌, ◌++◌, take, Option, Some, None, refl, sym, ◌∙◌, ap, subst}
 use Rattle.std.specs.Prelude.{fold}
 use Rattle.std.specs.List.{find}
 use Rattle.locus_ids.specs.declared.config.Config.{Config}
@@ -8,8 +8,6 @@ use Rattle.locus_ids.specs.declared.ids.EpochId.{EpochId}
 use Rattle.locus_ids.specs.declared.ids.FileId.{FileId}
 use Rattle.locus_ids.specs.declared.ids.Serial.{Serial}
 use Rattle.locus_ids.specs.declared.ids.Stamp.{Stamp}
-use Rattle.locus_ids.specs.declared.refusal.Refusal.{Refusal}
-use Rattle.locus_ids.specs.declared.refusal.Refusal.TheVariants.{BadName}
 use Rattle.trace_book.specs.Same.{same_call}
 use Rattle.trace_book.specs.declared.call.Call.{Call}
 use Rattle.trace_book.specs.declared.descriptor.Beginning.{Beginning}
@@ -23,11 +21,12 @@ use Rattle.call_rules.specs.declared.answer.Answer.{Answer}
 use Rattle.call_rules.specs.declared.answer.Answer.TheVariants as answer
 use Rattle.call_rules.specs.declared.want.Want.{Want}
 use Rattle.call_rules.specs.declared.want.Want.TheVariants as want
-use Rattle.call_rules.specs.Scripts.{wants, where_packed}
-use Rattle.call_rules.specs.Words.{is_badly_named}
+use Rattle.call_rules.specs.Scripts.{wants}
+use Rattle.call_rules.specs.Opening.{is_steady}
 use Rattle.tree_model.specs.Folds.{Trace}
 use Rattle.tree_model.specs.State.{instance_in}
 use Rattle.tree_model.specs.Tree.{tree_of}
+use Rattle.tree_model.specs.Calls.{version_at}
 use Rattle.lawful_trace.specs.Lawful.{MayCome}
 use Rattle.lawful_trace.specs.Progress.{answers, is_packed_in, wants_after, wants_next, outcome_answer, granted_answer, closed, look_answer as answer_by, close_answer as close_by}
 use Rattle.lawful_trace.specs.Tables.{is_call, call_of_act, call_of_release}
@@ -59,21 +58,13 @@ one_more c before k w x fair walks asks no_close no_end = fair_more none_won (sc
 
 -- a release is answered fairly: it ends, and tells a version only where it may
 abbrev pub ReleaseFits : Config → Trace → Past → Record → Type 0
-ReleaseFits c before p (says.Release e i f stamp) = (k : CallSoFar) → find (is_id k.id) p.calls ≡ Some k → is_call (call_of_release before e i) k.id ≡ true → (x : CallId) → k.begins ≡ begins.Walks x
+ReleaseFits c before p (says.Release e i f stamp) = (k : CallSoFar) → find (is_id k.id) p.calls ≡ Some k → is_call (call_of_release before e i) k.id ≡ true → NotUses k.begins
     → fits (won_by none_won (asks_after c p k) k.answers) (want.Close i) (close_by stamp (instance_in (tree_of c e f.group before) i)) ≡ true
 ReleaseFits c before p _ = Unit {0}
 
 -- an owner is the call of the step
 owner_is : (o : Option CallId) (d : CallId) (k : CallSoFar) → o ≡ Some d → is_call o k.id ≡ true → k.id ≡ d
 owner_is o d k owned h = sym (call_eq d k.id (ap (λ (x : Option CallId). is_call x k.id) (sym owned) ∙ h))
-
--- a call that is denied asks nothing
-denied_asks : {A : Type 0} (c : Config) (before : Trace) (k : CallSoFar) (why : Refusal) (i : Serial) (xs : List Answer) → k.begins ≡ begins.Denied why → script_of c before k xs ≡ want.Close i → A
-denied_asks {A} c before k why i xs h asks = over (is_badly_named c.mounts k.words) (sym (ap (λ (b : Beginning). wants c.mounts (is_packed_in c before k.epoch) k.free k.words b xs) h) ∙ asks)
-  where
-    over : (bad : Bool) → where_packed (is_packed_in c before k.epoch) (cond bad (want.Give (reply.No BadName)) (want.Give (reply.No why))) ≡ want.Close i → A
-    over true e = absurd (cc)
-    over false e = absurd (cc)
 
 fair_look : (c : Config) (n : ℕ) (e : EpochId) (id : CallId) (request : ℕ) (f : FileId) (w : What) (result : Served) (before : Trace) (p : Past) → MayCome c before (says.Look e id request f w result) → Agrees c before p → AllFair c before p → (k : CallSoFar) → find (is_id k.id) (told_by c (says.Look e id request f w result) p).calls ≡ Some k
     → IsFair c (With n (says.Look e id request f w result) before) k
@@ -103,15 +94,10 @@ fair_release c n e i f stamp before p may a fit all k found = at (releases_open 
         more : (x : CallSoFar) → find (is_id x.id) p.calls ≡ Some x → is_ender (epoch_at p e) i x ≡ true → IsFair c before x → NotUses x.begins → is_fair none_won (script_of c before x) (x.answers ++ close_answer stamp r.opened.one ∷ []) ≡ true
         more x own is fair walks = fair_more none_won (script_of c before x) x.answers (close_answer stamp r.opened.one) (fair walks)
             (ap (λ (v : Want). fits (won_by none_won (script_of c before x) x.answers) v (close_answer stamp r.opened.one)) (next_of c before p a x own may.step.call (owner_is (call_of_release before e i) may.step.call x may.step.owned ends) (want.Close i) may.step.asked refl)
-            ∙ (ap (fits (won_by none_won (script_of c before x) x.answers) (want.Close i)) same ∙ (ap (λ (s : List Answer → Want). fits (won_by none_won s x.answers) (want.Close i) (close_by stamp (instance_in (tree_of c e f.group before) i))) scripts ∙ fitting x.begins refl walks)))
+            ∙ (ap (fits (won_by none_won (script_of c before x) x.answers) (want.Close i)) same ∙ (ap (λ (s : List Answer → Want). fits (won_by none_won s x.answers) (want.Close i) (close_by stamp (instance_in (tree_of c e f.group before) i))) scripts ∙ fit x own ends walks)))
           where
             ends : is_call (call_of_release before e i) x.id ≡ true
             ends = sym (ender_is c before p e i f stamp may a x own) ∙ is
-
-            fitting : (b : Beginning) → x.begins ≡ b → NotUses x.begins → fits (won_by none_won (asks_after c p x) x.answers) (want.Close i) (close_by stamp (instance_in (tree_of c e f.group before) i)) ≡ true
-            fitting (begins.Walks id) h not_uses = fit x own ends id h
-            fitting (begins.Denied why) h not_uses = denied_asks c before x why i x.answers h (next_of c before p a x own may.step.call (owner_is (call_of_release before e i) may.step.call x may.step.owned ends) (want.Close i) may.step.asked refl)
-            fitting (begins.Uses at j) h not_uses = absurd (subst NotUses h not_uses)
 
             scripts : script_of c before x ≡ asks_after c p x
             scripts = λ j xs. (sym (asks_by c before p a x xs)) j
@@ -126,9 +112,9 @@ fair_accept c n s process new words before p may a all k found = over (same_call
 pub fair_step : (c : Config) (n : ℕ) (w : Record) (before : Trace) (p : Past) → MayCome c before w → Agrees c before p → ReleaseFits c before p w → AllFair c before p → (k : CallSoFar) → find (is_id k.id) (told_by c w p).calls ≡ Some k → IsFair c (With n w before) k
 fair_step c n (says.Accept s process new words) before p may a fit all k found = fair_accept c n s process new words before p may a all k found
 fair_step c n (says.Look e id request f w result) before p may a fit all k found = fair_look c n e id request f w result before p may a all k found
-fair_step c n (says.Grant e id request i m f stamp ss) before p may a fit all k found = fair_changed c n (says.Grant e id request i m f stamp ss) before p may a (is_id id) (λ (x : CallSoFar). record x { granted = Some (record { mode = m; epoch = e; inst = i }); answers = x.answers ++ granted_answer m i f (kept_in p (epoch_at p e) f) ∷ [] })
-    (λ old. old ++ granted_answer m i f (kept_in p (epoch_at p e) f) ∷ []) (λ x. refl) (λ x. refl)
-    (λ x own is fair walks. (let asked = open_no_close m f (wants_next c before id) may.opens.asked in one_more c before x (wants_next c before id) (granted_answer m i f (kept_in p (epoch_at p e) f)) fair walks (next_of c before p a x own id (call_eq x.id id is) (wants_next c before id) refl asked.1) asked.0 (granted_no_end m i f (kept_in p (epoch_at p e) f)))) all k found
+fair_step c n (says.Grant e id request i m f stamp ss) before p may a fit all k found = fair_changed c n (says.Grant e id request i m f stamp ss) before p may a (is_id id) (λ (x : CallSoFar). record x { granted = Some (record { mode = m; epoch = e; inst = i; steady = cond (is_steady x.words) (version_at f stamp) None }); answers = x.answers ++ granted_answer m i f stamp (kept_in p (epoch_at p e) f) ∷ [] })
+    (λ old. old ++ granted_answer m i f stamp (kept_in p (epoch_at p e) f) ∷ []) (λ x. refl) (λ x. refl)
+    (λ x own is fair walks. (let asked = open_no_close m f (wants_next c before id) may.opens.asked in one_more c before x (wants_next c before id) (granted_answer m i f stamp (kept_in p (epoch_at p e) f)) fair walks (next_of c before p a x own id (call_eq x.id id is) (wants_next c before id) refl asked.1) asked.0 (granted_no_end m i f stamp (kept_in p (epoch_at p e) f)))) all k found
 fair_step c n (says.Refuse e id request i m f why) before p may a fit all k found = fair_changed c n (says.Refuse e id request i m f why) before p may a (is_id id) (λ (x : CallSoFar). record x { answers = x.answers ++ answer.Refused why ∷ [] }) (λ old. old ++ answer.Refused why ∷ []) (λ x. refl) (λ x. refl)
     (λ x own is fair walks. (let asked = open_no_close m f (wants_next c before id) may.opens.asked in one_more c before x (wants_next c before id) (answer.Refused why) fair walks (next_of c before p a x own id (call_eq x.id id is) (wants_next c before id) refl asked.1) asked.0 tt)) all k found
 fair_step c n (says.Act e i m o result) before p may a fit all k found = fair_changed c n (says.Act e i m o result) before p may a (is_actor (epoch_at p e) i m) (λ (x : CallSoFar). record x { answers = x.answers ++ outcome_answer result ∷ [] }) (λ old. old ++ outcome_answer result ∷ []) (λ x. refl) (λ x. refl)

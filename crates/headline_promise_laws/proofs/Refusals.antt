@@ -11,7 +11,7 @@ use Rattle.locus_ids.specs.declared.ids.Kind.{Kind}
 use Rattle.locus_ids.specs.declared.ids.Kind.TheVariants as kind
 use Rattle.locus_ids.specs.declared.sites.Sites.{Sites}
 use Rattle.locus_ids.specs.declared.refusal.Refusal.{Refusal}
-use Rattle.locus_ids.specs.declared.refusal.Refusal.TheVariants.{BadName, IsDir, NoStorage, NotDir}
+use Rattle.locus_ids.specs.declared.refusal.Refusal.TheVariants.{BadName, IsDir, NoStorage, NotDir, Stale}
 use Rattle.trace_book.specs.Messages.{message_name}
 use Rattle.trace_book.specs.Names.{but_last, components, last_of, plain_name}
 use Rattle.trace_book.specs.Same.{same_serial}
@@ -20,6 +20,7 @@ use Rattle.trace_book.specs.declared.call.Call.TheVariants as call
 use Rattle.trace_book.specs.declared.call.OpenMode.{OpenMode}
 use Rattle.trace_book.specs.declared.descriptor.Beginning.{Beginning}
 use Rattle.trace_book.specs.declared.descriptor.Beginning.TheVariants as begins
+use Rattle.trace_book.specs.declared.descriptor.OneVersion.{OneVersion}
 use Rattle.trace_book.specs.declared.operation.Op.{Op}
 use Rattle.trace_book.specs.declared.operation.Op.TheVariants as op
 use Rattle.trace_book.specs.declared.operation.What.TheVariants as what
@@ -43,11 +44,13 @@ use Rattle.call_rules.specs.Removing.{removes, empties, opens_target, by_kind, f
 use Rattle.call_rules.specs.Scripts.{path_wants, named_wants, where_packed}
 use Rattle.call_rules.specs.Walks.{Walked, Asks, Fails, There, Strays, walk, walked, root_of, passes, mounted_in}
 use Rattle.call_rules.specs.Words.{is_badly_named}
+use Rattle.call_rules.specs.Reopening.{reads_again, reopen_wants, reopened, reopens}
 use Rattle.promises.specs.Past.{CallSoFar, Past, asks, asks_after, is_packed}
 use Rattle.promises.specs.Beside.{is_version_made, makes_file}
 use Rattle.past_laws.proofs.Names.{both_parts, false_true}
 use Rattle.headline_promise_laws.proofs.FairAnswers.{NotUses}
 use Rattle.headline_promise_laws.specs.Fair.{Script, closes, earns, fits, is_fair, none_won, won_after}
+use Rattle.commit_graph.specs.Versions.{same_stamp}
 
 -- no instance may tell a version
 abbrev pub NoneWon : (Serial → Bool) → Type 0
@@ -98,6 +101,7 @@ given_bounds : (won : Serial → Bool) (r : Reply) (xs : List Answer) → Bounds
 given_bounds won r [] f e = omega arith
 given_bounds won r (answer.Ended s ∷ xs) f e = false_true f
 given_bounds won r (answer.Opened i ino ∷ xs) f e = given_bounds _ r xs f e
+given_bounds won r (answer.Reading i version ∷ xs) f e = given_bounds _ r xs f e
 given_bounds won r (answer.Merging i kept ∷ xs) f e = given_bounds _ r xs f e
 given_bounds won r (answer.Did o ∷ xs) f e = given_bounds _ r xs f e
 given_bounds won r (answer.Refused why ∷ xs) f e = given_bounds _ r xs f e
@@ -293,6 +297,31 @@ mend_bounds won file n (answer.Refused r ∷ b ∷ xs) f e = false_true e
 mend_bounds won file n (answer.Ended t ∷ xs) f e = false_true e
 mend_bounds won file n (_ ∷ xs) f e = false_true e
 
+-- A read that opens a version again.
+
+reads_bounds : (won : Serial → Bool) (i : Serial) (at len : ℕ) → NoneWon won → (xs : List Answer) → Bounds 0 won (reads_again i at len) xs
+reads_bounds won i at len n [] f e = omega arith
+reads_bounds won i at len n (answer.Did o ∷ []) f e = omega arith
+reads_bounds won i at len n (answer.Did o ∷ b ∷ xs) f e = false_true e
+reads_bounds won i at len n (answer.Refused r ∷ xs) f e = one_up _ i r (stays won (want.Do i (op.Read at len)) (answer.Refused r) (λ j. refl) (λ j. refl) n) xs f e
+reads_bounds won i at len n (answer.Ended s ∷ xs) f e = false_true e
+reads_bounds won i at len n (_ ∷ xs) f e = false_true e
+
+reopened_bounds : (won : Serial → Bool) (kept : OneVersion) (last : EpochId) (at len : ℕ) (i : Serial) (granted : OneVersion) → NoneWon won → (xs : List Answer) → Bounds 0 won (reopened kept last at len i granted) xs
+reopened_bounds won kept last at len i granted n xs = over (same_stamp granted.stamp kept.stamp)
+  where
+    over : (b : Bool) → Bounds 0 won (λ ys. cond b (reads_again i at len ys) (give_up (Unchanged i ∷ []) (Stale last) ys)) xs
+    over true = reads_bounds won i at len n xs
+    over false = one_up won i (Stale last) n xs
+
+reopens_bounds : (won : Serial → Bool) (kept : OneVersion) (last : EpochId) (at len : ℕ) → NoneWon won → (xs : List Answer) → Bounds 0 won (reopens kept last at len) xs
+reopens_bounds won kept last at len n [] f e = omega arith
+reopens_bounds won kept last at len n (answer.Reading i granted ∷ xs) f e = reopened_bounds _ kept last at len i granted (stays won (want.Open kept.file how.Read) (answer.Reading i granted) (λ j. refl) (λ j. refl) n) xs f e
+reopens_bounds won kept last at len n (answer.Refused r ∷ []) f e = omega arith
+reopens_bounds won kept last at len n (answer.Refused r ∷ b ∷ xs) f e = false_true e
+reopens_bounds won kept last at len n (answer.Ended s ∷ xs) f e = false_true e
+reopens_bounds won kept last at len n (_ ∷ xs) f e = false_true e
+
 -- Open, list and stat, where their walks have come.
 
 opens_bounds : (won : Serial → Bool) (m : OpenMode) (free : Option ℕ) (file : FileId) (k : Kind) (xs : List Answer) → Bounds 0 won (opens_file m free file k) xs
@@ -303,6 +332,10 @@ opens_bounds won m (Some fd) file kind.File (answer.Opened i ino ∷ []) f e = o
 opens_bounds won m None file kind.File (answer.Opened i ino ∷ []) f e = omega arith
 opens_bounds won m (Some fd) file kind.File (answer.Opened i ino ∷ b ∷ xs) f e = false_true e
 opens_bounds won m None file kind.File (answer.Opened i ino ∷ b ∷ xs) f e = false_true e
+opens_bounds won m (Some fd) file kind.File (answer.Reading i version ∷ []) f e = omega arith
+opens_bounds won m None file kind.File (answer.Reading i version ∷ []) f e = omega arith
+opens_bounds won m (Some fd) file kind.File (answer.Reading i version ∷ b ∷ xs) f e = false_true e
+opens_bounds won m None file kind.File (answer.Reading i version ∷ b ∷ xs) f e = false_true e
 opens_bounds won m free file kind.File (answer.Refused r ∷ []) f e = omega arith
 opens_bounds won (m) (Some fd) file kind.File (answer.Refused r ∷ b ∷ xs) f e = false_true e
 opens_bounds won (m) None file kind.File (answer.Refused r ∷ b ∷ xs) f e = false_true e
@@ -406,6 +439,10 @@ path_bounds mounts free id (call.Cut fd len) xs = λ f e. false_true e
 path_bounds mounts free id (call.Commit fd) xs = λ f e. false_true e
 path_bounds mounts free id (call.Abort fd) xs = λ f e. false_true e
 path_bounds mounts free id (call.Close fd) xs = λ f e. false_true e
+
+reopen_bounds : (words : Call) (kept : OneVersion) (last : EpochId) (xs : List Answer) → Bounds (most words) none_won (reopen_wants words kept last) xs
+reopen_bounds (call.Read fd at len) kept last xs = reopens_bounds none_won kept last at len (λ j. refl) xs
+reopen_bounds _ kept last xs = λ f e. false_true e
 
 -- a call that uses a descriptor tells no version before its reply
 op_none : (i : Serial) (o : Op) (xs : List Answer) → stalls (op_wants i o xs) ≡ true → versions xs ≤ 0
@@ -575,9 +612,13 @@ refused_bounds c p k fair plain e = over k.begins refl
     walk_so id true xs = more (most k.words) none_won (λ ys. want.Give (reply.No BadName)) xs (given_bounds none_won (reply.No BadName) xs)
     walk_so id false xs = path_bounds c.mounts k.free id k.words xs
 
-    denied_so : (why : Refusal) (b : Bool) (xs : List Answer) → Bounds (most k.words) none_won (λ ys. cond b (want.Give (reply.No BadName)) (want.Give (reply.No why))) xs
-    denied_so why true xs = more (most k.words) none_won (λ ys. want.Give (reply.No BadName)) xs (given_bounds none_won (reply.No BadName) xs)
-    denied_so why false xs = more (most k.words) none_won (λ ys. want.Give (reply.No why)) xs (given_bounds none_won (reply.No why) xs)
+    again_so : (kept : OneVersion) (last : EpochId) (b : Bool) (xs : List Answer) → Bounds (most k.words) none_won (λ ys. cond b (want.Give (reply.No BadName)) (reopen_wants k.words kept last ys)) xs
+    again_so kept last true xs = more (most k.words) none_won (λ ys. want.Give (reply.No BadName)) xs (given_bounds none_won (reply.No BadName) xs)
+    again_so kept last false xs = reopen_bounds k.words kept last xs
+
+    given_so : (r : Reply) (b : Bool) (xs : List Answer) → Bounds (most k.words) none_won (λ ys. cond b (want.Give (reply.No BadName)) (want.Give r)) xs
+    given_so r true xs = more (most k.words) none_won (λ ys. want.Give (reply.No BadName)) xs (given_bounds none_won (reply.No BadName) xs)
+    given_so r false xs = more (most k.words) none_won (λ ys. want.Give r) xs (given_bounds none_won r xs)
 
     uses_so : (i : Serial) (b : Bool) → b ≡ false → (xs : List Answer) → stalls (cond b (want.Give (reply.No BadName)) (uses_wants k.words i xs)) ≡ true → versions xs ≤ most k.words
     uses_so i true h xs = false_true (sym h)
@@ -594,5 +635,7 @@ refused_bounds c p k fair plain e = over k.begins refl
 
     over : (b : Beginning) → k.begins ≡ b → nat_le (versions k.answers) (cond (makes_file k.words) 1 0) ≡ true
     over (begins.Walks id) h = ends (walk_so id bad k.answers (packed_fair pk (named_wants c.mounts k.free k.words (begins.Walks id)) none_won none_won (λ j x. x) k.answers (given (begins.Walks id) h tt)) (stalled (begins.Walks id) h))
-    over (begins.Denied why) h = ends (denied_so why bad k.answers (packed_fair pk (named_wants c.mounts k.free k.words (begins.Denied why)) none_won none_won (λ j x. x) k.answers (given (begins.Denied why) h tt)) (stalled (begins.Denied why) h))
+    over (begins.Reopens kept last) h = ends (again_so kept last bad k.answers (packed_fair pk (named_wants c.mounts k.free k.words (begins.Reopens kept last)) none_won none_won (λ j x. x) k.answers (given (begins.Reopens kept last) h tt)) (stalled (begins.Reopens kept last) h))
+    over begins.Frees h = ends (given_so (reply.Closed None) bad k.answers (packed_fair pk (named_wants c.mounts k.free k.words begins.Frees) none_won none_won (λ j x. x) k.answers (given begins.Frees h tt)) (stalled begins.Frees h))
+    over (begins.Denied why) h = ends (given_so (reply.No why) bad k.answers (packed_fair pk (named_wants c.mounts k.free k.words (begins.Denied why)) none_won none_won (λ j x. x) k.answers (given (begins.Denied why) h tt)) (stalled (begins.Denied why) h))
     over (begins.Uses at i) h = ends (uses_so i bad (plain at i h) k.answers (stalled (begins.Uses at i) h))

@@ -24,6 +24,7 @@ pub mod OneVersionAscending
 pub mod OneVersionAbove
 pub mod OneVersionSingle
 pub mod OneVersionOrder
+pub mod MendReopens
 pub mod MendWants
 pub mod MendMends
 pub mod MendGranted

@@ -1,5 +1,5 @@
 -- While a mend's instance isn't released, what its open was answered is what is kept of its file.
-use Rattle.std.proofs.Common.{◌≡◌, ℕ, ◌-◌, Bool, true, false, cond, List, [], ◌∷◌, ◌++◌, take, Option, Some, zero, suc, refl, sym, ◌∙◌, ap, subst, ◌⊎◌, inl, inr}
+use Rattle.std.proofs.Common.{◌≡◌, ℕ, ◌-◌, Bool, true, false, cond, List, [], ◌∷◌, ◌++◌, take, Option, Some, None, zero, suc, refl, sym, ◌∙◌, ap, subst, ◌⊎◌, inl, inr}
 use Rattle.role_steps.proofs.of_plain_facts.Tests.{and_first}
 use Rattle.locus_ids.specs.declared.config.Config.{Config}
 use Rattle.locus_ids.specs.declared.ids.CallId.{CallId}
@@ -11,6 +11,7 @@ use Rattle.locus_ids.specs.declared.ids.Serial.{Serial}
 use Rattle.locus_ids.specs.declared.ids.Stamp.{Stamp}
 use Rattle.trace_book.specs.Same.{same_call}
 use Rattle.trace_book.specs.declared.call.Call.TheVariants as call
+use Rattle.trace_book.specs.declared.descriptor.OneVersion.{OneVersion}
 use Rattle.trace_book.specs.declared.record.Record.{Record}
 use Rattle.trace_book.specs.declared.record.Record.TheVariants as says
 use Rattle.call_rules.specs.declared.answer.Answer.{Answer}
@@ -95,9 +96,13 @@ merging_kept i j ks ls e = cc
 opened_merging : (j i : Serial) (ino : ℕ) (ls : List Stamp) → answer.Opened j ino ≡ answer.Merging i ls → ⊥
 opened_merging j i ino ls e = cc
 
-granted_so : (c : Config) (before : Trace) (e : EpochId) (call : CallId) (request : ℕ) (inst : Serial) (m : Mode) (f : FileId) (stamp : Option Stamp) (ss : ℕ) (d : CallId) (i : Serial) (kept : List Stamp) → call ≡ d → granted_answer m inst f (kept_in c before e f) ≡ answer.Merging i kept → GrantsMend c before d i kept e call request inst m f stamp ss
+reading_merging : (j i : Serial) (version : OneVersion) (ls : List Stamp) → answer.Reading j version ≡ answer.Merging i ls → ⊥
+reading_merging j i version ls e = cc
+
+granted_so : (c : Config) (before : Trace) (e : EpochId) (call : CallId) (request : ℕ) (inst : Serial) (m : Mode) (f : FileId) (stamp : Option Stamp) (ss : ℕ) (d : CallId) (i : Serial) (kept : List Stamp) → call ≡ d → granted_answer m inst f stamp (kept_in c before e f) ≡ answer.Merging i kept → GrantsMend c before d i kept e call request inst m f stamp ss
 granted_so c before e call request inst mode.Mend f stamp ss d i kept same is = record { call_is = same; serial_is = merging_serial inst i (kept_in c before e f) kept is; mode_is = refl; kept_is = sym (merging_kept inst i (kept_in c before e f) kept is) }
-granted_so c before e call request inst mode.Read f stamp ss d i kept same is = absurd (opened_merging inst i f.ino kept is)
+granted_so c before e call request inst mode.Read f (Some s) ss d i kept same is = absurd (reading_merging inst i (record { file = f; stamp = s }) kept is)
+granted_so c before e call request inst mode.Read f None ss d i kept same is = absurd (opened_merging inst i f.ino kept is)
 granted_so c before e call request inst mode.Write f stamp ss d i kept same is = absurd (opened_merging inst i f.ino kept is)
 granted_so c before e call request inst mode.Resolve f stamp ss d i kept same is = absurd (opened_merging inst i f.ino kept is)
 granted_so c before e call request inst mode.Make f stamp ss d i kept same is = absurd (opened_merging inst i f.ino kept is)
@@ -123,12 +128,12 @@ first_record c (says.Look e call request f w result) before d old i kept rest h 
     over false k = (rest, k)
 first_record c (says.Grant e call request inst m f stamp ss) before d old i kept rest h = over (same_call call d) refl h
   where
-    added_now : same_call call d ≡ true → StartsWith old (answer.Merging i kept) ⊎ ((old ≡ []) × (granted_answer m inst f (kept_in c before e f) ≡ answer.Merging i kept)) → StartsWith old (answer.Merging i kept) ⊎ GrantsMend c before d i kept e call request inst m f stamp ss
+    added_now : same_call call d ≡ true → StartsWith old (answer.Merging i kept) ⊎ ((old ≡ []) × (granted_answer m inst f stamp (kept_in c before e f) ≡ answer.Merging i kept)) → StartsWith old (answer.Merging i kept) ⊎ GrantsMend c before d i kept e call request inst m f stamp ss
     added_now t (inl k) = inl k
     added_now t (inr k) = inr (granted_so c before e call request inst m f stamp ss d i kept (same_call_eq call d t) k.1)
 
-    over : (b : Bool) → same_call call d ≡ b → cond b (old ++ granted_answer m inst f (kept_in c before e f) ∷ []) old ≡ answer.Merging i kept ∷ rest → StartsWith old (answer.Merging i kept) ⊎ GrantsMend c before d i kept e call request inst m f stamp ss
-    over true t k = added_now t (first_part old (granted_answer m inst f (kept_in c before e f)) (answer.Merging i kept) rest k)
+    over : (b : Bool) → same_call call d ≡ b → cond b (old ++ granted_answer m inst f stamp (kept_in c before e f) ∷ []) old ≡ answer.Merging i kept ∷ rest → StartsWith old (answer.Merging i kept) ⊎ GrantsMend c before d i kept e call request inst m f stamp ss
+    over true t k = added_now t (first_part old (granted_answer m inst f stamp (kept_in c before e f)) (answer.Merging i kept) rest k)
     over false t k = inl (rest, k)
 first_record c (says.Refuse e call request inst m f why) before d old i kept rest h = inl (added (same_call call d) old (answer.Merging i kept) (answer.Refused why) rest (unopened (answer.Refused why) i kept (λ j o. o)) h)
 first_record c (says.Act e inst n o result) before d old i kept rest h = inl (added (is_call (call_of_act before e inst n) d) old (answer.Merging i kept) (outcome_answer result) rest (unopened (outcome_answer result) i kept (λ j k. outcome_opens result j k)) h)

@@ -67,6 +67,8 @@ asked_by_mend mounts p free words b xs i e = over words refl
 
     begins_so : (file : FileId) → words ≡ call.Mend file → (o : Beginning) → b ≡ o → (f : FileId) × MendsIt words b f
     begins_so file is (begins.Denied why) k = absurd (subst Unmending e (subst (λ (y : Call). Unmending (wants mounts p free y b xs)) (sym is) (subst (λ (y : Beginning). Unmending (wants mounts p free (call.Mend file) y xs)) (sym k) tt)))
+    begins_so file is (begins.Reopens kept last) k = absurd (subst Unmending e (subst (λ (y : Call). Unmending (wants mounts p free y b xs)) (sym is) (subst (λ (y : Beginning). Unmending (wants mounts p free (call.Mend file) y xs)) (sym k) tt)))
+    begins_so file is begins.Frees k = absurd (subst Unmending e (subst (λ (y : Call). Unmending (wants mounts p free y b xs)) (sym is) (subst (λ (y : Beginning). Unmending (wants mounts p free (call.Mend file) y xs)) (sym k) tt)))
     begins_so file is (begins.Uses epoch inst) k = absurd (subst Unmending e (subst (λ (y : Call). Unmending (wants mounts p free y b xs)) (sym is) (subst (λ (y : Beginning). Unmending (wants mounts p free (call.Mend file) y xs)) (sym k) tt)))
     begins_so file is (begins.Walks id) k = (file, record { words_are = is; by = id; walks = k })
 

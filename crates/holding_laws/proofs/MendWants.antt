@@ -14,6 +14,7 @@ use Rattle.trace_book.specs.declared.call.Call.TheVariants as call
 use Rattle.trace_book.specs.declared.descriptor.Beginning.{Beginning}
 use Rattle.trace_book.specs.declared.descriptor.Beginning.TheVariants as begins
 use Rattle.trace_book.specs.declared.call.OpenMode.{OpenMode}
+use Rattle.trace_book.specs.declared.call.OpenMode.TheVariants as how
 use Rattle.trace_book.specs.declared.operation.Op.{Op}
 use Rattle.trace_book.specs.declared.operation.Op.TheVariants as op
 use Rattle.trace_book.specs.declared.operation.Outcome.TheVariants as outcome
@@ -37,6 +38,7 @@ use Rattle.call_rules.specs.Removing.{removes, empties, opens_target, by_kind, f
 use Rattle.call_rules.specs.Scripts.{path_wants, begun_wants, named_wants, where_packed, wants}
 use Rattle.call_rules.specs.Walks.{Walked, Asks as AsksFor, Fails, There, Strays, walk, walked, root_of}
 use Rattle.call_rules.specs.Words.{is_badly_named}
+use Rattle.holding_laws.proofs.MendReopens.{reopen_so}
 
 -- looks at anything but whole contents
 abbrev pub IsPlainLook : What → Type 0
@@ -213,6 +215,7 @@ module _ (P : Want → Type 0) (looking : (f : FileId) (w : What) → IsPlainLoo
   opens_file_so m free f kind.Dir xs = giving _
   opens_file_so m free f kind.File [] = opening f m
   opens_file_so m (Some fd) f kind.File (answer.Opened i ino ∷ []) = giving _
+  opens_file_so m (Some fd) f kind.File (answer.Reading i version ∷ []) = giving _
   opens_file_so m None f kind.File (answer.Refused why ∷ []) = giving _
   opens_file_so m (Some fd) f kind.File (answer.Refused why ∷ []) = giving _
   opens_file_so m None f kind.File (_ ∷ rest) = never
@@ -267,6 +270,8 @@ module _ (P : Want → Type 0) (looking : (f : FileId) (w : What) → IsPlainLoo
   begun_so mounts free words other (begins.Denied why) xs = giving _
   begun_so mounts free words other (begins.Uses e i) xs = uses_so words i xs
   begun_so mounts free words other (begins.Walks id) xs = path_so mounts free id words other xs
+  begun_so mounts free words other (begins.Reopens kept last) xs = reopen_so P kept (record { opens = opening kept.file how.Read; reads = λ i at len. doing i (op.Read at len) tt; closes = closing; replies = giving; never = never }) words last xs
+  begun_so mounts free words other begins.Frees xs = giving _
 
   named_so : (mounts : List Mount) (free : Option ℕ) (words : Call) → ((f : FileId) → words ≡ call.Mend f → ⊥) → (b : Beginning) (xs : List Answer) → P (named_wants mounts free words b xs)
   named_so mounts free words other b xs = over (is_badly_named mounts words)

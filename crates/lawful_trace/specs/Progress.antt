@@ -25,7 +25,7 @@ use Rattle.trace_book.specs.declared.operation.Outcome.TheVariants as outcome
 use Rattle.trace_book.specs.declared.reply.Reply.TheVariants as reply
 use Rattle.call_rules.specs.Descriptors.{is_in, lowest_free}
 use Rattle.call_rules.specs.declared.answer.Answer as answered
-use Rattle.call_rules.specs.declared.answer.Answer.TheVariants.{Entered, Showed, Described, Brought, Opened, Merging, Did, Ended, Refused}
+use Rattle.call_rules.specs.declared.answer.Answer.TheVariants.{Entered, Showed, Described, Brought, Opened, Reading, Merging, Did, Ended, Refused}
 use Rattle.call_rules.specs.declared.want.Want.{Want}
 use Rattle.call_rules.specs.declared.want.Want.TheVariants.{Give, Never}
 use Rattle.call_rules.specs.Scripts.{wants}
@@ -66,13 +66,14 @@ abbrev pub look_answer : Config → Trace → FileId → What → Served → ans
 look_answer c before f w (served.At stamp) = found_in (kind_of_file c before f) stamp w (content_of (history c before) f stamp)
 look_answer c before f w (served.No why) = Refused why
 
--- a granted open tells the instance, and one to mend the kept versions too
-abbrev pub granted_answer : Mode → Serial → FileId → List Stamp → answered.Answer
-granted_answer mode.Mend i f kept = Merging i kept
-granted_answer mode.Read i f kept = Opened i f.ino
-granted_answer mode.Write i f kept = Opened i f.ino
-granted_answer mode.Resolve i f kept = Opened i f.ino
-granted_answer mode.Make i f kept = Opened i f.ino
+-- a granted open tells the instance, one to read its version too, and one to mend the kept versions
+abbrev pub granted_answer : Mode → Serial → FileId → Option Stamp → List Stamp → answered.Answer
+granted_answer mode.Mend i f stamp kept = Merging i kept
+granted_answer mode.Read i f (Some stamp) kept = Reading i (record { file = f; stamp = stamp })
+granted_answer mode.Read i f None kept = Opened i f.ino
+granted_answer mode.Write i f stamp kept = Opened i f.ino
+granted_answer mode.Resolve i f stamp kept = Opened i f.ino
+granted_answer mode.Make i f stamp kept = Opened i f.ino
 
 -- a close tells the version that it made, which is the one committed since the last operation; where a commit is still
 -- owed, since it can't be made, the close is refused
@@ -95,7 +96,7 @@ outcome_answer (outcome.Committed stamp) = Did (outcome.Committed stamp)
 -- A look that is taken again has the number of its request; its last record counts.
 abbrev pub answers_after : Record → Config → Trace → CallId → Answers → Answers
 answers_after (Look e call request f w result) c before d old = cond (same_call call d) (take (request - 1) old ++ look_answer c before f w result ∷ []) old
-answers_after (Grant e call request i mode f stamp ss) c before d old = cond (same_call call d) (old ++ granted_answer mode i f (kept_in c before e f) ∷ []) old
+answers_after (Grant e call request i mode f stamp ss) c before d old = cond (same_call call d) (old ++ granted_answer mode i f stamp (kept_in c before e f) ∷ []) old
 answers_after (Refuse e call request i mode f why) c before d old = cond (same_call call d) (old ++ Refused why ∷ []) old
 answers_after (Act e i n o result) c before d old = cond (is_call (call_of_act before e i n) d) (old ++ outcome_answer result ∷ []) old
 answers_after (Release e i f stamp) c before d old = cond (is_call (call_of_release before e i) d) (old ++ close_answer stamp (instance_in (tree_of c e f.group before) i) ∷ []) old

@@ -1,4 +1,5 @@
 -- The descriptors of processes by the records so far, and where an accepted call begins by them.
+use Rattle.std.specs.Option.{option_map}
 use Rattle.std.specs.Prelude.{ℕ, suc, ◌==◌, Bool, true, false, not, ◌&&◌, ◌||◌, cond, List, [], ◌∷◌, length, Option, None, Some}
 use Rattle.locus_ids.specs.declared.ids.CallId.{CallId}
 use Rattle.locus_ids.specs.declared.ids.EpochId.{EpochId}
@@ -9,28 +10,55 @@ use Rattle.trace_book.specs.declared.record.Record.TheVariants.{Stopped, Accept,
 use Rattle.trace_book.specs.declared.call.Call.{Call}
 use Rattle.trace_book.specs.declared.call.Call.TheVariants as call
 use Rattle.trace_book.specs.declared.descriptor.Descriptor.{Descriptor}
+use Rattle.trace_book.specs.declared.descriptor.OneVersion.{OneVersion}
 use Rattle.trace_book.specs.declared.descriptor.Beginning.{Beginning}
-use Rattle.trace_book.specs.declared.descriptor.Beginning.TheVariants.{Uses, Denied, Walks}
+use Rattle.trace_book.specs.declared.descriptor.Beginning.TheVariants.{Uses, Denied, Walks, Reopens, Frees}
 use Rattle.trace_book.specs.declared.reply.Reply.{Reply}
-use Rattle.trace_book.specs.declared.reply.Reply.TheVariants.{Opened}
+use Rattle.trace_book.specs.declared.reply.Reply.TheVariants.{Opened, Data}
 use Rattle.call_rules.specs.Descriptors.{beginning}
+use Rattle.call_rules.specs.Opening.{is_steady}
 use Rattle.tree_model.specs.Folds.{Trace, over}
 use Rattle.tree_model.specs.Epochs.{epoch_of}
-use Rattle.tree_model.specs.Calls.{granted_to, opening_of}
+use Rattle.tree_model.specs.declared.accepted.Waiting.{Waiting}
+use Rattle.tree_model.specs.Calls.{call_named, granted_to, opening_of, version_of}
 
--- Descriptors: an open that is answered takes a number, an accepted close frees it, and a stop frees all.
+-- Descriptors: an open that is answered takes a number, an accepted close frees it, and a stop frees all. A steady one keeps its version,
+-- and a read that opens this again makes it held by the new instance.
 
 abbrev pub closed_by : Call → ℕ → Option Descriptor → Option Descriptor
 closed_by (call.Close n) fd old = cond (n == fd) None old
 closed_by _ fd old = old
 
-abbrev pub opened_by : Reply → ℕ → Option Descriptor → Option Descriptor → Option Descriptor
-opened_by (Opened n) fd opening old = cond (n == fd) opening old
-opened_by _ fd opening old = old
+abbrev pub kept_by : Option Waiting → Option OneVersion → Option OneVersion
+kept_by None version = None
+kept_by (Some w) version = cond (is_steady w.words) version None
+
+-- what an open's descriptor stands for: the last instance that was granted to the call, and its version where it is to keep that
+abbrev pub opened_as : Trace → CallId → Option Descriptor
+opened_as before c = option_map (λ (d : Descriptor). record d { steady = kept_by (call_named before c) (version_of before c) }) (opening_of before c)
+
+-- the call reads by this number
+abbrev pub is_read_of : Call → ℕ → Bool
+is_read_of (call.Read n at len) fd = n == fd
+is_read_of _ fd = false
+
+abbrev pub reads_by : Option Waiting → ℕ → Bool
+reads_by None fd = false
+reads_by (Some w) fd = is_read_of w.words fd
+
+-- a read to which an instance was granted has opened the version again
+abbrev pub held_again : Option Descriptor → Option Descriptor → Option Descriptor
+held_again None old = old
+held_again (Some opening) old = option_map (λ (d : Descriptor). record opening { steady = d.steady }) old
+
+abbrev pub opened_by : Reply → Trace → CallId → ℕ → Option Descriptor → Option Descriptor
+opened_by (Opened n) before c fd old = cond (n == fd) (opened_as before c) old
+opened_by (Data bytes) before c fd old = cond (reads_by (call_named before c) fd) (held_again (opening_of before c) old) old
+opened_by _ before c fd old = old
 
 abbrev pub descriptor_after : Record → Trace → ℕ → ℕ → ℕ → Option Descriptor → Option Descriptor
 descriptor_after (Accept s p call words) before site process fd old = cond ((s == site) && (p == process)) (closed_by words fd old) old
-descriptor_after (Answer s p call reply) before site process fd old = cond ((s == site) && (p == process)) (opened_by reply fd (opening_of before call) old) old
+descriptor_after (Answer s p call reply) before site process fd old = cond ((s == site) && (p == process)) (opened_by reply before call fd old) old
 descriptor_after (Stopped s cause) before site process fd old = cond (s == site) None old
 descriptor_after _ before site process fd old = old
 
@@ -62,12 +90,20 @@ abbrev pub uses_by : Beginning → EpochId → Serial → Bool
 uses_by (Uses epoch inst) e i = same_epoch epoch e && same_serial inst i
 uses_by (Denied why) e i = false
 uses_by (Walks call) e i = false
+uses_by (Reopens version last) e i = false
+uses_by Frees e i = false
+
+abbrev pub is_opening : Option Descriptor → EpochId → Serial → Bool
+is_opening None e i = false
+is_opening (Some d) e i = same_epoch d.epoch e && same_serial d.inst i
 
 abbrev pub uses_after : Record → Trace → EpochId → Serial → List CallId → List CallId
 uses_after (Accept s process call words) before e i old = cond (not (is_close words) && uses_by (begins_now before s process call words) e i) (call ∷ old) old
+uses_after (Answer s process call (Data bytes)) before e i old = cond (is_opening (opening_of before call) e i) (call ∷ old) old
 uses_after _ before e i old = old
 
--- the reads, writes, cuts, commits and aborts on the instance that met no local refusal, the latest first
+-- the reads, writes, cuts, commits and aborts on the instance that met no local refusal, the latest first; of an instance that a read opened
+-- for a steady descriptor that read is the first
 abbrev pub uses_of : Trace → EpochId → Serial → List CallId
 uses_of trace e i = over [] (λ r before old. uses_after r.what before e i old) trace
 
@@ -84,15 +120,17 @@ close_after _ before e i old = old
 abbrev pub close_of : Trace → EpochId → Serial → Option CallId
 close_of trace e i = over None (λ r before old. close_after r.what before e i old) trace
 
-abbrev pub is_opened : Reply → Bool
-is_opened (Opened fd) = true
-is_opened _ = false
+-- an open that gives a number, or a read that has opened again what a steady one keeps
+abbrev pub names_instance : Reply → Bool
+names_instance (Opened fd) = true
+names_instance (Data bytes) = true
+names_instance _ = false
 
 abbrev pub named_after : Record → CallId → Bool → Bool
-named_after (Answer site process call r) d old = same_call call d && is_opened r || old
+named_after (Answer site process call r) d old = same_call call d && names_instance r || old
 named_after _ d old = old
 
--- the call was answered by a descriptor, which has named the instance that was granted to it last
+-- the call was answered by a descriptor, or by what one read that it holds again, which has named the instance that was granted to it last
 abbrev pub has_named : Trace → CallId → Bool
 has_named trace d = over false (λ r before old. named_after r.what d old) trace
 

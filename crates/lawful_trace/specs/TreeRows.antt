@@ -86,6 +86,7 @@ pub record MayLook (c : Config) (before : Trace) (e : EpochId) (call : CallId) (
 -- the call asks for this open: of a file by a user, of a directory to be mended, or of a new file of the group
 abbrev pub is_open_of : Mode → FileId → Want → Bool
 is_open_of mode.Read f (asks.Open g how.Read) = same_file g f
+is_open_of mode.Read f (asks.Open g how.Steady) = same_file g f
 is_open_of mode.Write f (asks.Open g how.Write) = same_file g f
 is_open_of mode.Resolve f (asks.Open g (how.Resolve site)) = same_file g f
 is_open_of mode.Mend f (asks.OpenToMend g) = same_file g f

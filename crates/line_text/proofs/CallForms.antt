@@ -200,7 +200,9 @@ mode_sound n w m h =
     (λ b e. subst (λ k. (w ≡ opening_text k) × (fits_mode n k ≡ true)) (same_Some how.Read m e) ((bytes_eq-Decides w (codes "r")).0 b, refl))
     (λ b g. cond_either (bytes_eq w (codes "w")) _ _ _ g
     (λ d e. subst (λ k. (w ≡ opening_text k) × (fits_mode n k ≡ true)) (same_Some how.Write m e) ((bytes_eq-Decides w (codes "w")).0 d, refl))
-    (λ d k. resolve_sound n w (two_words w) m refl k))
+    (λ d k. cond_either (bytes_eq w (codes "s")) _ _ _ k
+    (λ s e. subst (λ k. (w ≡ opening_text k) × (fits_mode n k ≡ true)) (same_Some how.Steady m e) ((bytes_eq-Decides w (codes "s")).0 s, refl))
+    (λ s k. resolve_sound n w (two_words w) m refl k)))
 
 open_sound : (n : ℕ) (rest : List ℕ) (c : Call) → open_call n rest ≡ Some c → IsMade n (codes "open " ++ rest) c
 open_sound n rest c h = option_and_then_some _ (two_words rest) c h (λ p e g. option_and_then_some _ (mode_in n p.1) c g (λ mode f k. map_some (λ path. call.Open path mode) (word_in p.0) c k (λ path t s.
@@ -346,6 +348,7 @@ call_sound n words c h =
 pub mode_complete : (n : ℕ) (m : OpenMode) → fits_mode n m ≡ true → mode_in n (opening_text m) ≡ Some m
 mode_complete n how.Read h = refl
 mode_complete n how.Write h = refl
+mode_complete n how.Steady h = refl
 mode_complete n (how.Resolve site) h = rw (site_complete n site h) refl
 
 pub call_complete : (n : ℕ) (c : Call) → fits_call n c ≡ true → call_in n (call_words c) ≡ Some c

@@ -53,7 +53,8 @@ resolve_mode n (Some p) = cond (bytes_eq p.0 (codes "x")) (option_map (λ site. 
 abbrev pub mode_in : ℕ → List ℕ → Option OpenMode
 mode_in n w =
     cond (bytes_eq w (codes "r")) (Some how.Read) (
-    cond (bytes_eq w (codes "w")) (Some how.Write) (resolve_mode n (two_words w)))
+    cond (bytes_eq w (codes "w")) (Some how.Write) (
+    cond (bytes_eq w (codes "s")) (Some how.Steady) (resolve_mode n (two_words w))))
 
 abbrev pub open_call : ℕ → List ℕ → Option Call
 open_call n rest = option_and_then (λ p. option_and_then (λ mode. option_map (λ path. call.Open path mode) (word_in p.0)) (mode_in n p.1)) (two_words rest)

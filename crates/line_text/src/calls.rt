@@ -142,6 +142,9 @@ fn mode_of(words: &[u8], n: u8) -> Option<OpenMode>
     if words == b"w".as_slice() {
         return Some(OpenMode::Write);
     }
+    if words == b"s".as_slice() {
+        return Some(OpenMode::Steady);
+    }
     resolve_mode(words, n)
 }
 

@@ -1,6 +1,7 @@
 -- What each script asks on the way: an operation that changes a file is of what was opened to write.
-use Rattle.std.proofs.Common.{◌≡◌, ℕ, ◌⊎◌, true, false, List, [], ◌∷◌, Option, Some, None, refl, sym, ◌∙◌, ap, subst, inl, inr}
+use Rattle.std.proofs.Common.{◌≡◌, ℕ, ◌⊎◌, Bool, true, false, cond, List, [], ◌∷◌, Option, Some, None, refl, sym, ◌∙◌, ap, subst, inl, inr}
 use Rattle.role_steps.proofs.of_plain_facts.Tests.{false_true}
+use Rattle.locus_ids.specs.declared.ids.EpochId.{EpochId}
 use Rattle.locus_ids.specs.declared.ids.FileId.{FileId}
 use Rattle.locus_ids.specs.declared.ids.Kind.{Kind}
 use Rattle.locus_ids.specs.declared.ids.Kind.TheVariants as kind
@@ -9,7 +10,12 @@ use Rattle.locus_ids.specs.declared.ids.Stamp.{Stamp}
 use Rattle.locus_ids.specs.declared.sites.Sites.{Sites}
 use Rattle.locus_ids.specs.declared.config.Mount.{Mount}
 use Rattle.locus_ids.specs.declared.refusal.Refusal.{Refusal}
+use Rattle.locus_ids.specs.declared.refusal.Refusal.TheVariants as refusal
+use Rattle.commit_graph.specs.Versions.{same_stamp}
+use Rattle.trace_book.specs.declared.call.Call.{Call}
+use Rattle.trace_book.specs.declared.call.Call.TheVariants as call
 use Rattle.trace_book.specs.declared.call.OpenMode.{OpenMode}
+use Rattle.trace_book.specs.declared.descriptor.OneVersion.{OneVersion}
 use Rattle.trace_book.specs.declared.operation.Op.{Op}
 use Rattle.trace_book.specs.declared.operation.Op.TheVariants as op
 use Rattle.trace_book.specs.declared.operation.Outcome.TheVariants as outcome
@@ -23,6 +29,7 @@ use Rattle.call_rules.specs.declared.want.Want.{Want}
 use Rattle.call_rules.specs.declared.want.Want.TheVariants as want
 use Rattle.call_rules.specs.Closing.{Own, Unchanged, Changed, closes, aborts, gives, give_up, close_all}
 use Rattle.call_rules.specs.Making.{after_insert, after_make, fills, after_probe, probes, opens_dir}
+use Rattle.call_rules.specs.Reopening.{reads_again, reopened, reopen_wants}
 use Rattle.call_rules.specs.Removing.{removes, empties, opens_target, by_kind, finds}
 use Rattle.call_rules.specs.Naming.{renames}
 use Rattle.call_rules.specs.Mending.{after_mend, brings, mend_wants}
@@ -282,10 +289,35 @@ pub opens_file_quiet : (m : OpenMode) (free : Option ℕ) (file : FileId) (k : K
 opens_file_quiet m free file kind.Dir answers = quiet_give _
 opens_file_quiet m free file kind.File [] = quiet_open file m
 opens_file_quiet m (Some fd) file kind.File (answer.Opened p ino ∷ []) = quiet_give _
+opens_file_quiet m (Some fd) file kind.File (answer.Reading p version ∷ []) = quiet_give _
 opens_file_quiet m None file kind.File (answer.Refused why ∷ []) = quiet_give _
 opens_file_quiet m (Some fd) file kind.File (answer.Refused why ∷ []) = quiet_give _
 opens_file_quiet m None file kind.File (_ ∷ rest) = quiet_never
 opens_file_quiet m (Some fd) file kind.File (_ ∷ rest) = quiet_never
+
+-- ---- a version is opened again ----
+
+reads_again_quiet : (p : Serial) (at len : ℕ) (answers : List Answer) → Quiet (reads_again p at len answers)
+reads_again_quiet p at len [] = idle p (op.Read at len) refl
+reads_again_quiet p at len (answer.Did r ∷ []) = quiet_give _
+reads_again_quiet p at len (answer.Refused why ∷ rest) = give_up_quiet (Unchanged p ∷ []) why rest
+reads_again_quiet p at len (_ ∷ rest) = quiet_never
+
+reopened_quiet : (kept : OneVersion) (last : EpochId) (at len : ℕ) (p : Serial) (granted : OneVersion) (answers : List Answer) → Quiet (reopened kept last at len p granted answers)
+reopened_quiet kept last at len p granted answers = over (same_stamp granted.stamp kept.stamp)
+  where
+    over : (b : Bool) → Quiet (cond b (reads_again p at len answers) (give_up (Unchanged p ∷ []) (refusal.Stale last) answers))
+    over true = reads_again_quiet p at len answers
+    over false = give_up_quiet (Unchanged p ∷ []) (refusal.Stale last) answers
+
+pub reopen_quiet : (words : Call) (kept : OneVersion) (last : EpochId) (answers : List Answer) → Quiet (reopen_wants words kept last answers)
+reopen_quiet (call.Read fd at len) kept last [] = quiet_open kept.file _
+reopen_quiet (call.Read fd at len) kept last (answer.Reading p granted ∷ rest) = reopened_quiet kept last at len p granted rest
+reopen_quiet (call.Read fd at len) kept last (answer.Refused why ∷ []) = quiet_give _
+reopen_quiet (call.Read fd at len) kept last (_ ∷ rest) = quiet_never
+reopen_quiet _ kept last answers = quiet_never
+
+-- ---- list and stat ----
 
 pub lists_quiet : (shows : Shows) (reached : List ℕ) (at : FileId) (k : Kind) (answers : List Answer) → Quiet (lists shows reached at k answers)
 lists_quiet shows reached at kind.File answers = quiet_give _

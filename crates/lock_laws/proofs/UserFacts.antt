@@ -7,6 +7,8 @@ use Rattle.locus_ids.specs.declared.refusal.Refusal.{Refusal}
 use Rattle.locus_ids.specs.declared.refusal.Refusal.TheVariants as refusal
 use Rattle.trace_book.specs.declared.call.Call.{Call}
 use Rattle.trace_book.specs.declared.call.Call.TheVariants as call
+use Rattle.trace_book.specs.declared.descriptor.Beginning.{Beginning}
+use Rattle.trace_book.specs.declared.descriptor.Beginning.TheVariants as begins
 use Rattle.trace_book.specs.declared.operation.Op.{Op}
 use Rattle.trace_book.specs.declared.operation.Outcome.{Outcome as Result}
 use Rattle.trace_book.specs.declared.reply.Reply.{Reply}
@@ -26,7 +28,7 @@ use Rattle.role_steps.specs.Own.{Every}
 use Rattle.role_steps.specs.Tables.{first_that}
 use Rattle.role_steps.specs.Views.{Frame, Users, Told, Outcome, quiet, tells, and_then, to_some, to_sync, sync_site, serial_key}
 use Rattle.role_steps.specs.Requests.{waiting_key, instance_serial, without_waiting, user_instance, with_user_instance, without_user_instance, descriptors_of, request_packets, asks, asks_open, next_request, asks_op_of, asks_close_of, seen_by, users_repeats}
-use Rattle.role_steps.specs.Using.{reply_record, is_hopeless, without_hope, after_reply, replies, asks_want, next_want, goes_on, frees, accepted, accept_record, on_call, takes_record, with_answer, takes_answer, takes_open, on_open_done_of, on_open_done, on_op_done_of, on_op_done, on_close_done_of, on_close_done, looks_again, with_brought, content_answer, takes_look, on_look_done_of, on_look_done, asks_open_of, asks_op_number, asks_take, changed_records, users_leave, op_answer, close_answer, opened_answer, kept_for, mended_file, own_call}
+use Rattle.role_steps.specs.Using.{reply_record, is_hopeless, without_hope, after_reply, holds_again, replies, asks_want, next_want, goes_on, frees, accepted, accept_record, on_call, takes_record, with_answer, takes_answer, takes_open, on_open_done_of, on_open_done, on_op_done_of, on_op_done, on_close_done_of, on_close_done, looks_again, with_brought, content_answer, takes_look, on_look_done_of, on_look_done, asks_open_of, asks_op_number, asks_take, changed_records, users_leave, op_answer, close_answer, opened_answer, kept_for, mended_file, own_call}
 use Rattle.role_steps.specs.Using as using
 use Rattle.role_steps.specs.declared.users.Asking.{Asking}
 use Rattle.role_steps.specs.declared.users.Asking.TheVariants as asking
@@ -107,9 +109,14 @@ hope_fact : (past : List Told) (s : ℕ) (o : Option EpochId) (words : Call) (wh
 hope_fact past s o (call.Mend file) why u h = cond_users past s o (is_hopeless why) (record u { hopeless = u.hopeless ++ file ∷ [] }) u (record { instances = h.instances; waiting = h.waiting }) h
 hope_fact past s o _ why u h = h
 
+again_fact : (past : List Told) (s : ℕ) (o : Option EpochId) (f : Frame) (w : WaitingCall) (b : Beginning) (words : Call) (u : Users) → UsersFact past s o u → UsersFact past s o (holds_again f w b words u)
+again_fact past s o f w (begins.Reopens version last) (call.Read fd at len) u h = record { instances = h.instances; waiting = h.waiting }
+again_fact past s o f w _ words u h = h
+
 after_reply_fact : (past : List Told) (s : ℕ) (o : Option EpochId) (f : Frame) (w : WaitingCall) (r : Reply) (u : Users) → UsersFact past s o u → UsersFact past s o (after_reply f w r u)
 after_reply_fact past s o f w (reply.Opened fd) u h = record { instances = h.instances; waiting = h.waiting }
 after_reply_fact past s o f w (reply.No why) u h = hope_fact past s o w.words why u h
+after_reply_fact past s o f w (reply.Data bytes) u h = again_fact past s o f w w.begins w.words u h
 after_reply_fact past s o f w _ u h = h
 
 replies_keep : (past : List Told) (f : Frame) (o : Option EpochId) (w : WaitingCall) (r : Reply) (u : Users) → UsersFact past f.me o u → UsersKeep past f o (replies f w r u)

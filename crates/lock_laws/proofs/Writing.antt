@@ -29,7 +29,7 @@ use Rattle.call_rules.specs.Walks.{Walked, Asks, Fails, There, Strays, root_of, 
 use Rattle.call_rules.specs.Opening.{opens_file, op_wants, uses_wants, lists, describes, shown_in}
 use Rattle.call_rules.specs.Scripts.{path_wants, begun_wants, named_wants}
 use Rattle.lock_laws.specs.Writing.{changes, OpensToWrite, IsOpenedToWrite, IsWrite, IsWriteOn, ScriptsOpenWhatTheyChange}
-use Rattle.lock_laws.proofs.Scripts.{Sound, quiet_sound, never_do, give_do, look_do, do_inst, do_op, probes_within, opens_dir_sound, finds_within, renames_within, close_quiet, mend_sound, opens_file_quiet, lists_quiet, describes_quiet}
+use Rattle.lock_laws.proofs.Scripts.{Sound, quiet_sound, never_do, give_do, look_do, do_inst, do_op, probes_within, opens_dir_sound, finds_within, renames_within, close_quiet, mend_sound, opens_file_quiet, reopen_quiet, lists_quiet, describes_quiet}
 
 -- ---- a call on a descriptor ----
 
@@ -151,6 +151,8 @@ path_sound mounts free id _ answers = λ i o e c. absurd (never_do i o e)
 begun_sound : (mounts : List Mount) (free : Option ℕ) (words : Call) (b : Beginning) (answers : List Answer) (i : Serial) (o : Op) → begun_wants mounts free words b answers ≡ want.Do i o → changes o ≡ true → IsWriteOn words b i ⊎ IsOpenedToWrite (begun_wants mounts free words b) answers i
 begun_sound mounts free words (begins.Denied why) answers i o e c = absurd (give_do (reply.No why) i o e)
 begun_sound mounts free words (begins.Uses epoch p) answers i o e c = let k : (p ≡ i) × IsWrite words = uses_is words p i o answers e c in inl (record { epoch = epoch; begins_so = ap (begins.Uses epoch) k.0; is_write = k.1 })
+begun_sound mounts free words (begins.Reopens kept last) answers i o e c = absurd (reopen_quiet words kept last answers i o e c)
+begun_sound mounts free words begins.Frees answers i o e c = absurd (give_do (reply.Closed None) i o e)
 begun_sound mounts free words (begins.Walks id) answers i o e c = inr (path_sound mounts free id words answers i o e c)
 
 pub scripts_sound : ScriptsOpenWhatTheyChange

@@ -30,6 +30,7 @@ changes _ = false
 -- an open that isn't for reading alone
 abbrev pub ToWrite : OpenMode → Type 0
 ToWrite how.Read = ⊥
+ToWrite how.Steady = ⊥
 ToWrite _ = Unit {0}
 
 abbrev pub OpensToWrite : Want → Type 0

@@ -18,6 +18,7 @@ use Rattle.audited_runs.specs.of_headline_promise_laws.of_promises.Progress.{Pro
 use Rattle.audited_runs.specs.of_headline_promise_laws.of_tree_model.Folds.{Trace}
 use Rattle.audited_runs.specs.Answered.{IsAuditedWell}
 use Rattle.box_laws.specs.Boxes.{Boxed}
+use Rattle.steady_laws.specs.OneVersion.{ReadsOneVersion}
 
 -- however the command ends
 pub record Holds (lines : List ScheduleLine) (trace : Trace) : Type 0 where
@@ -34,6 +35,8 @@ pub record Holds (lines : List ScheduleLine) (trace : Trace) : Type 0 where
   pub commits : CommitsHold lines trace
   -- and where messages are put into directories by mail alone, boxes merge by themselves
   pub boxes : Boxed (config_of lines) trace
+  -- and each read of a steady descriptor is of the version on which that was opened
+  pub one_version : ReadsOneVersion (config_of lines) trace
 
 -- and where its input ends it, so where its run has passed no limit
 pub record HoldsWithin (lines : List ScheduleLine) (trace : Trace) : Type 0 where

@@ -7,7 +7,7 @@ use Rattle.locus_ids.specs.declared.ids.Stamp.{Stamp}
 use Rattle.locus_ids.specs.declared.refusal.Refusal.{Refusal}
 use Rattle.trace_book.specs.declared.call.Call.TheVariants as call
 use Rattle.trace_book.specs.declared.descriptor.Beginning.{Beginning}
-use Rattle.trace_book.specs.declared.descriptor.Beginning.TheVariants.{Denied, Uses, Walks}
+use Rattle.trace_book.specs.declared.descriptor.Beginning.TheVariants.{Denied, Uses, Walks, Reopens, Frees}
 use Rattle.call_rules.specs.Closing.{Unchanged, give_up}
 use Rattle.call_rules.specs.Mending.{after_mend, brings, mend_wants}
 use Rattle.call_rules.specs.Opening.{close_wants}
@@ -72,4 +72,6 @@ packed_asks packed w q = tt
 pub mends_few : (mounts : List Mount) (packed : ℕ → Bool) (free : Option ℕ) (file : FileId) (b : Beginning) (most : ℕ) (answers : List Answer) → BringsFew most answers → IsRequest (wants mounts packed free (call.Mend file) b answers) → length answers + 1 ≤ most + 3
 mends_few mounts packed free file (Denied why) most answers few q = absurd q
 mends_few mounts packed free file (Uses epoch inst) most answers few q = absurd q
+mends_few mounts packed free file (Reopens kept last) most answers few q = absurd q
+mends_few mounts packed free file Frees most answers few q = absurd q
 mends_few mounts packed free file (Walks id) most answers few q = mend_few file most answers few (packed_asks packed (mend_wants file answers) q)

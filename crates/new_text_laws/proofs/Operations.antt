@@ -16,7 +16,9 @@ use Rattle.trace_book.specs.declared.operation.Op.TheVariants as op
 use Rattle.trace_book.specs.declared.operation.Outcome.{Outcome}
 use Rattle.trace_book.specs.declared.record.Record.{Record}
 use Rattle.trace_book.specs.declared.record.Record.TheVariants as rec
+use Rattle.trace_book.specs.declared.descriptor.Descriptor.{Descriptor}
 use Rattle.trace_book.specs.declared.reply.Reply.{Reply}
+use Rattle.trace_book.specs.declared.reply.Reply.TheVariants as reply
 use Rattle.call_rules.specs.Descriptors.{beginning}
 use Rattle.call_rules.specs.declared.want.Want.TheVariants as want
 use Rattle.file_effects.specs.Effects.{Effect, is_refusal}
@@ -27,8 +29,8 @@ use Rattle.tree_model.specs.Folds.{Trace}
 use Rattle.tree_model.specs.Same.{is_given}
 use Rattle.tree_model.specs.State.{is_make}
 use Rattle.tree_model.specs.Working.{operated_by}
-use Rattle.promises.specs.Past.{CallSoFar, Epoch, Instance, Make, Named, Past, acts, epoch_at, first_or, is_named, is_number, is_writer, site_at, table, unformed}
-use Rattle.promises.specs.After.{acted, answered, begun_call, change, close_answer, is_ender, is_epoch, is_home_of, is_id, opened_as, process_of, released, replied_to, taken_by, told_by, uses, with_all_known, with_epoch}
+use Rattle.promises.specs.Past.{CallSoFar, Epoch, Instance, Make, Past, acts, epoch_at, first_or, is_named, is_number, is_writer, site_at, table, unformed}
+use Rattle.promises.specs.After.{acted, answered, begun_call, change, close_answer, is_ender, is_epoch, is_home_of, is_id, named_by, once_named, opened_as, process_of, released, replied_to, told_by, uses, with_all_known, with_epoch}
 use Rattle.promises.specs.Rows.{is_asked, may_act}
 use Rattle.promises.specs.Tree.{effect_on, result_on, work_after}
 use Rattle.past_laws.specs.Agreement.{past}
@@ -94,9 +96,13 @@ ended_same which stamp (x ∷ xs) p = ended_same which stamp xs (answered which 
 kept_low : (m : ℕ) (which : Instance → Bool) (f : Instance → Instance) → ((x : Instance) → Low m x → Low m (f x)) → (xs : List Instance) → AllByRecursion (Low m) xs → AllByRecursion (Low m) (change which f xs)
 kept_low m which f go xs h = each_changed (Low m) (Low m) which f (λ x e q. go x q) (λ x e q. q) xs h
 
+once_low : (m : ℕ) (r : Reply) (x : Instance) → Low m x → Low m (once_named r x)
+once_low m (reply.Data bytes) x h = h
+once_low m _ x h = h
+
 replied_low : (m : ℕ) (r : Reply) (k : CallSoFar) (p : Past) → OpsLow m p.epochs → OpsLow m (replied_to r k p).epochs
 replied_low m r k p h = each_mapped (EpochLow m) (EpochLow m) _
-    (λ t low. kept_low m (λ (x : Instance). list_any (λ (d : Named). is_in (Some d.names.epoch) t.id && is_named d.names.inst x) (taken_by r k)) (λ (x : Instance). record x { named = true }) (λ x q. q) t.opened low) p.epochs h
+    (λ t low. kept_low m (λ (x : Instance). list_any (λ (d : Descriptor). is_in (Some d.epoch) t.id && is_named d.inst x) (named_by r k)) (once_named r) (once_low m r) t.opened low) p.epochs h
 
 all_replied_low : (m : ℕ) (r : Reply) (ks : List CallSoFar) (p : Past) → OpsLow m p.epochs → OpsLow m (fold (λ old k. replied_to r k old) p ks).epochs
 all_replied_low m r [] p h = h

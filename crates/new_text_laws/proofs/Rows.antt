@@ -62,12 +62,13 @@ either : (most : ℕ) (b : Bool) (xs ys : List Answer) → BringsFew most xs →
 either most true xs ys h k = h
 either most false xs ys h k = k
 
-granted_few : (most : ℕ) (m : Mode) (i : Serial) (f : FileId) (kept : List Stamp) → length kept ≤ most → TellsFew most (granted_answer m i f kept)
-granted_few most mode.Mend i f kept le = le
-granted_few most mode.Read i f kept le = tt
-granted_few most mode.Write i f kept le = tt
-granted_few most mode.Resolve i f kept le = tt
-granted_few most mode.Make i f kept le = tt
+granted_few : (most : ℕ) (m : Mode) (i : Serial) (f : FileId) (stamp : Option Stamp) (kept : List Stamp) → length kept ≤ most → TellsFew most (granted_answer m i f stamp kept)
+granted_few most mode.Mend i f stamp kept le = le
+granted_few most mode.Read i f (Some stamp) kept le = tt
+granted_few most mode.Read i f None kept le = tt
+granted_few most mode.Write i f stamp kept le = tt
+granted_few most mode.Resolve i f stamp kept le = tt
+granted_few most mode.Make i f stamp kept le = tt
 
 outcome_few : (most : ℕ) (o : Outcome) → TellsFew most (outcome_answer o)
 outcome_few most (outcome.No why) = tt
@@ -101,7 +102,7 @@ look_few most c before f w (served.No why) = tt
 
 answered : (most : ℕ) (c : Config) (n : ℕ) (r : Record) (before : Trace) (d : CallId) → ((e : EpochId) (f : FileId) → length (kept_in c before e f) ≤ most) → BringsFew most (answers c before d) → BringsFew most (answers c (record { line = n; what = r } ∷ before) d)
 answered most c n (rec.Look e id request f w result) before d few h = either most (same_call id d) _ (answers c before d) (added most (look_answer c before f w result) (take (request - 1) (answers c before d)) (look_few most c before f w result) (taken most (request - 1) (answers c before d) h)) h
-answered most c n (rec.Grant e id request i m f stamp ss) before d few h = either most (same_call id d) _ (answers c before d) (added most (granted_answer m i f (kept_in c before e f)) (answers c before d) (granted_few most m i f (kept_in c before e f) (few e f)) h) h
+answered most c n (rec.Grant e id request i m f stamp ss) before d few h = either most (same_call id d) _ (answers c before d) (added most (granted_answer m i f stamp (kept_in c before e f)) (answers c before d) (granted_few most m i f stamp (kept_in c before e f) (few e f)) h) h
 answered most c n (rec.Refuse e id request i m f why) before d few h = either most (same_call id d) _ (answers c before d) (added most (Refused why) (answers c before d) tt h) h
 answered most c n (rec.Act e i k o result) before d few h = either most (is_call (call_of_act before e i k) d) _ (answers c before d) (added most (outcome_answer result) (answers c before d) (outcome_few most result) h) h
 answered most c n (rec.Release e i f stamp) before d few h = either most (is_call (call_of_release before e i) d) _ (answers c before d) (added most (close_answer stamp (instance_in (tree_of c e f.group before) i)) (answers c before d) (close_few most stamp (instance_in (tree_of c e f.group before) i)) h) h

@@ -51,6 +51,7 @@ opening_makes c w f set k o = over w o
     not_open opens.Read e = cc
     not_open opens.Write e = cc
     not_open (opens.Resolve site) e = cc
+    not_open opens.Steady e = cc
 
     not_mend : how.Make set k ≡ how.Mend → ⊥
     not_mend e = cc

@@ -113,8 +113,8 @@ step_now c n (says.Look e call request f w result) older d may step = record {
 step_now c n (says.Grant e call request i m f stamp ss) older d may step = record {
   wanted = may.in_time.opens.asks.wanted;
   asks = asks;
-  given = granted_answer m i f (kept_in c (entries older) e f);
-  heard_is = by_own call d (heard c older d ++ granted_answer m i f (kept_in c (entries older) e f) ∷ []) (heard c older d) step ∙ ap (λ (xs : Answers). xs ++ granted_answer m i f (kept_in c (entries older) e f) ∷ []) asks.nothing_waits;
+  given = granted_answer m i f stamp (kept_in c (entries older) e f);
+  heard_is = by_own call d (heard c older d ++ granted_answer m i f stamp (kept_in c (entries older) e f) ∷ []) (heard c older d) step ∙ ap (λ (xs : Answers). xs ++ granted_answer m i f stamp (kept_in c (entries older) e f) ∷ []) asks.nothing_waits;
   sort = opening_not_do c may.in_time.opens.asks.wanted may.in_time.opens.asked may.in_time.opens.it may.in_time.opens.asks.opening_is;
 }
   where

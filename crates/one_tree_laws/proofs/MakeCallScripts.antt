@@ -37,7 +37,7 @@ use Rattle.tree_laws.specs.Calls.{script_as}
 use Rattle.tree_laws.proofs.Awaiting.{OpensIt}
 use Rattle.tree_laws.proofs.Holding.{Script}
 use Rattle.one_tree_laws.proofs.RemoveScripts.{Along, DirSo, IsOr, along_more, along_same, goes, goes_walked, or_more, packed_is}
-use Rattle.one_tree_laws.proofs.MakeCallOthers.{NotMake, give_up_one, made_none, others_none, uses_none}
+use Rattle.one_tree_laws.proofs.MakeCallOthers.{NotMake, give_up_one, made_none, others_none, reopens_none, uses_none}
 
 -- after these answers the script asks a make in this group: the last of them is that of a probe on the directory that it has opened
 -- there, and after more answers it asks no make
@@ -167,6 +167,8 @@ begun_making : (mounts : List Mount) (free : Option ℕ) (words : Call) (b : Beg
 begun_making mounts free words (begins.Denied why) group k set xs e = absurd (no_make _ group k set tt e)
 begun_making mounts free words (begins.Uses epoch inst) group k set xs e = absurd (no_make _ group k set (uses_none words inst xs) e)
 begun_making mounts free words (begins.Walks id) group k set xs e = path_making mounts free id words group k set xs e
+begun_making mounts free words (begins.Reopens kept last) group k set xs e = absurd (no_make _ group k set (reopens_none words kept last xs) e)
+begun_making mounts free words begins.Frees group k set xs e = absurd (no_make _ group k set tt e)
 
 named_making : (mounts : List Mount) (free : Option ℕ) (words : Call) (b : Beginning) (group : ℕ) (k : Kind) (set : Option Sites) (xs : List Answer) → named_wants mounts free words b xs ≡ want.Make group k set → Making (named_wants mounts free words b) xs group
 named_making mounts free words b group k set xs e = over (is_badly_named mounts words) e

@@ -2,6 +2,7 @@
 use Rattle.std.proofs.Common.{ℕ, List, [], ◌∷◌, Option, Some, None, ◌≡◌, refl}
 use Rattle.locus_ids.specs.declared.ids.CallId.{CallId}
 use Rattle.locus_ids.specs.declared.config.Mount.{Mount}
+use Rattle.locus_ids.specs.declared.ids.EpochId.{EpochId}
 use Rattle.locus_ids.specs.declared.ids.FileId.{FileId}
 use Rattle.locus_ids.specs.declared.ids.Kind.{Kind}
 use Rattle.locus_ids.specs.declared.ids.Kind.TheVariants as kind
@@ -13,6 +14,7 @@ use Rattle.trace_book.specs.Names.{components}
 use Rattle.trace_book.specs.declared.call.Call.{Call}
 use Rattle.trace_book.specs.declared.call.Call.TheVariants as call
 use Rattle.trace_book.specs.declared.call.OpenMode.{OpenMode}
+use Rattle.trace_book.specs.declared.descriptor.OneVersion.{OneVersion}
 use Rattle.trace_book.specs.declared.operation.Op.{Op}
 use Rattle.trace_book.specs.declared.operation.Op.TheVariants as op
 use Rattle.trace_book.specs.declared.reply.Reply.{Reply}
@@ -23,12 +25,14 @@ use Rattle.call_rules.specs.Making.{after_insert, after_make, fills, after_probe
 use Rattle.call_rules.specs.Mending.{after_mend, brings, mend_wants}
 use Rattle.call_rules.specs.Naming.{renames}
 use Rattle.call_rules.specs.Opening.{close_wants, describes, lists, op_wants, opens_file, uses_wants, Shows, shown_in}
+use Rattle.call_rules.specs.Reopening.{reopen_wants}
 use Rattle.call_rules.specs.Scripts.{path_wants}
 use Rattle.call_rules.specs.Walks.{Asks, Fails, Strays, There, Walked, root_of, walk, walked}
 use Rattle.call_rules.specs.declared.answer.Answer.{Answer}
 use Rattle.call_rules.specs.declared.answer.Answer.TheVariants as answer
 use Rattle.call_rules.specs.declared.want.Want.{Want}
 use Rattle.call_rules.specs.declared.want.Want.TheVariants as want
+use Rattle.store_laws.proofs.of_holding_laws.MendReopens.{reopen_so}
 
 -- it removes no name
 abbrev pub NotRemove : Want → Type 0
@@ -158,6 +162,7 @@ opens_file_none : (m : OpenMode) (free : Option ℕ) (f : FileId) (k : Kind) (xs
 opens_file_none m free f kind.Dir xs = tt
 opens_file_none m free f kind.File [] = tt
 opens_file_none m (Some fd) f kind.File (answer.Opened i ino ∷ []) = tt
+opens_file_none m (Some fd) f kind.File (answer.Reading i version ∷ []) = tt
 opens_file_none m None f kind.File (answer.Refused why ∷ []) = tt
 opens_file_none m (Some fd) f kind.File (answer.Refused why ∷ []) = tt
 opens_file_none m None f kind.File (_ ∷ rest) = tt
@@ -190,6 +195,9 @@ uses_none (call.Commit fd) i xs = op_none i op.Commit tt xs
 uses_none (call.Abort fd) i xs = op_none i op.Abort tt xs
 uses_none (call.Close fd) i xs = close_none i xs
 uses_none _ i xs = tt
+
+pub reopens_none : (words : Call) (kept : OneVersion) (last : EpochId) (xs : List Answer) → NotRemove (reopen_wants words kept last xs)
+reopens_none words kept last xs = reopen_so NotRemove kept (record { opens = tt; reads = λ i at len. tt; closes = λ i. tt; replies = λ r. tt; never = tt }) words last xs
 
 -- ---- all others ----
 

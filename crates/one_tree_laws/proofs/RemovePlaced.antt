@@ -109,7 +109,7 @@ taken_so c t d Q clear k = over k.place
 
 -- an open was asked of this mode and file, and granted so
 abbrev pub GrantedSo : Mode → FileId → Serial → Want → Answer → Type 0
-GrantedSo m f i w a = (is_open_of m f w ≡ true) × ((stamps : List Stamp) × (a ≡ granted_answer m i f stamps))
+GrantedSo m f i w a = (is_open_of m f w ≡ true) × ((stamp : Option Stamp) × (stamps : List Stamp) × (a ≡ granted_answer m i f stamp stamps))
 
 look_opens_none : (f : FileId) (w : What) (v : Want) → v ≡ want.Look f w → is_open_want v ≡ true → ⊥
 look_opens_none f w v e k = true_false (sym k ∙ ap is_open_want e)
@@ -147,13 +147,13 @@ granted_placed c (y ∷ older) h e d request i m f stamp ss (inl now) = over y.t
         own : Placed c (With y.number it older) call (GrantedSo md file inst)
         own = record {
           before = log older call;
-          given = granted_answer md inst file (kept_in c (entries older) at file);
+          given = granted_answer md inst file on (kept_in c (entries older) at file);
           asked = may.in_time.opens.asks.wanted;
           script_is = script_stays c y.number it older call None (log older call) h.1 may (asking_named c (entries older) call None (log older call) may.in_time.opens.asks.wanted asks.asked asks.request) ∙ asks.asked;
           request = asks.request;
           no_look = λ g w q. look_opens_none g w (asked_now c older call) (asks.asked ∙ q) opens;
-          fits = (subst (λ (w : Want). is_open_of md file w ≡ true) wanted may.row.opens.asked, (kept_in c (entries older) at file, refl));
-          place = inl (refl, by_own call call _ (heard c older call) refl ∙ ap (λ (xs : Answers). xs ++ granted_answer md inst file (kept_in c (entries older) at file) ∷ []) asks.nothing_waits);
+          fits = (subst (λ (w : Want). is_open_of md file w ≡ true) wanted may.row.opens.asked, (on, kept_in c (entries older) at file, refl));
+          place = inl (refl, by_own call call _ (heard c older call) refl ∙ ap (λ (xs : Answers). xs ++ granted_answer md inst file on (kept_in c (entries older) at file) ∷ []) asks.nothing_waits);
         }
     over (Shown r) may p = absurd p
     over x may p = absurd p

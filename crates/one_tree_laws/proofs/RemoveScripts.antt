@@ -37,7 +37,7 @@ use Rattle.tree_laws.specs.of_lawful_trace.Progress.{is_packed_in}
 use Rattle.tree_laws.specs.Calls.{script_as}
 use Rattle.tree_laws.proofs.Awaiting.{OpensIt}
 use Rattle.tree_laws.proofs.Holding.{Script}
-use Rattle.one_tree_laws.proofs.RemoveOthers.{NotRemove, close_all_none, give_up_one, give_up_two, others_none, uses_none}
+use Rattle.one_tree_laws.proofs.RemoveOthers.{NotRemove, close_all_none, give_up_one, give_up_two, others_none, reopens_none, uses_none}
 
 -- ---- before each answer ----
 
@@ -267,6 +267,8 @@ begun_removal : (mounts : List Mount) (free : Option ℕ) (words : Call) (b : Be
 begun_removal mounts free words (begins.Denied why) i name ino xs e = absurd (no_do _ i name ino tt e)
 begun_removal mounts free words (begins.Uses epoch inst) i name ino xs e = absurd (no_do _ i name ino (uses_none words inst xs) e)
 begun_removal mounts free words (begins.Walks id) i name ino xs e = path_removal mounts free id words i name ino xs e
+begun_removal mounts free words (begins.Reopens kept last) i name ino xs e = absurd (no_do _ i name ino (reopens_none words kept last xs) e)
+begun_removal mounts free words begins.Frees i name ino xs e = absurd (no_do _ i name ino tt e)
 
 -- by whether groups have packs
 pub packed_is : (p : ℕ → Bool) (w : Want) → IsOr (where_packed p w) w

@@ -85,12 +85,13 @@ found_some {A} p x (y ∷ ys) m e = at (λ (q : Among x ys). found_some p x ys q
 
 -- ---- what was granted ----
 
-opens_it : (m : Mode) (i : Serial) (f : FileId) (stamps : List Stamp) → OpensIt (granted_answer m i f stamps) i
-opens_it mode.Mend i f stamps = refl
-opens_it mode.Read i f stamps = refl
-opens_it mode.Write i f stamps = refl
-opens_it mode.Resolve i f stamps = refl
-opens_it mode.Make i f stamps = refl
+opens_it : (m : Mode) (i : Serial) (f : FileId) (stamp : Option Stamp) (stamps : List Stamp) → OpensIt (granted_answer m i f stamp stamps) i
+opens_it mode.Mend i f stamp stamps = refl
+opens_it mode.Read i f (Some stamp) stamps = refl
+opens_it mode.Read i f None stamps = refl
+opens_it mode.Write i f stamp stamps = refl
+opens_it mode.Resolve i f stamp stamps = refl
+opens_it mode.Make i f stamp stamps = refl
 
 -- an open to write is granted to write, of that file
 write_is : (m : Mode) (f g : FileId) → is_open_of m f (want.Open g how.Write) ≡ true → (m ≡ mode.Write) × (f ≡ g)
@@ -137,7 +138,7 @@ module _ (c : Config) (t : List Line) (h : IsFollowed c t) (e : EpochId) (d : Ca
         serial_is = shown.serial_is;
         mode_is = shown.mode_is ∙ so.0;
         file_is = shown.file_is ∙ so.1;
-        number_is = opened_number i i number f.ino (sym z.1 ∙ (k.fits.1.1 ∙ (ap (λ (m : Mode). granted_answer m i g.file k.fits.1.0) so.0 ∙ ap (λ (x : FileId). answer.Opened i x.ino) so.1)));
+        number_is = opened_number i i number f.ino (sym z.1 ∙ (k.fits.1.2 ∙ (ap (λ (m : Mode). granted_answer m i g.file k.fits.1.0 k.fits.1.1) so.0 ∙ ap (λ (x : FileId). answer.Opened i x.ino) so.1)));
       }
         where
           g : GrantIs t e i d
@@ -150,7 +151,7 @@ module _ (c : Config) (t : List Line) (h : IsFollowed c t) (e : EpochId) (d : Ca
           k = taken_so c t d (GrantedSo g.mode g.file i) asks.nothing_waits (granted_placed c t h e d g.request i g.mode g.file g.stamp g.place g.was_granted)
 
           z : IsOr (script c (entries t) d None k.before) (want.Open f how.Write) × (k.given ≡ answer.Opened i number)
-          z = each k.before k.after k.given k.log_is (subst (λ (a : Answer). OpensIt a i) (sym k.fits.1.1) (opens_it g.mode i g.file k.fits.1.0))
+          z = each k.before k.after k.given k.log_is (subst (λ (a : Answer). OpensIt a i) (sym k.fits.1.2) (opens_it g.mode i g.file k.fits.1.0 k.fits.1.1))
 
           so : (g.mode ≡ mode.Write) × (g.file ≡ f)
           so = at z.0

@@ -1,4 +1,4 @@
--- A call that a line asks of a site in no epoch is refused at once.
+-- A call that a line asks of a site in no epoch ends at once: it is refused, or closes what no instance holds.
 use Rattle.std.proofs.Common.{◌≡◌, ℕ, ◌+◌, ◌==◌, ◌≤◌, Bool, true, false, not, cond, ◌&&◌, List, [], ◌∷◌, filter, Option, Some, None, refl, sym, ◌∙◌, ap, subst, ◌⊎◌, inl, inr}
 use Rattle.std.specs.List.{find}
 use Rattle.role_steps.proofs.of_plain_facts.Numbers.{equal, equal_self}
@@ -15,9 +15,10 @@ use Rattle.trace_book.specs.declared.call.Call.TheVariants as call
 use Rattle.trace_book.specs.declared.descriptor.Beginning.{Beginning}
 use Rattle.trace_book.specs.declared.descriptor.Beginning.TheVariants as begins
 use Rattle.trace_book.specs.declared.descriptor.Descriptor.{Descriptor}
+use Rattle.trace_book.specs.declared.descriptor.OneVersion.{OneVersion}
 use Rattle.trace_book.specs.declared.reply.Reply.{Reply}
 use Rattle.trace_book.specs.declared.reply.Reply.TheVariants as reply
-use Rattle.call_rules.specs.Descriptors.{beginning, begins_on, begins_open, lowest_free}
+use Rattle.call_rules.specs.Descriptors.{beginning, begins_again, begins_change, begins_close, begins_open, begins_read, lowest_free, stale_or}
 use Rattle.call_rules.specs.Scripts.{wants, where_packed}
 use Rattle.call_rules.specs.Words.{is_badly_named, is_too_long}
 use Rattle.call_rules.specs.declared.want.Want.{Want}
@@ -33,14 +34,15 @@ use Rattle.the_run.specs.Steps.{call_frame}
 use Rattle.the_run.specs.Worlds.{Line}
 use Rattle.tree_model.specs.Calls.{accepted_as, call_named, is_of, waiting, waiting_of as waits_of}
 use Rattle.tree_model.specs.Epochs.{boot_of, calls_accepted, epoch_of, is_up}
+use Rattle.tree_model.specs.Folds.{Trace}
 use Rattle.tree_model.specs.declared.accepted.Waiting.{Waiting}
 use Rattle.tree_laws.specs.of_lawful_trace.CallRows.{CallRow, is_this}
 use Rattle.tree_laws.specs.of_lawful_trace.Progress.{Answers, answers, is_packed_in, left_since, unless_left, wants_as, wants_next}
-use Rattle.tree_laws.specs.of_lawful_trace.Tables.{begins_now, begun, closed_by, descriptor}
+use Rattle.tree_laws.specs.of_lawful_trace.Tables.{begins_now, begun, closed_by, descriptor, opened_by}
 use Rattle.tree_laws.specs.Printed.{entries}
 use Rattle.tree_laws.specs.Calls.{is_request, log, script, script_as}
 use Rattle.tree_laws.specs.Doing.{Fine, IsOfUsers, NoWrite}
-use Rattle.tree_laws.specs.Following.{AnswersInTime, IsFollowed, MayTell}
+use Rattle.tree_laws.specs.Following.{AnswersInTime, IsFollowed, MayTell, RepliesInTime}
 use Rattle.tree_laws.specs.Processes.{IsMend}
 use Rattle.tree_laws.specs.Serials.{asked_now, is_open_want, opens_asked}
 use Rattle.tree_laws.specs.Users.{own_call, UsersFact}
@@ -56,55 +58,114 @@ use Rattle.one_tree_laws.specs.Rest.{Past, more}
 use Rattle.one_tree_laws.specs.Roles.{MayCall}
 use Rattle.one_tree_laws.proofs.UserStepCalling.{no_mend, plain_row, process_above, words_low}
 
--- ---- it is denied where it begins ----
+-- ---- it ends where it begins ----
 
-abbrev IsDenied : Beginning → Type 0
-IsDenied b = (why : Refusal) × (b ≡ begins.Denied why)
+-- it is refused, or frees what no instance holds
+abbrev pub EndsAtOnce : Beginning → Type 0
+EndsAtOnce (begins.Denied why) = Unit {0}
+EndsAtOnce begins.Frees = Unit {0}
+EndsAtOnce _ = ⊥
 
-on_denied : (changes : Bool) (o : Option Descriptor) → IsDenied (begins_on changes None o)
-on_denied changes None = (refusal.BadDescriptor, refl)
-on_denied changes (Some d) = (refusal.Stale d.epoch, refl)
-
-open_denied : (id : CallId) (free : Option ℕ) → IsDenied (begins_open None id free)
-open_denied id None = (refusal.NoDescriptor, refl)
-open_denied id (Some fd) = (refusal.NoPartition, refl)
-
-denied : (table : ℕ → Option Descriptor) (id : CallId) (words : Call) → IsDenied (beginning table None id words)
-denied table id (call.Open path how) = open_denied id (lowest_free table)
-denied table id (call.Read fd at len) = on_denied false (table fd)
-denied table id (call.Write fd at bytes) = over (is_too_long (call.Write fd at bytes))
+read_ends : (o : Option Descriptor) → EndsAtOnce (begins_read None o)
+read_ends None = tt
+read_ends (Some d) = over d.steady
   where
-    over : (b : Bool) → IsDenied (cond b (begins.Denied refusal.TooLong) (begins_on true None (table fd)))
-    over true = (refusal.TooLong, refl)
-    over false = on_denied true (table fd)
-denied table id (call.Cut fd len) = on_denied true (table fd)
-denied table id (call.Commit fd) = on_denied true (table fd)
-denied table id (call.Abort fd) = on_denied true (table fd)
-denied table id (call.Close fd) = on_denied false (table fd)
-denied table id _ = (refusal.NoPartition, refl)
+    over : (o : Option OneVersion) → EndsAtOnce (stale_or (begins_again None d.epoch) d.epoch o)
+    over None = tt
+    over (Some version) = tt
 
--- and so its script gives a refusal
-refused_as : List Mount → Call → Refusal → Refusal
-refused_as mounts words why = cond (is_badly_named mounts words) refusal.BadName why
-
-denied_gives : (mounts : List Mount) (p : ℕ → Bool) (free : Option ℕ) (words : Call) (why : Refusal) → wants mounts p free words (begins.Denied why) [] ≡ want.Give (reply.No (refused_as mounts words why))
-unfolding refused_as
-denied_gives mounts p free words why = over (is_badly_named mounts words)
+close_ends : (o : Option Descriptor) → EndsAtOnce (begins_close None o)
+close_ends None = tt
+close_ends (Some d) = over d.steady
   where
-    over : (b : Bool) → where_packed p (cond b (want.Give (reply.No refusal.BadName)) (want.Give (reply.No why))) ≡ want.Give (reply.No (cond b refusal.BadName why))
+    over : (o : Option OneVersion) → EndsAtOnce (stale_or (λ version. begins.Frees) d.epoch o)
+    over None = tt
+    over (Some version) = tt
+
+change_ends : (o : Option Descriptor) → EndsAtOnce (begins_change None o)
+change_ends None = tt
+change_ends (Some d) = over d.steady refl
+  where
+    over : (o : Option OneVersion) → d.steady ≡ o → EndsAtOnce (begins_change None (Some d))
+    over None e = rw e tt
+    over (Some version) e = rw e tt
+
+open_ends : (id : CallId) (free : Option ℕ) → EndsAtOnce (begins_open None id free)
+open_ends id None = tt
+open_ends id (Some fd) = tt
+
+pub ended : (table : ℕ → Option Descriptor) (id : CallId) (words : Call) → EndsAtOnce (beginning table None id words)
+ended table id (call.Open path how) = open_ends id (lowest_free table)
+ended table id (call.Read fd at len) = read_ends (table fd)
+ended table id (call.Write fd at bytes) = over (is_too_long (call.Write fd at bytes))
+  where
+    over : (b : Bool) → EndsAtOnce (cond b (begins.Denied refusal.TooLong) (begins_change None (table fd)))
+    over true = tt
+    over false = change_ends (table fd)
+ended table id (call.Cut fd len) = change_ends (table fd)
+ended table id (call.Commit fd) = change_ends (table fd)
+ended table id (call.Abort fd) = change_ends (table fd)
+ended table id (call.Close fd) = close_ends (table fd)
+ended table id _ = tt
+
+-- and so its script gives a refusal, or that it was closed
+abbrev pub at_once : Beginning → Reply
+at_once (begins.Denied why) = reply.No why
+at_once _ = reply.Closed None
+
+abbrev pub given_as : List Mount → Call → Beginning → Reply
+given_as mounts words b = cond (is_badly_named mounts words) (reply.No refusal.BadName) (at_once b)
+
+pub ended_gives : (mounts : List Mount) (p : ℕ → Bool) (free : Option ℕ) (words : Call) (b : Beginning) → EndsAtOnce b → wants mounts p free words b [] ≡ want.Give (given_as mounts words b)
+ended_gives mounts p free words (begins.Denied why) ends = over (is_badly_named mounts words)
+  where
+    over : (x : Bool) → where_packed p (cond x (want.Give (reply.No refusal.BadName)) (want.Give (reply.No why))) ≡ want.Give (cond x (reply.No refusal.BadName) (reply.No why))
     over true = refl
     over false = refl
+ended_gives mounts p free words begins.Frees ends = over (is_badly_named mounts words)
+  where
+    over : (x : Bool) → where_packed p (cond x (want.Give (reply.No refusal.BadName)) (want.Give (reply.Closed None))) ≡ want.Give (cond x (reply.No refusal.BadName) (reply.Closed None))
+    over true = refl
+    over false = refl
+ended_gives mounts p free words _ ends = absurd ends
+
+-- such a reply names nothing
+abbrev NamesNothing : Reply → Type 0
+NamesNothing (reply.No why) = Unit {0}
+NamesNothing (reply.Closed stamp) = Unit {0}
+NamesNothing _ = ⊥
+
+given_names : (mounts : List Mount) (words : Call) (b : Beginning) → NamesNothing (given_as mounts words b)
+given_names mounts words b = over (is_badly_named mounts words) b
+  where
+    over : (x : Bool) (b : Beginning) → NamesNothing (cond x (reply.No refusal.BadName) (at_once b))
+    over true b = tt
+    over false (begins.Denied why) = tt
+    over false _ = tt
+
+leaves_table : (r : Reply) (before : Trace) (d : CallId) (fd : ℕ) (old : Option Descriptor) → NamesNothing r → opened_by r before d fd old ≡ old
+leaves_table (reply.No why) before d fd old k = refl
+leaves_table (reply.Closed stamp) before d fd old k = refl
+leaves_table _ before d fd old k = absurd k
 
 plain_hope : (words : Call) (why : Refusal) (v : Users) → (IsMend words → ⊥) → without_hope words why v ≡ v
 plain_hope (call.Mend file) why v none = absurd (none tt)
 plain_hope _ why v none = refl
 
+leaves_users : (f : Frame) (w : WaitingCall) (r : Reply) (v : Users) → (IsMend w.words → ⊥) → NamesNothing r → after_reply f w r v ≡ v
+leaves_users f w (reply.No why) v plain k = plain_hope w.words why v plain
+leaves_users f w (reply.Closed stamp) v plain k = refl
+leaves_users f w _ v plain k = absurd k
+
 module _ (c : Config) (n : ℕ) (t : List Line) (me boot process : ℕ) (words : Call) (u : Users) (h : IsFollowed c t) (up : is_up (entries t) me ≡ true) (outside : epoch_of (entries t) me ≡ None) (k : UsersOutside c me boot t u) (plain : IsMend words → ⊥) (low : IsNumbered words) where
   abbrev f : Frame
   f = call_frame c me boot None
 
+  abbrev begun_at : Beginning
+  begun_at = beginning (descriptors_of u process) None (own_call f.me f.boot (u.calls + 1)) words
+
   abbrev w : WaitingCall
-  w = accepted process (u.calls + 1) words (beginning (descriptors_of u process) None (own_call f.me f.boot (u.calls + 1)) words)
+  w = accepted process (u.calls + 1) words begun_at
 
   abbrev d : CallId
   d = own_call me boot (u.calls + 1)
@@ -119,7 +180,13 @@ module _ (c : Config) (n : ℕ) (t : List Line) (me boot process : ℕ) (words :
   new = accepted_as (entries t) me process d words
 
   abbrev given : Reply
-  given = reply.No (refused_as c.mounts words (denied (descriptors_of u process) d words).0)
+  given = given_as c.mounts words begun_at
+
+  ends : EndsAtOnce begun_at
+  ends = ended (descriptors_of u process) d words
+
+  nameless : NamesNothing given
+  nameless = given_names c.mounts words begun_at
 
   abbrev y : Told
   y = reply_record me boot w given
@@ -130,11 +197,10 @@ module _ (c : Config) (n : ℕ) (t : List Line) (me boot process : ℕ) (words :
   after = record u { calls = u.calls + 1; waiting = []; descriptors = freed process words u.descriptors }
 
   gives : next_want f w (frees process words (record u { calls = u.calls + 1 })) ≡ want.Give given
-  gives = ap (λ (b : Beginning). wants c.mounts (is_packed f) (lowest_free (descriptors_of (frees process words (record u { calls = u.calls + 1 })) process)) words b []) (denied (descriptors_of u process) d words).1
-      ∙ denied_gives c.mounts (is_packed f) (lowest_free (descriptors_of (frees process words (record u { calls = u.calls + 1 })) process)) words (denied (descriptors_of u process) d words).0
+  gives = ended_gives c.mounts (is_packed f) (lowest_free (descriptors_of (frees process words (record u { calls = u.calls + 1 })) process)) words begun_at ends
 
   view_is : after_reply f w given (without_waiting w (frees process words (record u { calls = u.calls + 1 }))) ≡ after
-  view_is = plain_hope words (refused_as c.mounts words (denied (descriptors_of u process) d words).0) (without_waiting w (frees process words (record u { calls = u.calls + 1 }))) plain
+  view_is = leaves_users f w given (without_waiting w (frees process words (record u { calls = u.calls + 1 }))) plain nameless
       ∙ (ap (without_waiting w) (frees_is process words (record u { calls = u.calls + 1 }))
       ∙ ap (λ (ws : List WaitingCall). record u { calls = u.calls + 1; waiting = without_row waiting_key (waiting_key w) ws; descriptors = freed process words u.descriptors }) k.calls)
 
@@ -190,26 +256,31 @@ module _ (c : Config) (n : ℕ) (t : List Line) (me boot process : ℕ) (words :
   named_is : call_named (entries newer) d ≡ Some new
   named_is = ap (λ (b : Bool). cond b (Some new) (call_named (entries t) d)) (same_call_own d)
 
-  begun_is : begun (entries newer) d ≡ Some (begins.Denied (denied (descriptors_of u process) d words).0)
+  begun_is : begun (entries newer) d ≡ Some begun_at
   begun_is = ap (λ (b : Bool). cond b (Some (begins_now (entries t) me process d words)) (begun (entries t) d)) (same_call_own d)
-      ∙ ap Some (ap (λ (o : Option EpochId). beginning (descriptor (entries t) me process) o d words) outside ∙ (sym (begins_same (descriptors_of u process) (descriptor (entries t) me process) (λ fd lt. k.always.descriptors process fd lt) None d words low) ∙ (denied (descriptors_of u process) d words).1))
+      ∙ ap Some (ap (λ (o : Option EpochId). beginning (descriptor (entries t) me process) o d words) outside ∙ sym (begins_same (descriptors_of u process) (descriptor (entries t) me process) (λ fd lt. k.always.descriptors process fd lt) None d words low))
 
   wants_so : wants_next c (entries newer) d ≡ want.Give given
   wants_so = ap (λ (o : Option Waiting). wants_as c (entries newer) o (begun (entries newer) d) (answers c (entries newer) d)) named_is
       ∙ (ap (λ (o : Option Beginning). wants_as c (entries newer) (Some new) o (answers c (entries newer) d)) begun_is
-      ∙ (ap (λ (xs : Answers). wants_as c (entries newer) (Some new) (Some (begins.Denied (denied (descriptors_of u process) d words).0)) xs) answered_none
-      ∙ denied_gives c.mounts (is_packed_in c (entries newer) new.epoch) (lowest_free (descriptor (entries newer) me process)) words (denied (descriptors_of u process) d words).0))
+      ∙ (ap (λ (xs : Answers). wants_as c (entries newer) (Some new) (Some begun_at) xs) answered_none
+      ∙ ended_gives c.mounts (is_packed_in c (entries newer) new.epoch) (lowest_free (descriptor (entries newer) me process)) words begun_at ends))
 
   -- nothing is asked
   script_so : script c (entries newer) d None (log newer d) ≡ want.Give given
   script_so = ap (λ (o : Option Waiting). script_as c (entries newer) o (begun (entries newer) d) None (log newer d)) named_is
       ∙ (ap (λ (o : Option Beginning). script_as c (entries newer) (Some new) o None (log newer d)) begun_is
-      ∙ (ap (λ (xs : Answers). script_as c (entries newer) (Some new) (Some (begins.Denied (denied (descriptors_of u process) d words).0)) None xs) untaken.log_is
-      ∙ denied_gives c.mounts (is_packed_in c (entries newer) new.epoch) None words (denied (descriptors_of u process) d words).0))
+      ∙ (ap (λ (xs : Answers). script_as c (entries newer) (Some new) (Some begun_at) None xs) untaken.log_is
+      ∙ ended_gives c.mounts (is_packed_in c (entries newer) new.epoch) None words begun_at ends))
 
-  in_time : (why : Refusal) → AnswersInTime c newer d (reply.No why)
-  in_time (refusal.Changed e) = outside
-  in_time _ = record { nothing_waits = untaken.heard_is ∙ sym untaken.log_is; nothing_asked = ap is_request script_so }
+  replies : RepliesInTime c newer d
+  replies = record { nothing_waits = untaken.heard_is ∙ sym untaken.log_is; nothing_asked = ap is_request script_so }
+
+  in_time : (r : Reply) → NamesNothing r → AnswersInTime c newer d r
+  in_time (reply.No (refusal.Changed e)) q = outside
+  in_time (reply.No why) q = replies
+  in_time (reply.Closed stamp) q = replies
+  in_time _ q = absurd q
 
   may_answer : MayTell c newer y
   may_answer = record {
@@ -220,7 +291,7 @@ module _ (c : Config) (n : ℕ) (t : List Line) (me boot process : ℕ) (words :
       gives = ap (λ (o : Option EpochId). unless_left (left_since (entries newer) me o) (wants_next c (entries newer) d)) outside ∙ wants_so;
       text = refl;
     };
-    in_time = in_time (refused_as c.mounts words (denied (descriptors_of u process) d words).0);
+    in_time = in_time given nameless;
   }
     where
       own : (p q b : Bool) → p ≡ true → q ≡ true → b ≡ true → (p && q && b) ≡ true
@@ -237,7 +308,8 @@ module _ (c : Config) (n : ℕ) (t : List Line) (me boot process : ℕ) (words :
     calls = ap (λ (m : ℕ). m + 1) k.always.calls ∙ sym (ap (λ (b : Bool). cond b (calls_accepted (entries t) me + 1) (calls_accepted (entries t) me)) (equal_self me));
     serials = k.always.serials ∙ sym (ap (λ (b : Bool). cond b (opens_asked c t me + 1) (opens_asked c t me)) (none (me == me) (is_open_want (asked_now c newer d)) (ap is_open_want script_so)));
     descriptors = λ user fd lt. freed_same process words u.descriptors low k.always.ascends user fd lt (descriptor (entries t) me user fd) (k.always.descriptors user fd lt)
-        ∙ (sym (ap (λ (b : Bool). cond (b && (process == user)) (closed_by words fd (descriptor (entries t) me user fd)) (descriptor (entries t) me user fd)) (equal_self me)) ∙ sym (either ((me == me) && (process == user)) (descriptor (entries newer) me user fd)));
+        ∙ (sym (ap (λ (b : Bool). cond (b && (process == user)) (closed_by words fd (descriptor (entries t) me user fd)) (descriptor (entries t) me user fd)) (equal_self me))
+        ∙ sym (ap (λ (o : Option Descriptor). cond ((me == me) && (process == user)) o (descriptor (entries newer) me user fd)) (leaves_table given (entries newer) d fd (descriptor (entries newer) me user fd) nameless) ∙ either ((me == me) && (process == user)) (descriptor (entries newer) me user fd)));
     ascends = freed_ascends process words u.descriptors k.descriptors_ascend;
   }
     where

@@ -16,4 +16,4 @@ pub use number::full_sites_lack_numbers;
 pub use remove::removes_have_seen;
 pub use spent::{no_mend_is_spent, rescues_have_their_numbers};
 pub use told_vector::{stamps_name_versions, vectors_tell_which_is_newer};
-pub use user_step::{calls_outside_are_refused, user_steps_are_fine};
+pub use user_step::{calls_outside_end_at_once, user_steps_are_fine};

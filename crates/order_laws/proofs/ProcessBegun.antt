@@ -26,11 +26,11 @@ use Rattle.tree_laws.specs.of_role_steps.Views.{Told, Shown, Takes}
 use Rattle.tree_laws.specs.of_the_run.Kept.{Among}
 use Rattle.tree_laws.specs.of_the_run.Worlds.{Line}
 use Rattle.tree_model.specs.declared.accepted.Waiting.{Waiting}
-use Rattle.tree_model.specs.Calls.{granted_to, call_named, accepted_as}
+use Rattle.tree_model.specs.Calls.{granted_to, call_named, accepted_as, opening_of}
 use Rattle.tree_model.specs.Epochs.{epoch_of}
 use Rattle.tree_model.specs.Folds.{Trace}
 use Rattle.tree_laws.specs.of_lawful_trace.Progress.{Answers, is_packed_in}
-use Rattle.tree_laws.specs.of_lawful_trace.Tables.{begins_now, begun, is_close, uses_by, uses_of, close_of, descriptor}
+use Rattle.tree_laws.specs.of_lawful_trace.Tables.{begins_now, begun, is_close, is_opening, uses_by, uses_of, close_of, descriptor}
 use Rattle.tree_laws.specs.of_lawful_trace.TreeRows.{IsCallIn}
 use Rattle.tree_laws.specs.Printed.{entries, onto_entries}
 use Rattle.tree_laws.specs.Calls.{log, script_as, Waits}
@@ -126,6 +126,11 @@ uses_stay c n r older e i d true may k = closed_same c older n r e i d may k
 uses_stay c n (says.Accept s process new words) older e i d false may k = over (not (is_close words) && uses_by (begins_now (entries older) s process new words) e i)
   where
     over : (b : Bool) → Among d (cond b (new ∷ uses_of (entries older) e i) (uses_of (entries older) e i))
+    over true = inr k
+    over false = k
+uses_stay c n (says.Answer s process reader (reply.Data bytes)) older e i d false may k = over (is_opening (opening_of (entries older) reader) e i)
+  where
+    over : (b : Bool) → Among d (cond b (reader ∷ uses_of (entries older) e i) (uses_of (entries older) e i))
     over true = inr k
     over false = k
 uses_stay c n r older e i d false may k = k

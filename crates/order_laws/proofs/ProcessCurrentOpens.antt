@@ -1,5 +1,5 @@
 -- An open that was granted or refused, of the request that its call asks still, has its answer waiting.
-use Rattle.std.proofs.Common.{◌≡◌, ℕ, ◌+◌, ◌≤◌, Bool, true, false, cond, List, [], ◌∷◌, ◌++◌, length, Option, None, refl, sym, ◌∙◌, ap, subst, arith, ◌⊎◌, inl, inr, length-append}
+use Rattle.std.proofs.Common.{◌≡◌, ℕ, ◌+◌, ◌≤◌, Bool, true, false, cond, List, [], ◌∷◌, ◌++◌, length, Option, None, Some, refl, sym, ◌∙◌, ap, subst, arith, ◌⊎◌, inl, inr, length-append}
 use Rattle.tree_laws.proofs.of_plain_facts.Tests.{true_false}
 use Rattle.locus_ids.specs.declared.config.Config.{Config}
 use Rattle.locus_ids.specs.declared.ids.CallId.{CallId}
@@ -118,9 +118,9 @@ stands c (x ∷ older) h d request a (inr was) same = over (same_or_turns x.numb
 
 -- ---- what records answer ----
 
-granted_open_answer : (c : Config) (older : List Line) (x : Told) (e : EpochId) (d : CallId) (request : ℕ) (i : Serial) (m : Mode) (f : FileId) (stamp : Option Stamp) (ss : ℕ) → (m ≡ mode.Mend → ⊥) → MayTell c older x → Printed (GrantRecord e d request i m f stamp ss) older x → AnswersOpen c d request (answer.Opened i f.ino) older x
-granted_open_answer c older (Shown (says.Grant at call number inst md file on place)) e d request i m f stamp ss plain may p = record {
-  shown = λ n. (refl, by_own call d _ (heard c older d) p.call_is ∙ (ap (λ (xs : Answers). xs ++ granted_answer md inst file (kept_in c (entries older) at file) ∷ []) clear ∙ ap (λ (b : Answer). log older d ++ b ∷ []) (opened md (λ is. plain (sym p.mode_is ∙ is)) ∙ (ap (λ (j : Serial). answer.Opened j file.ino) p.serial_is ∙ ap (λ (g : FileId). answer.Opened i g.ino) p.file_is))));
+granted_open_answer : (c : Config) (older : List Line) (x : Told) (e : EpochId) (d : CallId) (request : ℕ) (i : Serial) (m : Mode) (f : FileId) (stamp : Option Stamp) (ss : ℕ) → (kept : List Stamp) → (m ≡ mode.Mend → ⊥) → MayTell c older x → Printed (GrantRecord e d request i m f stamp ss) older x → AnswersOpen c d request (granted_answer m i f stamp kept) older x
+granted_open_answer c older (Shown (says.Grant at call number inst md file on place)) e d request i m f stamp ss kept plain may p = record {
+  shown = λ n. (refl, by_own call d _ (heard c older d) p.call_is ∙ (ap (λ (xs : Answers). xs ++ granted_answer md inst file on (kept_in c (entries older) at file) ∷ []) clear ∙ ap (λ (b : Answer). log older d ++ b ∷ []) (opened md on (λ is. plain (sym p.mode_is ∙ is)) ∙ said)));
   request_is = ap (request_number older) (sym p.call_is) ∙ (sym may.in_time.opens.asks.request_is ∙ p.request_is);
   asked = subst (λ (y : CallId). is_open_want (asked_now c older y) ≡ true) p.call_is (asks_opens c older at call number inst.serial may.in_time.opens.asked may.in_time.opens.it may.in_time.opens.asks);
 }
@@ -128,14 +128,18 @@ granted_open_answer c older (Shown (says.Grant at call number inst md file on pl
     clear : heard c older d ≡ log older d
     clear = subst (λ (y : CallId). heard c older y ≡ log older y) p.call_is may.in_time.opens.asks.asks.nothing_waits
 
-    opened : (k : Mode) → (k ≡ mode.Mend → ⊥) → granted_answer k inst file (kept_in c (entries older) at file) ≡ answer.Opened inst file.ino
-    opened mode.Mend other = absurd (other refl)
-    opened mode.Read other = refl
-    opened mode.Write other = refl
-    opened mode.Resolve other = refl
-    opened mode.Make other = refl
-granted_open_answer c older (Shown (says.Refuse at call number inst md file why)) e d request i m f stamp ss plain may p = absurd p
-granted_open_answer c older _ e d request i m f stamp ss plain may p = absurd p
+    opened : (k : Mode) (o : Option Stamp) → (k ≡ mode.Mend → ⊥) → granted_answer k inst file o (kept_in c (entries older) at file) ≡ granted_answer k inst file o kept
+    opened mode.Mend o other = absurd (other refl)
+    opened mode.Read None other = refl
+    opened mode.Read (Some s) other = refl
+    opened mode.Write o other = refl
+    opened mode.Resolve o other = refl
+    opened mode.Make o other = refl
+
+    said : granted_answer md inst file on kept ≡ granted_answer m i f stamp kept
+    said = ap (λ (k : Mode). granted_answer k inst file on kept) p.mode_is ∙ (ap (λ (j : Serial). granted_answer m j file on kept) p.serial_is ∙ (ap (λ (g : FileId). granted_answer m i g on kept) p.file_is ∙ ap (λ (o : Option Stamp). granted_answer m i f o kept) p.stamp_is))
+granted_open_answer c older (Shown (says.Refuse at call number inst md file why)) e d request i m f stamp ss kept plain may p = absurd p
+granted_open_answer c older _ e d request i m f stamp ss kept plain may p = absurd p
 
 refused_open_answer : (c : Config) (older : List Line) (x : Told) (e : EpochId) (d : CallId) (request : ℕ) (i : Serial) (m : Mode) (why : Refusal) → MayTell c older x → Printed (RefusalRecord e d request i m why) older x → AnswersOpen c d request (answer.Refused why) older x
 refused_open_answer c older (Shown (says.Refuse at call number inst md file reason)) e d request i m why may p = record {
@@ -154,9 +158,9 @@ was_answered c P d request a f [] h was = absurd was
 was_answered c P d request a f (x ∷ older) h (inl now) = inl (f older x.told h.0 now)
 was_answered c P d request a f (x ∷ older) h (inr was) = inr (was_answered c P d request a f older h.1 was)
 
--- an open that was granted, but for a mend's, waits with the instance
-pub granted_waits : (c : Config) (t : List Line) → IsFollowed c t → (e : EpochId) (d : CallId) (request : ℕ) (i : Serial) (m : Mode) (f : FileId) (stamp : Option Stamp) (ss : ℕ) → (m ≡ mode.Mend → ⊥) → WasGranted t e d request i m f stamp ss → request_number t d ≡ request → Waits c t d (answer.Opened i f.ino)
-granted_waits c t h e d request i m f stamp ss plain was same = (stands c t h d request (answer.Opened i f.ino) (was_answered c (Printed (GrantRecord e d request i m f stamp ss)) d request (answer.Opened i f.ino) (λ older x may p. granted_open_answer c older x e d request i m f stamp ss plain may p) t h was) same).waits
+-- an open that was granted, but for a mend's, waits with what its grant tells
+pub granted_waits : (c : Config) (t : List Line) → IsFollowed c t → (e : EpochId) (d : CallId) (request : ℕ) (i : Serial) (m : Mode) (f : FileId) (stamp : Option Stamp) (ss : ℕ) (kept : List Stamp) → (m ≡ mode.Mend → ⊥) → WasGranted t e d request i m f stamp ss → request_number t d ≡ request → Waits c t d (granted_answer m i f stamp kept)
+granted_waits c t h e d request i m f stamp ss kept plain was same = (stands c t h d request (granted_answer m i f stamp kept) (was_answered c (Printed (GrantRecord e d request i m f stamp ss)) d request (granted_answer m i f stamp kept) (λ older x may p. granted_open_answer c older x e d request i m f stamp ss kept plain may p) t h was) same).waits
 
 -- an open that was refused waits with the refusal
 pub refused_waits : (c : Config) (t : List Line) → IsFollowed c t → (e : EpochId) (d : CallId) (request : ℕ) (i : Serial) (m : Mode) (why : Refusal) → WasRefused t e d request i m why → request_number t d ≡ request → Waits c t d (answer.Refused why)

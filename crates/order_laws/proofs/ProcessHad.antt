@@ -77,11 +77,13 @@ kept_closed _ ns n h = inl h
 
 pub had_kept : (w : Want) (a : Answer) (ns : List ℕ) (n : ℕ) → has_number ns n ≡ true → (has_number (had_by w a ns) n ≡ true) ⊎ ClosesNumber w n
 had_kept w (answer.Opened inst ino) ns n h = inl (more_number n ns inst.serial h)
+had_kept w (answer.Reading inst version) ns n h = inl (more_number n ns inst.serial h)
 had_kept w (answer.Merging inst kept) ns n h = inl (more_number n ns inst.serial h)
 had_kept w _ ns n h = kept_closed w ns n h
 
 pub had_opened : (w : Want) (a : Answer) (ns : List ℕ) (i : Serial) → OpensIt a i → has_number (had_by w a ns) i.serial ≡ true
 had_opened w (answer.Opened inst ino) ns i o = subst (λ (j : Serial). has_number (inst.serial ∷ ns) j.serial ≡ true) o (own_number inst.serial ns)
+had_opened w (answer.Reading inst version) ns i o = subst (λ (j : Serial). has_number (inst.serial ∷ ns) j.serial ≡ true) o (own_number inst.serial ns)
 had_opened w (answer.Merging inst kept) ns i o = subst (λ (j : Serial). has_number (inst.serial ∷ ns) j.serial ≡ true) o (own_number inst.serial ns)
 had_opened w _ ns i o = absurd o
 

@@ -15,6 +15,7 @@ use Rattle.trace_book.specs.declared.record.Record.{Record}
 use Rattle.trace_book.specs.declared.record.Record.TheVariants as says
 use Rattle.trace_book.specs.declared.reply.Reply.{Reply}
 use Rattle.trace_book.specs.declared.reply.Reply.TheVariants as reply
+use Rattle.tree_laws.specs.of_role_steps.Own.{Every}
 use Rattle.tree_laws.specs.of_role_steps.Views.{Told, Shown}
 use Rattle.tree_laws.specs.of_the_run.Worlds.{Line}
 use Rattle.tree_model.specs.declared.accepted.Waiting.{Waiting}
@@ -22,18 +23,19 @@ use Rattle.tree_model.specs.Calls.{granted_to, opening_of, waiting}
 use Rattle.tree_model.specs.Epochs.{epoch_of}
 use Rattle.tree_model.specs.Folds.{Trace}
 use Rattle.tree_laws.specs.of_lawful_trace.CallRows.{is_this}
-use Rattle.tree_laws.specs.of_lawful_trace.Tables.{begins_now, closed_by, opened_by, descriptor, is_close, uses_by, close_of, has_named}
+use Rattle.tree_laws.specs.of_lawful_trace.Tables.{begins_now, closed_by, opened_by, descriptor, is_close, is_opening, uses_by, uses_of, close_of, has_named}
 use Rattle.tree_laws.specs.Printed.{entries, onto_entries}
 use Rattle.tree_laws.specs.Following.{MayTell, IsFollowed}
 use Rattle.tree_laws.proofs.Answered.{all_done}
 use Rattle.tree_laws.proofs.Boots.{found_every}
-use Rattle.tree_laws.proofs.Descriptors.{GrantedFor, FromDescriptor, IsUser, all_opening, closed_left, opened_left, stand_for, uses_from, uses_is, are_users}
+use Rattle.tree_laws.proofs.Descriptors.{GrantedFor, FromDescriptor, IsUser, closed_left, opening_is, stand_for, uses_from, uses_is, are_users}
+use Rattle.tree_laws.proofs.Naming.{IsNamedBy, all_opening, named_granted, one_number, opened_left}
 use Rattle.tree_laws.proofs.Names.{same_call_eq}
 
 abbrev With : ℕ → Record → Trace → Trace
 With n r before = record { line = n; what = r } ∷ before
 
--- ---- a call that is answered now was answered by no descriptor before ----
+-- ---- a call that is answered now has named nothing before ----
 
 third : (p q b : Bool) → (p && q && b) ≡ true → b ≡ true
 third p q true t = refl
@@ -47,25 +49,38 @@ waiting_unnamed c older s process d r h may t = found.0 (same_call_eq may.row.ca
     found : (may.row.caller.call ≡ d → ⊥) × (is_this s process d may.row.caller ≡ true)
     found = found_every (λ (w : Waiting). w.call ≡ d → ⊥) (is_this s process d) (waiting (entries older)) may.row.caller may.row.waits (all_done c older h d t).over.quiet
 
+-- what a read has opened again was used by nobody before it
+pub first_use : (c : Config) (older : List Line) (s process : ℕ) (d : CallId) (bytes : List ℕ) (e : EpochId) (i : Serial) → IsFollowed c older → MayTell c older (Shown (says.Answer s process d (reply.Data bytes))) → is_opening (opening_of (entries older) d) e i ≡ true → uses_of (entries older) e i ≡ []
+first_use c older s process d bytes e i h may t = over (uses_of (entries older) e i) refl (are_users c older h e i).uses
+  where
+    o : (x : Descriptor) × (opening_of (entries older) d ≡ Some x) × (x.epoch ≡ e) × (x.inst ≡ i)
+    o = opening_is (opening_of (entries older) d) e i t
+
+    granted : granted_to (entries older) e i ≡ Some d
+    granted = subst (λ (j : Serial). granted_to (entries older) e j ≡ Some d) o.3 (subst (λ (y : EpochId). granted_to (entries older) y o.0.inst ≡ Some d) o.2 (all_opening c older h d o.0 o.1))
+
+    over : (xs : List CallId) → uses_of (entries older) e i ≡ xs → Every (IsUser (entries older) e i) xs → uses_of (entries older) e i ≡ []
+    over [] is k = is
+    over (y ∷ ys) is k = absurd (waiting_unnamed c older s process d (reply.Data bytes) h may (subst (λ (z : CallId). has_named (entries older) z ≡ true) (some_same k.0.for.granted d (sym k.0.for.is_granted ∙ granted)) k.0.for.answered))
+
 -- ---- a descriptor after a record ----
 
--- the record opens it: it answers the call that the instance was granted to
-pub record OpensNow (before : Trace) (s process fd : ℕ) (x : Descriptor) (site user : ℕ) (d : CallId) (r : Reply) : Type 0 where
+-- the record makes it stand for this: it answers the call that the instance was granted to
+pub record NamesNow (before : Trace) (s process fd : ℕ) (x : Descriptor) (site user : ℕ) (d : CallId) (r : Reply) : Type 0 where
   pub site_is : site ≡ s
   pub process_is : user ≡ process
-  pub opens : r ≡ reply.Opened fd
-  pub opening : opening_of before d ≡ Some x
+  pub named : IsNamedBy before d r fd x
 
-pub answer_split : (before : Trace) (n site user : ℕ) (d : CallId) (r : Reply) (s process fd : ℕ) (x : Descriptor) → descriptor (With n (says.Answer site user d r) before) s process fd ≡ Some x → (descriptor before s process fd ≡ Some x) ⊎ OpensNow before s process fd x site user d r
+pub answer_split : (before : Trace) (n site user : ℕ) (d : CallId) (r : Reply) (s process fd : ℕ) (x : Descriptor) → descriptor (With n (says.Answer site user d r) before) s process fd ≡ Some x → (descriptor before s process fd ≡ Some x) ⊎ NamesNow before s process fd x site user d r
 answer_split before n site user d r s process fd x e = over (site == s) (user == process) refl refl e
   where
-    over : (a b : Bool) → (site == s) ≡ a → (user == process) ≡ b → cond (a && b) (opened_by r fd (opening_of before d) (descriptor before s process fd)) (descriptor before s process fd) ≡ Some x → (descriptor before s process fd ≡ Some x) ⊎ OpensNow before s process fd x site user d r
-    over true true p q k = opened_left r fd (opening_of before d) (descriptor before s process fd) x ((descriptor before s process fd ≡ Some x) ⊎ OpensNow before s process fd x site user d r)
-        (λ opens o. inr (record { site_is = equal site s p; process_is = equal user process q; opens = opens; opening = o })) (λ o. inl o) k
+    over : (a b : Bool) → (site == s) ≡ a → (user == process) ≡ b → cond (a && b) (opened_by r before d fd (descriptor before s process fd)) (descriptor before s process fd) ≡ Some x → (descriptor before s process fd ≡ Some x) ⊎ NamesNow before s process fd x site user d r
+    over true true p q k = opened_left r before d fd (descriptor before s process fd) x ((descriptor before s process fd ≡ Some x) ⊎ NamesNow before s process fd x site user d r)
+        (λ o. inr (record { site_is = equal site s p; process_is = equal user process q; named = o })) (λ o. inl o) k
     over true false p q k = inl k
     over false b p q k = inl k
 
--- any other record opens none
+-- any other record names none
 abbrev pub IsReply : Record → Type 0
 IsReply (says.Answer site user d r) = Unit {0}
 IsReply _ = ⊥
@@ -94,27 +109,24 @@ pub record AreOne (s process fd t user other : ℕ) : Type 0 where
 abbrev AllOne : Trace → Type 0
 AllOne before = (s process fd : ℕ) (x : Descriptor) (t user other : ℕ) (y : Descriptor) → descriptor before s process fd ≡ Some x → descriptor before t user other ≡ Some y → x.epoch ≡ y.epoch → x.inst ≡ y.inst → AreOne s process fd t user other
 
-opened_number : (a b : ℕ) → reply.Opened a ≡ reply.Opened b → a ≡ b
-opened_number a b e = cc
-
 one_answer : (c : Config) (older : List Line) (n site caller : ℕ) (d : CallId) (r : Reply) → IsFollowed c older → MayTell c older (Shown (says.Answer site caller d r)) → AllOne (entries older) → AllOne (With n (says.Answer site caller d r) (entries older))
 one_answer c older n site caller d r h may k s process fd x t user other y a b same is = over (answer_split (entries older) n site caller d r s process fd x a) (answer_split (entries older) n site caller d r t user other y b)
   where
-    -- the new one is of a call that no descriptor has answered
-    mixed : (u v : Descriptor) (p q m : ℕ) → opening_of (entries older) d ≡ Some u → descriptor (entries older) p q m ≡ Some v → u.epoch ≡ v.epoch → u.inst ≡ v.inst → ⊥
-    mixed u v p q m new old there inst = waiting_unnamed c older site caller d r h may (subst (λ (z : CallId). has_named (entries older) z ≡ true) (some_same g.granted d (sym g.is_granted ∙ granted)) g.answered)
+    -- the new one is of a call that has named nothing
+    mixed : (number : ℕ) (u v : Descriptor) (p q m : ℕ) → IsNamedBy (entries older) d r number u → descriptor (entries older) p q m ≡ Some v → u.epoch ≡ v.epoch → u.inst ≡ v.inst → ⊥
+    mixed number u v p q m new old there inst = waiting_unnamed c older site caller d r h may (subst (λ (z : CallId). has_named (entries older) z ≡ true) (some_same g.granted d (sym g.is_granted ∙ granted)) g.answered)
       where
         g : GrantedFor (entries older) v.epoch v.inst p q
         g = stand_for c older h p q m v old
 
         granted : granted_to (entries older) v.epoch v.inst ≡ Some d
-        granted = subst (λ (e : EpochId). granted_to (entries older) e v.inst ≡ Some d) there (subst (λ (i : Serial). granted_to (entries older) u.epoch i ≡ Some d) inst (all_opening c older h d u new))
+        granted = subst (λ (e : EpochId). granted_to (entries older) e v.inst ≡ Some d) there (subst (λ (i : Serial). granted_to (entries older) u.epoch i ≡ Some d) inst (named_granted c older h d r number u new))
 
-    over : (descriptor (entries older) s process fd ≡ Some x) ⊎ OpensNow (entries older) s process fd x site caller d r → (descriptor (entries older) t user other ≡ Some y) ⊎ OpensNow (entries older) t user other y site caller d r → AreOne s process fd t user other
+    over : (descriptor (entries older) s process fd ≡ Some x) ⊎ NamesNow (entries older) s process fd x site caller d r → (descriptor (entries older) t user other ≡ Some y) ⊎ NamesNow (entries older) t user other y site caller d r → AreOne s process fd t user other
     over (inl p) (inl q) = k s process fd x t user other y p q same is
-    over (inr p) (inr q) = record { site_is = sym p.site_is ∙ q.site_is; process_is = sym p.process_is ∙ q.process_is; number_is = opened_number fd other (sym p.opens ∙ q.opens) }
-    over (inr p) (inl q) = absurd (mixed x y t user other p.opening q same is)
-    over (inl p) (inr q) = absurd (mixed y x s process fd q.opening p (sym same) (sym is))
+    over (inr p) (inr q) = record { site_is = sym p.site_is ∙ q.site_is; process_is = sym p.process_is ∙ q.process_is; number_is = one_number (entries older) d r fd other p.named.number q.named.number }
+    over (inr p) (inl q) = absurd (mixed fd x y t user other p.named q same is)
+    over (inl p) (inr q) = absurd (mixed other y x s process fd q.named p (sym same) (sym is))
 
 one_record : (c : Config) (older : List Line) (n : ℕ) (r : Record) → IsFollowed c older → MayTell c older (Shown r) → AllOne (entries older) → AllOne (With n r (entries older))
 one_record c older n (says.Answer site caller d r) h may k s process fd x t user other y a b same is = one_answer c older n site caller d r h may k s process fd x t user other y a b same is
@@ -134,11 +146,11 @@ abbrev AllUnclosed : Trace → Type 0
 AllUnclosed before = (s process fd : ℕ) (x : Descriptor) → descriptor before s process fd ≡ Some x → close_of before x.epoch x.inst ≡ None
 
 -- nobody has closed by a descriptor what no descriptor has named
-unclosed_new : (c : Config) (older : List Line) (site caller : ℕ) (d : CallId) (r : Reply) (x : Descriptor) → IsFollowed c older → MayTell c older (Shown (says.Answer site caller d r)) → opening_of (entries older) d ≡ Some x → close_of (entries older) x.epoch x.inst ≡ None
-unclosed_new c older site caller d r x h may o = over (close_of (entries older) x.epoch x.inst) refl
+unclosed_new : (c : Config) (older : List Line) (site caller : ℕ) (d : CallId) (r : Reply) (fd : ℕ) (x : Descriptor) → IsFollowed c older → MayTell c older (Shown (says.Answer site caller d r)) → IsNamedBy (entries older) d r fd x → close_of (entries older) x.epoch x.inst ≡ None
+unclosed_new c older site caller d r fd x h may o = over (close_of (entries older) x.epoch x.inst) refl
   where
     user : (k : CallId) → IsUser (entries older) x.epoch x.inst k → ⊥
-    user k u = waiting_unnamed c older site caller d r h may (subst (λ (z : CallId). has_named (entries older) z ≡ true) (some_same u.for.granted d (sym u.for.is_granted ∙ all_opening c older h d x o)) u.for.answered)
+    user k u = waiting_unnamed c older site caller d r h may (subst (λ (z : CallId). has_named (entries older) z ≡ true) (some_same u.for.granted d (sym u.for.is_granted ∙ named_granted c older h d r fd x o)) u.for.answered)
 
     over : (b : Option CallId) → close_of (entries older) x.epoch x.inst ≡ b → close_of (entries older) x.epoch x.inst ≡ None
     over None e = e
@@ -193,9 +205,9 @@ unclosed_record : (c : Config) (older : List Line) (n : ℕ) (r : Record) → Is
 unclosed_record c older n (says.Accept site caller new words) h may k s process fd x e = unclosed_accept c older n site caller new words h k s process fd x e
 unclosed_record c older n (says.Answer site caller d r) h may k s process fd x e = over (answer_split (entries older) n site caller d r s process fd x e)
   where
-    over : (descriptor (entries older) s process fd ≡ Some x) ⊎ OpensNow (entries older) s process fd x site caller d r → close_of (entries older) x.epoch x.inst ≡ None
+    over : (descriptor (entries older) s process fd ≡ Some x) ⊎ NamesNow (entries older) s process fd x site caller d r → close_of (entries older) x.epoch x.inst ≡ None
     over (inl was) = k s process fd x was
-    over (inr o) = unclosed_new c older site caller d r x h may o.opening
+    over (inr o) = unclosed_new c older site caller d r fd x h may o.named
 unclosed_record c older n r h may k s process fd x e = k s process fd x (left_record (entries older) n r s process fd x (λ k. k) e)
 
 unclosed_told : (c : Config) (older : List Line) (n : ℕ) (x : Told) → IsFollowed c older → MayTell c older x → AllUnclosed (entries older) → AllUnclosed (onto_entries n x (entries older))

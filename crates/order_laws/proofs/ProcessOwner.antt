@@ -12,16 +12,17 @@ use Rattle.trace_book.specs.declared.call.Call.TheVariants as call
 use Rattle.trace_book.specs.declared.descriptor.Beginning.TheVariants as begins
 use Rattle.trace_book.specs.declared.operation.Op.{Op}
 use Rattle.trace_book.specs.declared.record.Record.TheVariants as says
+use Rattle.trace_book.specs.declared.reply.Reply.TheVariants as reply
 use Rattle.call_rules.specs.declared.want.Want.TheVariants as want
 use Rattle.tree_laws.specs.of_role_steps.Own.{Every}
 use Rattle.tree_laws.specs.of_role_steps.Views.{Told, Shown}
 use Rattle.tree_laws.specs.of_the_run.Kept.{Among}
 use Rattle.tree_laws.specs.of_the_run.Worlds.{Line}
 use Rattle.tree_model.specs.declared.accepted.Waiting.{Waiting}
-use Rattle.tree_model.specs.Calls.{granted_to, call_named}
+use Rattle.tree_model.specs.Calls.{granted_to, call_named, opening_of}
 use Rattle.tree_model.specs.Epochs.{boot_of, calls_accepted}
 use Rattle.tree_laws.specs.of_lawful_trace.CallRows.{next_call}
-use Rattle.tree_laws.specs.of_lawful_trace.Tables.{begins_now, begun, is_close, uses_by, uses_of, use_number, close_of, unless_named, call_of_act, call_of_release}
+use Rattle.tree_laws.specs.of_lawful_trace.Tables.{begins_now, begun, is_close, is_opening, uses_by, uses_of, use_number, close_of, unless_named, call_of_act, call_of_release}
 use Rattle.tree_laws.specs.of_lawful_trace.TreeRows.{IsCallIn}
 use Rattle.tree_laws.specs.Printed.{entries, onto_entries}
 use Rattle.tree_laws.specs.Calls.{is_request, Asks}
@@ -37,6 +38,7 @@ use Rattle.tree_laws.proofs.Later.{earlier_is_over}
 use Rattle.tree_laws.proofs.OfOwn.{asks_of_own}
 use Rattle.tree_laws.proofs.OneBoot.{one_boot}
 use Rattle.order_laws.proofs.ProcessBegun.{comes_from, UsesIt, all_use, Fits, asked_fits}
+use Rattle.order_laws.proofs.ProcessOneDescriptor.{first_use}
 
 abbrev With : ℕ → Told → List Line → List Line
 With n x older = record { number = n; told = x } ∷ older
@@ -99,6 +101,11 @@ latest_told c n (Shown (says.Accept s process new words)) older e i h may k = ov
     over true true t = latest_accept c n s process new words older e i h may t (uses_of (entries older) e i) (are_users c older h e i).uses
     over true false t = k
     over false b t = k
+latest_told c n (Shown (says.Answer s process reader (reply.Data bytes))) older e i h may k = over (is_opening (opening_of (entries older) reader) e i) refl
+  where
+    over : (b : Bool) → is_opening (opening_of (entries older) reader) e i ≡ b → Latest (cond b (reader ∷ uses_of (entries older) e i) (uses_of (entries older) e i))
+    over true t = subst (λ (xs : List CallId). Latest (reader ∷ xs)) (sym (first_use c older s process reader bytes e i h may t)) tt
+    over false t = k
 latest_told c n (Shown r) older e i h may k = k
 latest_told c n _ older e i h may k = k
 

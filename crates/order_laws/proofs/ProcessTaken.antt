@@ -1,5 +1,5 @@
 -- What a call that waits has, its site has among what its calls have taken and not closed; and so what descriptors stand for.
-use Rattle.std.proofs.Common.{◌≡◌, ℕ, ◌==◌, Bool, true, false, not, cond, ◌&&◌, List, [], ◌∷◌, Option, Some, None, refl, sym, ◌∙◌, ap, subst, ◌⊎◌, inl, inr, filter}
+use Rattle.std.proofs.Common.{◌≡◌, ℕ, ◌==◌, Bool, true, false, not, cond, ◌&&◌, List, [], ◌∷◌, Some, None, refl, sym, ◌∙◌, ap, subst, ◌⊎◌, inl, inr, filter}
 use Rattle.tree_laws.proofs.of_plain_facts.Numbers.{equal, equal_self}
 use Rattle.tree_laws.proofs.of_plain_facts.Options.{none_some, some_same}
 use Rattle.tree_laws.proofs.of_plain_facts.Tests.{true_false}
@@ -14,7 +14,6 @@ use Rattle.trace_book.specs.declared.descriptor.Descriptor.{Descriptor}
 use Rattle.trace_book.specs.declared.record.Record.{Record}
 use Rattle.trace_book.specs.declared.record.Record.TheVariants as says
 use Rattle.trace_book.specs.declared.reply.Reply.{Reply}
-use Rattle.trace_book.specs.declared.reply.Reply.TheVariants as reply
 use Rattle.call_rules.specs.declared.answer.Answer.{Answer}
 use Rattle.call_rules.specs.declared.want.Want.{Want}
 use Rattle.call_rules.specs.declared.want.Want.TheVariants as want
@@ -29,15 +28,16 @@ use Rattle.tree_laws.specs.of_lawful_trace.CallRows.{is_this}
 use Rattle.tree_laws.specs.of_lawful_trace.Tables.{begins_now, begun, descriptor, is_close, has_named, uses_by}
 use Rattle.tree_laws.specs.of_lawful_trace.TreeRows.{IsCallIn}
 use Rattle.tree_laws.specs.Printed.{entries}
-use Rattle.tree_laws.specs.Following.{MayTell, IsFollowed, AnswersInTime}
+use Rattle.tree_laws.specs.Following.{MayTell, IsFollowed}
 use Rattle.tree_laws.specs.Holding.{has_instances, had_after, IsOf}
 use Rattle.tree_laws.specs.Users.{had, had_by}
 use Rattle.tree_laws.proofs.Answered.{all_done}
 use Rattle.tree_laws.proofs.Awaiting.{OpensIt, IsHeldBy, all_have, had_from, held_named, new_has, begun_uses, named_before}
 use Rattle.tree_laws.proofs.Boots.{waiting_boot, found_every}
-use Rattle.tree_laws.proofs.Descriptors.{FromDescriptor, GrantedFor, all_opening, stand_for, uses_from, uses_is}
+use Rattle.tree_laws.proofs.Descriptors.{FromDescriptor, GrantedFor, stand_for, uses_from, uses_is}
 use Rattle.tree_laws.proofs.Fresh.{IsNamed, next_is_new, numbered, calls_are_low}
 use Rattle.tree_laws.proofs.Having.{Untaken, named_or_untaken, has_stays}
+use Rattle.tree_laws.proofs.Naming.{named_granted, named_held}
 use Rattle.tree_laws.proofs.Names.{same_call_eq, same_call_own}
 use Rattle.tree_laws.proofs.OfOwn.{asks_of_own}
 use Rattle.tree_laws.proofs.OneBoot.{one_boot, joined_where_made, boot_where_inside}
@@ -46,7 +46,7 @@ use Rattle.tree_laws.proofs.Waiting.{accepted, found_among}
 use Rattle.order_laws.proofs.ProcessBegun.{comes_from, UsesIt, all_use, Fits, asked_fits}
 use Rattle.order_laws.proofs.ProcessGranting.{GrantIs, granted_is, held_us}
 use Rattle.order_laws.proofs.ProcessOnce.{one_epoch_of}
-use Rattle.order_laws.proofs.ProcessOneDescriptor.{OpensNow, answer_split, left_record, unclosed}
+use Rattle.order_laws.proofs.ProcessOneDescriptor.{NamesNow, answer_split, left_record, unclosed}
 use Rattle.order_laws.proofs.ProcessUnreleased.{close_opens_none, had_closed}
 use Rattle.tree_laws.specs.Serials.{asked_now, is_open_want}
 use Rattle.tree_laws.specs.Calls.{is_request, Asks}
@@ -315,8 +315,8 @@ stands_record c n r older h may k me process fd y stands at_epoch = ap (λ (ns :
         by : GrantIs older y.epoch y.inst g.granted
         by = granted_is c older h y.epoch y.inst g.granted g.is_granted
 
-    -- a descriptor that is opened now: its call waited, and has the instance
-    opens : (site user : ℕ) (d : CallId) (r : Reply) → MayTell c older (Shown (says.Answer site user d r)) → OpensNow (entries older) me process fd y site user d r → (epoch_of (entries older) me ≡ Some y.epoch) ⊎ Joins older me y.epoch → has_number (had c older me) y.inst.serial ≡ true
+    -- a descriptor that stands for it from now on: its call waited, and has the instance
+    opens : (site user : ℕ) (d : CallId) (r : Reply) → MayTell c older (Shown (says.Answer site user d r)) → NamesNow (entries older) me process fd y site user d r → (epoch_of (entries older) me ≡ Some y.epoch) ⊎ Joins older me y.epoch → has_number (had c older me) y.inst.serial ≡ true
     opens site user d r m o e = subst (λ (q : ℕ). has_number (had c older q) y.inst.serial ≡ true) at_site (over e)
       where
         found : (call_named (entries older) m.row.caller.call ≡ Some m.row.caller) × (is_this site user d m.row.caller ≡ true)
@@ -333,13 +333,10 @@ stands_record c n r older h may k me process fd y stands at_epoch = ap (λ (ns :
         at_site = ap (λ (z : CallId). z.site) (sym is_d) ∙ (sym ((accepted c older h).named m.row.caller.call m.row.caller found.0).site_is ∙ (equal m.row.caller.site site (first (m.row.caller.site == site) (m.row.caller.process == user) (same_call m.row.caller.call d) found.1) ∙ o.site_is))
 
         by : GrantIs older y.epoch y.inst d
-        by = granted_is c older h y.epoch y.inst d (all_opening c older h d y o.opening)
+        by = granted_is c older h y.epoch y.inst d (named_granted c older h d r fd y o.named)
 
         held : has_instances c older d y.inst ≡ true
-        held = replied (subst (AnswersInTime c older d) o.opens m.in_time)
-          where
-            replied : AnswersInTime c older d (reply.Opened fd) → has_instances c older d y.inst ≡ true
-            replied t = t.held y o.opening
+        held = named_held c older h d r fd y o.named m.in_time
 
         over : (epoch_of (entries older) me ≡ Some y.epoch) ⊎ Joins older me y.epoch → has_number (had c older d.site) y.inst.serial ≡ true
         over (inl z) = k.holds y.epoch d y.inst by.inside (ap (epoch_of (entries older)) at_site ∙ z) (record { caller = m.row.caller; among = found_among (is_this site user d) (waiting (entries older)) m.row.caller m.row.waits; call_is = is_d }) held
@@ -348,7 +345,7 @@ stands_record c n r older h may k me process fd y stands at_epoch = ap (λ (ns :
     split : (r : Record) → MayTell c older (Shown r) → descriptor (entries (With n (Shown r) older)) me process fd ≡ Some y → (epoch_of (entries older) me ≡ Some y.epoch) ⊎ Joins older me y.epoch → has_number (had c older me) y.inst.serial ≡ true
     split (says.Answer site user d r) m stands e = over (answer_split (entries older) n site user d r me process fd y stands)
       where
-        over : (descriptor (entries older) me process fd ≡ Some y) ⊎ OpensNow (entries older) me process fd y site user d r → has_number (had c older me) y.inst.serial ≡ true
+        over : (descriptor (entries older) me process fd ≡ Some y) ⊎ NamesNow (entries older) me process fd y site user d r → has_number (had c older me) y.inst.serial ≡ true
         over (inl z) = was z e
         over (inr o) = opens site user d r m o e
     split r m stands e = was (left_record (entries older) n r me process fd y (λ k. k) stands) e

@@ -1,5 +1,5 @@
 -- What a call asks something of isn't released: an instance that was released is had no more, but by its close that is answered.
-use Rattle.std.proofs.Common.{◌≡◌, ℕ, Bool, true, false, not, cond, ◌&&◌, List, [], ◌∷◌, ◌++◌, Option, Some, None, refl, sym, ◌∙◌, ap, subst, ◌⊎◌, inl, inr}
+use Rattle.std.proofs.Common.{◌≡◌, ℕ, Bool, true, false, not, cond, ◌&&◌, List, [], ◌∷◌, ◌++◌, Option, Some, refl, sym, ◌∙◌, ap, subst, ◌⊎◌, inl, inr}
 use Rattle.tree_laws.proofs.of_plain_facts.Options.{none_some, some_same}
 use Rattle.tree_laws.proofs.of_plain_facts.Tests.{true_false}
 use Rattle.locus_ids.specs.declared.config.Config.{Config}
@@ -15,7 +15,6 @@ use Rattle.trace_book.specs.declared.operation.What.{What}
 use Rattle.trace_book.specs.declared.record.Record.{Record}
 use Rattle.trace_book.specs.declared.record.Record.TheVariants as says
 use Rattle.trace_book.specs.declared.reply.Reply.{Reply}
-use Rattle.trace_book.specs.declared.reply.Reply.TheVariants as reply
 use Rattle.call_rules.specs.declared.answer.Answer.{Answer}
 use Rattle.call_rules.specs.declared.answer.Answer.TheVariants as answer
 use Rattle.call_rules.specs.declared.want.Want.{Want}
@@ -32,7 +31,7 @@ use Rattle.tree_laws.specs.of_lawful_trace.Tables.{begins_now, descriptor, has_n
 use Rattle.tree_laws.specs.of_lawful_trace.TreeRows.{IsCallIn}
 use Rattle.tree_laws.specs.Printed.{entries, onto_entries}
 use Rattle.tree_laws.specs.Calls.{log, heard, is_request, Asks, Waits}
-use Rattle.tree_laws.specs.Following.{MayTell, IsFollowed, AnswersInTime}
+use Rattle.tree_laws.specs.Following.{MayTell, IsFollowed}
 use Rattle.tree_laws.specs.Holding.{Instances, had_after, has_instances, IsOf}
 use Rattle.tree_laws.specs.Past.{Printed, WasNamed, EndRecord, WasReleased}
 use Rattle.tree_laws.specs.Serials.{asked_now, is_open_want}
@@ -42,16 +41,17 @@ use Rattle.tree_laws.proofs.Asking.{StepRecord, StepOf, Turns, Same, same_told, 
 use Rattle.tree_laws.proofs.Awaiting.{OpensIt, IsHeldBy, Awaits, all_have, by_own, by_owner, look_opens, outcome_opens, close_opens, grant_opens, last_same, turn_clear, had_from, new_has, begun_uses, named_before}
 use Rattle.tree_laws.proofs.CarriedLooks.{one_epoch}
 use Rattle.tree_laws.proofs.Counting.{asked_same}
-use Rattle.tree_laws.proofs.Descriptors.{GrantedFor, FromDescriptor, IsUser, all_opening, stand_for, uses_from, uses_is, are_users}
+use Rattle.tree_laws.proofs.Descriptors.{GrantedFor, FromDescriptor, IsUser, stand_for, uses_from, uses_is, are_users}
 use Rattle.tree_laws.proofs.Fresh.{IsNamed, next_is_new, numbered, calls_are_low}
 use Rattle.tree_laws.proofs.Having.{Untaken, named_or_untaken, has_stays}
+use Rattle.tree_laws.proofs.Naming.{named_granted, named_held}
 use Rattle.tree_laws.proofs.Names.{same_call_eq, same_call_own, same_epoch_eq, same_serial_eq, same_serial_own}
 use Rattle.tree_laws.proofs.OfOwn.{asks_of_own}
-use Rattle.tree_laws.proofs.Owners.{named_more}
+use Rattle.tree_laws.proofs.Owners.{named_more, naming_reply}
 use Rattle.tree_laws.proofs.Scripts.{named_stays}
 use Rattle.tree_laws.proofs.Stepping.{step_record}
 use Rattle.order_laws.proofs.ProcessGranting.{GrantIs, granted_is, released_named}
-use Rattle.order_laws.proofs.ProcessOneDescriptor.{OpensNow, answer_split, left_record, unclosed, waiting_unnamed}
+use Rattle.order_laws.proofs.ProcessOneDescriptor.{NamesNow, answer_split, left_record, unclosed, waiting_unnamed}
 
 abbrev With : ℕ → Told → List Line → List Line
 With n x older = record { number = n; told = x } ∷ older
@@ -79,6 +79,7 @@ close_looks i f w e = cc
 
 pub had_closed : (a : Answer) (own : Instances) (i : Serial) → ((j : Serial) → OpensIt a j → ⊥) → had_after (want.Close i) a own i ≡ false
 had_closed (answer.Opened inst ino) own i h = absurd (h inst refl)
+had_closed (answer.Reading inst version) own i h = absurd (h inst refl)
 had_closed (answer.Merging inst kept) own i h = absurd (h inst refl)
 had_closed _ own i h = ap (λ (b : Bool). not b && own i) (same_serial_own i)
 
@@ -157,7 +158,7 @@ module _ (c : Config) (n : ℕ) (x : Told) (older : List Line) (h : IsFollowed c
   step_opens (says.Grant at call request inst m f stamp ss) may e i d a inside step waits o was = may.in_time.new (subst (λ (j : Serial). WasNamed older at j) (sym is) (subst (λ (w : EpochId). WasNamed older w i) (sym there) (released_named c older h e i was)))
     where
       is : inst ≡ i
-      is = grant_opens m inst f (kept_in c (entries older) at f) i (subst (λ (y : Answer). OpensIt y i) (last_same (log older d) (heard c older d) a (granted_answer m inst f (kept_in c (entries older) at f)) (sym waits ∙ by_own call d (heard c older d ++ granted_answer m inst f (kept_in c (entries older) at f) ∷ []) (heard c older d) step)) o)
+      is = grant_opens m inst f stamp (kept_in c (entries older) at f) i (subst (λ (y : Answer). OpensIt y i) (last_same (log older d) (heard c older d) a (granted_answer m inst f stamp (kept_in c (entries older) at f)) (sym waits ∙ by_own call d (heard c older d ++ granted_answer m inst f stamp (kept_in c (entries older) at f) ∷ []) (heard c older d) step)) o)
 
       there : at ≡ e
       there = one_epoch older at e d (subst (IsCallIn (entries older) at) step may.row.opens.step) inside
@@ -228,19 +229,16 @@ module _ (c : Config) (n : ℕ) (x : Told) (older : List Line) (h : IsFollowed c
   stands_before : Ends c older → (s process fd : ℕ) (y : Descriptor) → descriptor (onto_entries n x (entries older)) s process fd ≡ Some y → WasReleased older y.epoch y.inst → ⊥
   stands_before k s process fd y e was = over x may e
     where
-      answers : (site user : ℕ) (d : CallId) (r : Reply) → MayTell c older (Shown (says.Answer site user d r)) → (descriptor (entries older) s process fd ≡ Some y) ⊎ OpensNow (entries older) s process fd y site user d r → ⊥
+      answers : (site user : ℕ) (d : CallId) (r : Reply) → MayTell c older (Shown (says.Answer site user d r)) → (descriptor (entries older) s process fd ≡ Some y) ⊎ NamesNow (entries older) s process fd y site user d r → ⊥
       answers site user d r m (inl old) = k.stands s process fd y old was
-      answers site user d r m (inr o) = opened (reply_is (subst (AnswersInTime c older d) o.opens m.in_time))
+      answers site user d r m (inr o) = true_false (sym (ap is_request closing.0) ∙ (naming_reply c older d r m.in_time o.named.names).replies.nothing_asked)
         where
           unnamed : (b : Bool) → has_named (entries older) d ≡ b → has_named (entries older) d ≡ false
           unnamed true t = absurd (waiting_unnamed c older site user d r h m t)
           unnamed false t = t
 
-          reply_is : AnswersInTime c older d (reply.Opened fd) → (is_request (asked_now c older d) ≡ false) × (has_instances c older d y.inst ≡ true)
-          reply_is t = (t.replies.nothing_asked, t.held y o.opening)
-
-          opened : (is_request (asked_now c older d) ≡ false) × (has_instances c older d y.inst ≡ true) → ⊥
-          opened t = (let c : Closing c older d y.inst = k.owner y.epoch y.inst d (all_opening c older h d y o.opening) (unnamed (has_named (entries older) d) refl) t.1 was in true_false (sym (ap is_request c.0) ∙ t.0))
+          closing : Closing c older d y.inst
+          closing = k.owner y.epoch y.inst d (named_granted c older h d r fd y o.named) (unnamed (has_named (entries older) d) refl) (named_held c older h d r fd y o.named m.in_time) was
 
       over : (z : Told) → MayTell c older z → descriptor (onto_entries n z (entries older)) s process fd ≡ Some y → ⊥
       over (Shown (says.Answer site user d r)) m e = answers site user d r m (answer_split (entries older) n site user d r s process fd y e)

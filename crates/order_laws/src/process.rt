@@ -20,6 +20,7 @@ ghost use Rattle.tree_model.specs.declared.instance.Instance.{Instance};
 ghost use Rattle.tree_model.specs.Calls.{granted_to};
 ghost use Rattle.tree_model.specs.Epochs.{boot_of, epoch_of};
 ghost use Rattle.tree_model.specs.State.{has_number};
+ghost use Rattle.tree_laws.specs.of_lawful_trace.Progress.{granted_answer};
 ghost use Rattle.tree_laws.specs.of_lawful_trace.Tables.{call_of_act, call_of_release, descriptor, uses_of};
 ghost use Rattle.tree_laws.specs.of_lawful_trace.TreeRows.{IsCallIn};
 ghost use Rattle.call_rules.specs.declared.answer.Answer.{Answer};
@@ -72,10 +73,10 @@ pub fn operations_are_counted()
 {}
 
 /// Where each told line comes as it may, an open that was granted or refused at the request that is its call's current one has
-/// its answer waiting: the instance, but for a mend's, or the refusal.
+/// its answer waiting: what the grant tells, but for a mend's, which tells what was kept then too, or the refusal.
 pub fn answered_opens_wait()
-    ensures granted { (c : Config) (trace : List Line) (e : EpochId) (d : CallId) (request : ℕ) (i : Serial) (m : Mode) (f : FileId) (stamp : Option Stamp) (ss : ℕ) → IsFollowed c trace → (m ≡ mode.Mend → ⊥) →
-        WasGranted trace e d request i m f stamp ss → request_number trace d ≡ request → Waits c trace d (answer.Opened i f.ino) }
+    ensures granted { (c : Config) (trace : List Line) (e : EpochId) (d : CallId) (request : ℕ) (i : Serial) (m : Mode) (f : FileId) (stamp : Option Stamp) (ss : ℕ) (kept : List Stamp) → IsFollowed c trace → (m ≡ mode.Mend → ⊥) →
+        WasGranted trace e d request i m f stamp ss → request_number trace d ≡ request → Waits c trace d (granted_answer m i f stamp kept) }
     ensures refused { (c : Config) (trace : List Line) (e : EpochId) (d : CallId) (request : ℕ) (i : Serial) (m : Mode) (why : Refusal) → IsFollowed c trace →
         WasRefused trace e d request i m why → request_number trace d ≡ request → Waits c trace d (answer.Refused why) }
 {}

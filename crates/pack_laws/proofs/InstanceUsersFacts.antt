@@ -7,6 +7,8 @@ use Rattle.locus_ids.specs.declared.refusal.Refusal.{Refusal}
 use Rattle.locus_ids.specs.Sizes.{sites_max}
 use Rattle.trace_book.specs.declared.call.Call.{Call}
 use Rattle.trace_book.specs.declared.call.Call.TheVariants as call
+use Rattle.trace_book.specs.declared.descriptor.Beginning.{Beginning}
+use Rattle.trace_book.specs.declared.descriptor.Beginning.TheVariants as begins
 use Rattle.trace_book.specs.declared.operation.Op.{Op}
 use Rattle.trace_book.specs.declared.operation.Outcome.{Outcome as Result}
 use Rattle.trace_book.specs.declared.reply.Reply.{Reply}
@@ -28,7 +30,7 @@ use Rattle.role_steps.specs.Own.{Every}
 use Rattle.role_steps.specs.Tables.{first_that}
 use Rattle.role_steps.specs.Views.{Frame, Users, Told, Outcome, quiet, packet, to_some, to_sync, sync_site}
 use Rattle.role_steps.specs.Requests.{descriptors_of, waiting_key, with_waiting, without_waiting, request_packets, asks, next_request, opening_of, made_for, asks_open, asks_op_of, asks_close_of, seen_by, user_instance, with_user_instance, without_user_instance, users_repeats}
-use Rattle.role_steps.specs.Using.{accepted, frees, is_hopeless, without_hope, after_reply, replies, accept_record, takes_record, with_brought, content_answer, asks_want, next_want, goes_on, on_call, takes_answer, with_answer, opened_answer, kept_for, mended_file, takes_open, on_open_done_of, on_open_done, on_op_done_of, on_op_done, on_close_done_of, on_close_done, looks_again, takes_look, on_look_done_of, on_look_done, asks_open_of, asks_op_number, asks_take, reply_record, users_leave, own_call}
+use Rattle.role_steps.specs.Using.{accepted, frees, is_hopeless, without_hope, after_reply, holds_again, replies, accept_record, takes_record, with_brought, content_answer, asks_want, next_want, goes_on, on_call, takes_answer, with_answer, opened_answer, kept_for, mended_file, takes_open, on_open_done_of, on_open_done, on_op_done_of, on_op_done, on_close_done_of, on_close_done, looks_again, takes_look, on_look_done_of, on_look_done, asks_open_of, asks_op_number, asks_take, reply_record, users_leave, own_call}
 use Rattle.role_steps.specs.Using as using
 use Rattle.role_steps.specs.declared.users.Asking.{Asking}
 use Rattle.role_steps.specs.declared.users.Asking.TheVariants as asking
@@ -148,9 +150,14 @@ hope_alike : (c : Call) (why : Refusal) (u : Users) → Alike u (without_hope c 
 hope_alike (call.Mend file) why u = cond_alike (is_hopeless why) u (record u { hopeless = u.hopeless ++ file ∷ [] }) (record { waiting = refl; serials = refl })
 hope_alike _ why u = record { waiting = refl; serials = refl }
 
+again_alike : (f : Frame) (w : WaitingCall) (b : Beginning) (words : Call) (u : Users) → Alike u (holds_again f w b words u)
+again_alike f w (begins.Reopens version last) (call.Read fd at len) u = record { waiting = refl; serials = refl }
+again_alike f w _ words u = record { waiting = refl; serials = refl }
+
 reply_alike : (f : Frame) (w : WaitingCall) (r : Reply) (u : Users) → Alike u (after_reply f w r u)
 reply_alike f w (reply.Opened fd) u = record { waiting = refl; serials = refl }
 reply_alike f w (reply.No why) u = hope_alike w.words why u
+reply_alike f w (reply.Data bytes) u = again_alike f w w.begins w.words u
 reply_alike f w _ u = record { waiting = refl; serials = refl }
 
 replies_fine : (f : Frame) (book : Book) (w : WaitingCall) (r : Reply) (u : Users) → Sound f.config book → UsersFact book f.me f.boot u → UsersFine f book (replies f w r u)
@@ -194,7 +201,7 @@ takes_answer_fine f book w a u small s h = one_more f book (takes_record f w a) 
 
 takes_open_fine : (f : Frame) (book : Book) (kept : FileId → List Stamp) (serial : ℕ) (w : WaitingCall) (a : Granted) (u : Users) → f.me ≤ sites_max → Sound f.config book → UsersFact book f.me f.boot u → UsersFine f book (takes_open f kept serial w a u)
 takes_open_fine f book kept serial w (granted.Open ss ino size stamp vector) u small s h =
-    takes_answer_fine f book w (opened_answer f serial ino (kept_for kept (mended_file w.words)) w.words) (with_user_instance (record { serial = serial; ss = ss; vector = vector; ops = 0 }) u) small s (record { waiting = h.waiting; counted = h.counted })
+    takes_answer_fine f book w (opened_answer f serial ino stamp (kept_for kept (mended_file w.words)) w.words w.asking) (with_user_instance (record { serial = serial; ss = ss; vector = vector; ops = 0 }) u) small s (record { waiting = h.waiting; counted = h.counted })
 takes_open_fine f book kept serial w (granted.No why) u small s h = takes_answer_fine f book w _ u small s h
 
 open_done_fine : (f : Frame) (book : Book) (kept : FileId → List Stamp) (serial : ℕ) (a : Granted) (o : Option WaitingCall) (u : Users) → f.me ≤ sites_max → Sound f.config book → UsersFact book f.me f.boot u → UsersFine f book (on_open_done_of f kept serial a o u)

@@ -35,22 +35,28 @@ use Rattle.call_rules.specs.Descriptors.{lowest_free}
 use Rattle.role_steps.specs.declared.users.WaitingCall.{WaitingCall}
 use Rattle.lock_laws.specs.Writing.{changes, ToWrite, OpensToWrite, Opens, IsOpenedToWrite, IsWriteOn}
 use Rattle.lock_laws.proofs.Writing.{scripts_sound}
-use Rattle.pack_laws.specs.WriterAsking.{Serials, AnswersFact, script_of, CallFact}
+use Rattle.pack_laws.specs.WriterAsking.{Serials, AnswersFact, Brings, script_of, CallFact}
 
 -- ---- answers ----
 
-pub answer_found : (G : Serials) (script : List Answer → Want) (before : List Answer) (a : Answer) (after : List Answer) (i : Serial) → AnswersFact G script (before ++ a ∷ after) → OpensToWrite (script before) → Opens i a → G i.serial
+pub answer_found : (G : Serials) (script : List Answer → Want) (before : List Answer) (a : Answer) (after : List Answer) (i : Serial) → AnswersFact G script (before ++ a ∷ after) → OpensToWrite (script before) → Brings i a → G i.serial
 answer_found G script [] a after i h asked opened = h.0 i asked opened
 answer_found G script (x ∷ xs) a after i h asked opened = answer_found G (λ (ys : List Answer). script (x ∷ ys)) xs a after i h.1 asked opened
 
-pub answer_added : (G : Serials) (script : List Answer → Want) (answers : List Answer) (a : Answer) → AnswersFact G script answers → ((i : Serial) → OpensToWrite (script answers) → Opens i a → G i.serial) → AnswersFact G script (answers ++ a ∷ [])
+pub answer_added : (G : Serials) (script : List Answer → Want) (answers : List Answer) (a : Answer) → AnswersFact G script answers → ((i : Serial) → OpensToWrite (script answers) → Brings i a → G i.serial) → AnswersFact G script (answers ++ a ∷ [])
 answer_added G script [] a h k = (k, tt)
 answer_added G script (x ∷ xs) a h k = (h.0, answer_added G (λ (ys : List Answer). script (x ∷ ys)) xs a h.1 k)
 
-last_is : (d i : Serial) (ino : ℕ) (used : List Answer) → last_opened d (used ++ answer.Opened i ino ∷ []) ≡ i
-last_is d i ino [] = refl
-last_is d i ino (answer.Opened found n ∷ rest) = last_is found i ino rest
-last_is d i ino (_ ∷ rest) = last_is d i ino rest
+last_is : (d i : Serial) (a : Answer) (used : List Answer) → ((old : Serial) → last_opened old (a ∷ []) ≡ i) → last_opened d (used ++ a ∷ []) ≡ i
+last_is d i a [] k = k d
+last_is d i a (answer.Opened found n ∷ rest) k = last_is found i a rest k
+last_is d i a (answer.Reading found version ∷ rest) k = last_is found i a rest k
+last_is d i a (_ ∷ rest) k = last_is d i a rest k
+
+opens_brings : (i : Serial) (a : Answer) → Opens i a → Brings i a
+opens_brings i (answer.Opened inst ino) h = h
+opens_brings i (answer.Merging inst kept) h = h
+opens_brings i _ h = absurd h
 
 -- ---- walks ----
 
@@ -112,6 +118,7 @@ opens_alike : (m : OpenMode) (f g : Option ℕ) (at : FileId) (k : Kind) (rest :
 opens_alike m f g at kind.Dir rest h = h
 opens_alike m f g at kind.File [] h = h
 opens_alike m (Some fd) g at kind.File (answer.Opened i ino ∷ []) h = absurd h
+opens_alike m (Some fd) g at kind.File (answer.Reading i version ∷ []) h = absurd h
 opens_alike m f g at kind.File (answer.Refused why ∷ []) h = absurd h
 opens_alike m f g at kind.File (_ ∷ rest) h = absurd h
 
@@ -142,6 +149,8 @@ begun_alike : (mounts : List Mount) (f g : Option ℕ) (words : Call) (b : Begin
 begun_alike mounts f g words (begins.Denied why) answers h = h
 begun_alike mounts f g words (begins.Uses epoch i) answers h = h
 begun_alike mounts f g words (begins.Walks id) answers h = path_alike mounts f g id words answers h
+begun_alike mounts f g words (begins.Reopens kept last) answers h = h
+begun_alike mounts f g words begins.Frees answers h = h
 
 bad_ends : (mounts : List Mount) (f : Option ℕ) (words : Call) (b : Beginning) (answers : List Answer) → is_badly_named mounts words ≡ true → named_wants mounts f words b answers ≡ want.Give (reply.No refusal.BadName)
 bad_ends mounts f words b answers n = rw n refl
@@ -164,20 +173,24 @@ OpenedFd _ = ⊥
 
 to_write : (m : OpenMode) → is_read (mode_of m) ≡ false → ToWrite m
 to_write how.Read e = absurd (cc)
+to_write how.Steady e = absurd (cc)
 to_write how.Write e = tt
 to_write (how.Resolve site) e = tt
 
 -- the last answer opened it
 record TakesOpened (m : OpenMode) (f : Option ℕ) (at : FileId) (k : Kind) (rest : List Answer) : Type 0 where
   inst : Serial
-  ino : ℕ
-  rest_is : rest ≡ answer.Opened inst ino ∷ []
+  opening : Answer
+  rest_is : rest ≡ opening ∷ []
+  brings : Brings inst opening
+  last : (old : Serial) → last_opened old (opening ∷ []) ≡ inst
   asked : opens_file m f at k [] ≡ want.Open at m
 
 opens_takes : (m : OpenMode) (f : Option ℕ) (at : FileId) (k : Kind) (rest : List Answer) → OpenedFd (opens_file m f at k rest) → TakesOpened m f at k rest
 opens_takes m f at kind.Dir rest h = absurd h
 opens_takes m f at kind.File [] h = absurd h
-opens_takes m (Some fd) at kind.File (answer.Opened i ino ∷ []) h = record { inst = i; ino = ino; rest_is = refl; asked = refl }
+opens_takes m (Some fd) at kind.File (answer.Opened i ino ∷ []) h = record { inst = i; opening = answer.Opened i ino; rest_is = refl; brings = refl; last = λ old. refl; asked = refl }
+opens_takes m (Some fd) at kind.File (answer.Reading i version ∷ []) h = record { inst = i; opening = answer.Reading i version; rest_is = refl; brings = refl; last = λ old. refl; asked = refl }
 opens_takes m f at kind.File (answer.Refused why ∷ []) h = absurd h
 opens_takes m f at kind.File (_ ∷ rest) h = absurd h
 
@@ -194,10 +207,10 @@ walk_takes G mounts path m f answers a h to = by_walk (walk mounts path [] (root
     by_walk (There at k rest) w =
         let r : Reaches mounts path [] (root_of 0) kind.Dir answers at k rest = reach mounts path [] (root_of 0) kind.Dir answers at k rest w in
         let t : TakesOpened m f at k rest = opens_takes m f at k rest (subst OpenedFd (walked_there mounts path (opens_file m f) answers at k rest w) h) in
-        let all : answers ≡ r.used ++ answer.Opened t.inst t.ino ∷ [] = r.answers_are ∙ ap (λ (xs : List Answer). r.used ++ xs) t.rest_is in
+        let all : answers ≡ r.used ++ t.opening ∷ [] = r.answers_are ∙ ap (λ (xs : List Answer). r.used ++ xs) t.rest_is in
         let asked : script r.used ≡ want.Open at m = ap script (sym (plus_none r.used)) ∙ (walked_there mounts path (opens_file m f) (r.used ++ []) at k [] (r.again []) ∙ t.asked) in
-        let found : G t.inst.serial = answer_found G script r.used (answer.Opened t.inst t.ino) [] t.inst (subst (AnswersFact G script) all a) (subst OpensToWrite (sym asked) to) refl in
-        subst (λ (i : Serial). G i.serial) (sym (ap (last_opened no_serial) all ∙ last_is no_serial t.inst t.ino r.used)) found
+        let found : G t.inst.serial = answer_found G script r.used t.opening [] t.inst (subst (AnswersFact G script) all a) (subst OpensToWrite (sym asked) to) t.brings in
+        subst (λ (i : Serial). G i.serial) (sym (ap (last_opened no_serial) all ∙ last_is no_serial t.inst t.opening r.used t.last)) found
       where
         plus_none : (xs : List Answer) → xs ++ [] ≡ xs
         plus_none [] = refl
@@ -215,6 +228,8 @@ reply_takes G mounts f (call.Open path m) b answers a h r = by_names (is_badly_n
     begun : (b : Beginning) → AnswersFact G (begun_wants mounts f (call.Open path m) b) answers → OpenedFd (begun_wants mounts f (call.Open path m) b answers) → G (last_opened no_serial answers).serial
     begun (begins.Denied why) k t = absurd t
     begun (begins.Uses epoch i) k t = absurd t
+    begun (begins.Reopens kept last) k t = absurd t
+    begun begins.Frees k t = absurd t
     begun (begins.Walks id) k t = walk_takes G mounts (components path) m f answers k t (to_write m r)
 
     by_names : (n : Bool) → is_badly_named mounts (call.Open path m) ≡ n → G (last_opened no_serial answers).serial
@@ -242,7 +257,7 @@ change_leads G f w free i o h e c = either (scripts_sound f.config.mounts free w
   where
     either : IsWriteOn w.words w.begins i ⊎ IsOpenedToWrite (script_of f.config w free) w.answers i → G i.serial
     either (inl k) = h.begins i k
-    either (inr k) = answer_found G (script_of f.config w free) k.before k.opening k.after i (subst (AnswersFact G (script_of f.config w free)) k.answers_are (h.answers free)) k.asked k.opened
+    either (inr k) = answer_found G (script_of f.config w free) k.before k.opening k.after i (subst (AnswersFact G (script_of f.config w free)) k.answers_are (h.answers free)) k.asked (opens_brings i k.opening k.opened)
 
 reply_leads : (G : Serials) (f : Frame) (w : WaitingCall) (free : Option ℕ) (r : Reply) → CallFact f.config G w → script_of f.config w free w.answers ≡ want.Give r → ReplyLeads G w r
 reply_leads G f w free (reply.Opened fd) h e = λ read. reply_takes G f.config.mounts free w.words w.begins w.answers (h.answers free) (subst OpenedFd (sym e) tt) read

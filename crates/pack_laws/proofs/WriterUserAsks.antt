@@ -1,5 +1,5 @@
 -- A using site asks changes of what it has asked to write alone.
-use Rattle.std.proofs.Common.{◌≡◌, ℕ, ◌+◌, ◌==◌, Bool, true, false, cond, List, [], ◌∷◌, ◌++◌, Option, Some, None, refl, sym, ap, subst, arith}
+use Rattle.std.proofs.Common.{◌≡◌, ℕ, ◌+◌, ◌==◌, Bool, true, false, cond, List, [], ◌∷◌, ◌++◌, Option, Some, None, refl, sym, ◌∙◌, ap, subst, arith}
 use Rattle.std.proofs.lemmas.Bool.Decides.{nat_tests}
 use Rattle.role_steps.proofs.of_plain_facts.Numbers.{equal}
 use Rattle.locus_ids.specs.declared.ids.CallId.{CallId}
@@ -15,6 +15,8 @@ use Rattle.trace_book.specs.declared.call.Call.{Call}
 use Rattle.trace_book.specs.declared.call.Call.TheVariants as call
 use Rattle.trace_book.specs.declared.call.OpenMode.{OpenMode}
 use Rattle.trace_book.specs.declared.call.OpenMode.TheVariants as mode
+use Rattle.trace_book.specs.declared.descriptor.OneVersion.{OneVersion}
+use Rattle.call_rules.specs.Opening.{is_steady}
 use Rattle.trace_book.specs.declared.descriptor.Beginning.{Beginning}
 use Rattle.trace_book.specs.declared.descriptor.Beginning.TheVariants as begins
 use Rattle.trace_book.specs.declared.operation.Op.{Op}
@@ -23,7 +25,7 @@ use Rattle.trace_book.specs.declared.operation.Outcome.TheVariants as result
 use Rattle.trace_book.specs.declared.operation.What.TheVariants as what
 use Rattle.trace_book.specs.declared.reply.Reply.{Reply}
 use Rattle.trace_book.specs.declared.reply.Reply.TheVariants as reply
-use Rattle.call_rules.specs.Descriptors.{is_in, begins_on, beginning}
+use Rattle.call_rules.specs.Descriptors.{is_in, begins_change, beginning}
 use Rattle.call_rules.specs.Words.{is_too_long}
 use Rattle.call_rules.specs.declared.answer.Answer.{Answer}
 use Rattle.call_rules.specs.declared.want.Want.{Want}
@@ -42,7 +44,7 @@ use Rattle.role_steps.specs.Own.{Every}
 use Rattle.role_steps.specs.Tables.{row, first_that}
 use Rattle.role_steps.specs.Views.{Frame, Users, Told, Outcome, quiet, tells, and_then, to_some, to_sync, sync_site}
 use Rattle.role_steps.specs.Requests.{waiting_key, instance_serial, without_waiting, user_instance, with_user_instance, without_user_instance, descriptor_in, descriptor_key, fd_key, descriptors_of, request_packets, asks, asks_open, opening_of, made_for, next_request, asks_op_of, asks_close_of, seen_by, users_repeats}
-use Rattle.role_steps.specs.Using.{is_some_site, is_packed, is_hopeless, without_hope, opened_row, after_reply, replies, asks_want, next_want, goes_on, frees, accepted, accept_record, on_call, takes_record, with_answer, takes_answer, takes_open, on_open_done_of, on_open_done, on_op_done_of, on_op_done, on_close_done_of, on_close_done, looks_again, with_brought, content_answer, takes_look, on_look_done_of, on_look_done, asks_open_of, asks_op_number, asks_take, users_leave, op_answer, close_answer, opened_answer, kept_for, mended_file, own_call}
+use Rattle.role_steps.specs.Using.{is_some_site, is_packed, is_hopeless, without_hope, opened_row, last_version, mode_asked, holds_again, asked_answer, after_reply, replies, asks_want, next_want, goes_on, frees, accepted, accept_record, on_call, takes_record, with_answer, takes_answer, takes_open, on_open_done_of, on_open_done, on_op_done_of, on_op_done, on_close_done_of, on_close_done, looks_again, with_brought, content_answer, takes_look, on_look_done_of, on_look_done, asks_open_of, asks_op_number, asks_take, users_leave, op_answer, close_answer, opened_answer, kept_for, mended_file, own_call}
 use Rattle.role_steps.specs.Using as using
 use Rattle.role_steps.specs.declared.users.Asking.{Asking}
 use Rattle.role_steps.specs.declared.users.Asking.TheVariants as asking
@@ -51,8 +53,8 @@ use Rattle.role_steps.specs.declared.users.UserInstance.{UserInstance}
 use Rattle.role_steps.specs.declared.users.DescriptorRow.{DescriptorRow}
 use Rattle.the_run.proofs.InsideSync.{every_row, every_without, Found, row_found}
 use Rattle.lock_laws.proofs.of_vector_laws.SyncFacts.{every_flat}
-use Rattle.lock_laws.specs.Writing.{changes, ToWrite, OpensToWrite, Opens, IsWrite, IsWriteOn}
-use Rattle.pack_laws.specs.WriterAsking.{NotToRead, Serials, AskingFact, script_of, CallFact, WaitingFact, DescriptorFact, UsersFact, Noted, PacketFact, BodyFact}
+use Rattle.lock_laws.specs.Writing.{changes, ToWrite, OpensToWrite, IsWrite, IsWriteOn}
+use Rattle.pack_laws.specs.WriterAsking.{Brings, NotToRead, Serials, AskingFact, script_of, CallFact, WaitingFact, DescriptorFact, UsersFact, Noted, PacketFact, BodyFact}
 use Rattle.pack_laws.proofs.WriterLeads.{answer_added, ReplyLeads, Leads, leads}
 
 -- ---- tables ----
@@ -130,9 +132,18 @@ hope_fact : (c : Config) (G : Serials) (words : Call) (why : Refusal) (u : Users
 hope_fact c G (call.Mend file) why u h = cond_users c G (is_hopeless why) (record u { hopeless = u.hopeless ++ file ∷ [] }) u (record { waiting = h.waiting; descriptors = h.descriptors }) h
 hope_fact c G _ why u h = h
 
+again_fact : (c : Config) (G : Serials) (f : Frame) (w : WaitingCall) (b : Beginning) (words : Call) (u : Users) → w.words ≡ words → UsersFact c G u → UsersFact c G (holds_again f w b words u)
+again_fact c G f w (begins.Reopens version last) (call.Read fd at len) u e h =
+    record { waiting = h.waiting; descriptors = every_row (DescriptorFact G) descriptor_key (opened_row f w fd (Some version)) u.descriptors (λ r. absurd (never (subst (λ (x : Call). is_read (mode_asked x) ≡ false) e r))) h.descriptors }
+  where
+    never : true ≡ false → ⊥
+    never x = cc
+again_fact c G f w _ words u e h = h
+
 after_reply_fact : (c : Config) (G : Serials) (f : Frame) (w : WaitingCall) (r : Reply) (u : Users) → ReplyLeads G w r → UsersFact c G u → UsersFact c G (after_reply f w r u)
-after_reply_fact c G f w (reply.Opened fd) u k h = record { waiting = h.waiting; descriptors = every_row (DescriptorFact G) descriptor_key (opened_row f w fd) u.descriptors k h.descriptors }
+after_reply_fact c G f w (reply.Opened fd) u k h = record { waiting = h.waiting; descriptors = every_row (DescriptorFact G) descriptor_key (opened_row f w fd (cond (is_steady w.words) (last_version None w.answers) None)) u.descriptors k h.descriptors }
 after_reply_fact c G f w (reply.No why) u k h = hope_fact c G w.words why u h
+after_reply_fact c G f w (reply.Data bytes) u k h = again_fact c G f w w.begins w.words u refl h
 after_reply_fact c G f w _ u k h = h
 
 replies_fine : (c : Config) (G : Serials) (f : Frame) (w : WaitingCall) (r : Reply) (u : Users) → ReplyLeads G w r → UsersFact c G u → UsersFine c G (replies f w r u)
@@ -142,6 +153,7 @@ replies_fine c G f w r u k h = record { view = after_reply_fact c G f w r (witho
 
 opening_to_write : (m : OpenMode) → ToWrite m → NotToRead (opening_of m)
 opening_to_write mode.Read h = absurd h
+opening_to_write mode.Steady h = absurd h
 opening_to_write mode.Write h = tt
 opening_to_write (mode.Resolve site) h = tt
 
@@ -167,14 +179,24 @@ denied_uses : (why : Refusal) (e : EpochId) (i : Serial) → begins.Denied why �
 denied_uses why e i h = cc
 
 -- a descriptor on which a call begins that changes the file may write
-begins_asked : (G : Serials) (now : Option EpochId) (o : Option DescriptorRow) (e : EpochId) (i : Serial) → Found (DescriptorFact G) o → begins_on true now (descriptor_in o) ≡ begins.Uses e i → G i.serial
+begins_asked : (G : Serials) (now : Option EpochId) (o : Option DescriptorRow) (e : EpochId) (i : Serial) → Found (DescriptorFact G) o → begins_change now (descriptor_in o) ≡ begins.Uses e i → G i.serial
 begins_asked G now None e i h q = absurd (denied_uses _ e i q)
-begins_asked G now (Some d) e i h q = by_epoch (is_in now d.descriptor.epoch) (is_read d.descriptor.mode) refl q
+begins_asked G now (Some d) e i h q = by_steady d.descriptor.steady refl
   where
+    steady_denied : (kept : OneVersion) → d.descriptor.steady ≡ Some kept → begins_change now (Some d.descriptor) ≡ begins.Denied refusal.ReadOnly
+    steady_denied kept s = rw s refl
+
+    plain_begins : d.descriptor.steady ≡ None → begins_change now (Some d.descriptor) ≡ cond (is_in now d.descriptor.epoch) (cond (is_read d.descriptor.mode) (begins.Denied refusal.ReadOnly) (begins.Uses d.descriptor.epoch d.descriptor.inst)) (begins.Denied (refusal.Stale d.descriptor.epoch))
+    plain_begins s = rw s refl
+
     by_epoch : (b r : Bool) → is_read d.descriptor.mode ≡ r → cond b (cond r (begins.Denied refusal.ReadOnly) (begins.Uses d.descriptor.epoch d.descriptor.inst)) (begins.Denied (refusal.Stale d.descriptor.epoch)) ≡ begins.Uses e i → G i.serial
     by_epoch true true r k = absurd (denied_uses _ e i k)
     by_epoch true false r k = subst (λ (x : Serial). G x.serial) (uses_is d.descriptor.inst i d.descriptor.epoch e k) (h r)
     by_epoch false r s k = absurd (denied_uses _ e i k)
+
+    by_steady : (o : Option OneVersion) → d.descriptor.steady ≡ o → G i.serial
+    by_steady None s = by_epoch (is_in now d.descriptor.epoch) (is_read d.descriptor.mode) refl (sym (plain_begins s) ∙ q)
+    by_steady (Some kept) s = absurd (denied_uses _ e i (sym (steady_denied kept s) ∙ q))
 
 long_uses : (b : Bool) (x : Beginning) (e : EpochId) (i : Serial) → cond b (begins.Denied refusal.TooLong) x ≡ begins.Uses e i → x ≡ begins.Uses e i
 long_uses true x e i h = absurd (denied_uses _ e i h)
@@ -205,14 +227,14 @@ on_call_gives G f now process words u h =
 
 -- ---- answers ----
 
-takes_answer_gives : (G : Serials) (f : Frame) (w : WaitingCall) (a : Answer) (u : Users) → CallFact f.config G w → ((free : Option ℕ) (i : Serial) → OpensToWrite (script_of f.config w free w.answers) → Opens i a → G i.serial) → UsersFact f.config G u → Gives f.config G (takes_answer f w a u)
+takes_answer_gives : (G : Serials) (f : Frame) (w : WaitingCall) (a : Answer) (u : Users) → CallFact f.config G w → ((free : Option ℕ) (i : Serial) → OpensToWrite (script_of f.config w free w.answers) → Brings i a → G i.serial) → UsersFact f.config G u → Gives f.config G (takes_answer f w a u)
 takes_answer_gives G f w a u k asked h =
     told_more f.config G (takes_record f w a) u (goes_on f (with_answer w a))
     (goes_fine G f (with_answer w a) u (record { begins = k.begins; answers = λ free. answer_added G (script_of f.config w free) w.answers a (k.answers free) (asked free) }) h)
 
 -- an answer that opens nothing
 abbrev OpensNothing : Answer → Type 0
-OpensNothing a = (i : Serial) → Opens i a → ⊥
+OpensNothing a = (i : Serial) → Brings i a → ⊥
 
 plain_answer : (G : Serials) (f : Frame) (w : WaitingCall) (a : Answer) (u : Users) → OpensNothing a → CallFact f.config G w → UsersFact f.config G u → Gives f.config G (takes_answer f w a u)
 plain_answer G f w a u none k h = takes_answer_gives G f w a u k (λ free i to opened. absurd (none i opened)) h
@@ -227,14 +249,18 @@ asked_of c G serial w free h e to = by_asking w.asking e (h.asking free)
     by_asking (asking.Op s ss number o seen) q k = absurd (cc)
     by_asking (asking.Close s ss) q k = absurd (cc)
 
-opens_own : (f : Frame) (serial ino : ℕ) (kept : List Stamp) (words : Call) (i : Serial) → Opens i (opened_answer f serial ino kept words) → serial ≡ i.serial
-opens_own f serial ino kept (call.Mend file) i h = ap (λ (x : Serial). x.serial) h
-opens_own f serial ino kept _ i h = ap (λ (x : Serial). x.serial) h
+asked_own : (f : Frame) (serial ino : ℕ) (stamp : Stamp) (a : Asking) (i : Serial) → Brings i (asked_answer f serial ino stamp a) → serial ≡ i.serial
+asked_own f serial ino stamp (asking.Open s file how.Read) i h = ap (λ (x : Serial). x.serial) h
+asked_own f serial ino stamp _ i h = ap (λ (x : Serial). x.serial) h
+
+opens_own : (f : Frame) (serial ino : ℕ) (stamp : Stamp) (kept : List Stamp) (words : Call) (a : Asking) (i : Serial) → Brings i (opened_answer f serial ino stamp kept words a) → serial ≡ i.serial
+opens_own f serial ino stamp kept (call.Mend file) a i h = ap (λ (x : Serial). x.serial) h
+opens_own f serial ino stamp kept _ a i h = asked_own f serial ino stamp a i h
 
 takes_open_gives : (G : Serials) (f : Frame) (kept : FileId → List Stamp) (serial : ℕ) (w : WaitingCall) (a : Granted) (u : Users) → WaitingFact f.config G w → asks_open_of serial w ≡ true → UsersFact f.config G u → Gives f.config G (takes_open f kept serial w a u)
 takes_open_gives G f kept serial w (granted.Open ss ino size stamp vector) u k e h =
-    takes_answer_gives G f w (opened_answer f serial ino (kept_for kept (mended_file w.words)) w.words) (with_user_instance (record { serial = serial; ss = ss; vector = vector; ops = 0 }) u) k.call_so
-    (λ free i to opened. subst G (opens_own f serial ino (kept_for kept (mended_file w.words)) w.words i opened) (asked_of f.config G serial w free k e to)) (record { waiting = h.waiting; descriptors = h.descriptors })
+    takes_answer_gives G f w (opened_answer f serial ino stamp (kept_for kept (mended_file w.words)) w.words w.asking) (with_user_instance (record { serial = serial; ss = ss; vector = vector; ops = 0 }) u) k.call_so
+    (λ free i to opened. subst G (opens_own f serial ino stamp (kept_for kept (mended_file w.words)) w.words w.asking i opened) (asked_of f.config G serial w free k e to)) (record { waiting = h.waiting; descriptors = h.descriptors })
 takes_open_gives G f kept serial w (granted.No why) u k e h = plain_answer G f w _ u (λ i o. o) k.call_so h
 
 open_done_gives : (G : Serials) (f : Frame) (kept : FileId → List Stamp) (serial : ℕ) (a : Granted) (o : Option WaitingCall) (u : Users) → Found (λ (w : WaitingCall). WaitingFact f.config G w × (asks_open_of serial w ≡ true)) o → UsersFact f.config G u → Gives f.config G (on_open_done_of f kept serial a o u)

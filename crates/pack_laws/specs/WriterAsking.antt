@@ -6,6 +6,7 @@ use Rattle.locus_ids.specs.declared.config.Config.{Config}
 use Rattle.commit_graph.specs.Grants.{is_read}
 use Rattle.call_rules.specs.Scripts.{named_wants}
 use Rattle.call_rules.specs.declared.answer.Answer.{Answer}
+use Rattle.call_rules.specs.declared.answer.Answer.TheVariants as answer
 use Rattle.call_rules.specs.declared.want.Want.{Want}
 use Rattle.wire_messages.specs.declared.packet.Packet.{Packet}
 use Rattle.wire_messages.specs.declared.body.Body.{Body}
@@ -24,7 +25,7 @@ use Rattle.the_run.specs.Joins.{NoJoin, NoWrite}
 use Rattle.the_run.specs.Kept.{Among}
 use Rattle.the_run.specs.Worlds.{World, Numbered}
 use Rattle.pack_laws.specs.InstanceLaws.{AsksOpen}
-use Rattle.lock_laws.specs.Writing.{changes, OpensToWrite, Opens, IsWriteOn}
+use Rattle.lock_laws.specs.Writing.{changes, OpensToWrite, IsWriteOn}
 
 -- ---- the laws ----
 
@@ -65,10 +66,17 @@ ReadersChangeNothing w = (x y : Numbered) (serial : ℕ) (file : FileId) (openin
 abbrev pub Serials : Type 1
 Serials = ℕ → Type 0
 
+-- the answer brings this instance, to write it or to read
+abbrev pub Brings : Serial → Answer → Type 0
+Brings i (answer.Opened inst ino) = inst ≡ i
+Brings i (answer.Reading inst version) = inst ≡ i
+Brings i (answer.Merging inst kept) = inst ≡ i
+Brings i _ = ⊥
+
 -- what was opened by an answer to an open that isn't for reading was asked to write
 abbrev pub AnswersFact : Serials → (List Answer → Want) → List Answer → Type 0
 AnswersFact G script [] = Unit {0}
-AnswersFact G script (a ∷ xs) = ((i : Serial) → OpensToWrite (script []) → Opens i a → G i.serial) × AnswersFact G (λ (ys : List Answer). script (a ∷ ys)) xs
+AnswersFact G script (a ∷ xs) = ((i : Serial) → OpensToWrite (script []) → Brings i a → G i.serial) × AnswersFact G (λ (ys : List Answer). script (a ∷ ys)) xs
 
 -- so is what a call asks now
 abbrev pub AskingFact : Serials → Want → Asking → Type 0

@@ -10,6 +10,8 @@ use Rattle.trace_book.specs.declared.reply.Reply.{Reply}
 use Rattle.trace_book.specs.declared.reply.Reply.TheVariants as reply
 use Rattle.trace_book.specs.declared.call.Call.{Call}
 use Rattle.trace_book.specs.declared.call.Call.TheVariants as call
+use Rattle.trace_book.specs.declared.descriptor.Beginning.{Beginning}
+use Rattle.trace_book.specs.declared.descriptor.Beginning.TheVariants as begins
 use Rattle.trace_book.specs.declared.operation.Op.{Op}
 use Rattle.trace_book.specs.declared.operation.Outcome.{Outcome as Result}
 use Rattle.call_rules.specs.Descriptors.{beginning, lowest_free}
@@ -28,7 +30,7 @@ use Rattle.wire_messages.specs.declared.body.Opening.{Opening}
 use Rattle.role_steps.specs.Tables.{total, first_that}
 use Rattle.role_steps.specs.Views.{Frame, Users, Shown, Outcome, joined_to, to_some, to_sync, sync_site}
 use Rattle.role_steps.specs.Requests.{descriptors_of, user_instance, asks_op_of, asks_close_of, asks_open}
-use Rattle.role_steps.specs.Using.{is_some_site, is_packed, is_hopeless, without_hope, after_reply, replies, asks_want, next_want, goes_on, frees, accepted, on_call, with_answer, takes_answer, takes_open, on_open_done_of, on_open_done, on_op_done_of, on_op_done, on_close_done_of, on_close_done, with_brought, content_answer, looks_again, takes_look, on_look_done_of, on_look_done, asks_open_of, asks_op_number, asks_take, own_call}
+use Rattle.role_steps.specs.Using.{is_some_site, is_packed, is_hopeless, without_hope, after_reply, holds_again, replies, asks_want, next_want, goes_on, frees, accepted, on_call, with_answer, takes_answer, takes_open, on_open_done_of, on_open_done, on_op_done_of, on_op_done, on_close_done_of, on_close_done, with_brought, content_answer, looks_again, takes_look, on_look_done_of, on_look_done, asks_open_of, asks_op_number, asks_take, own_call}
 use Rattle.role_steps.specs.Using as using
 use Rattle.role_steps.specs.declared.users.Asking.{Asking}
 use Rattle.role_steps.specs.declared.users.Asking.TheVariants as asking
@@ -78,9 +80,14 @@ hope_counts n (call.Mend file) why u cost = by_test (is_hopeless why)
     by_test false = same_counts n u u cost refl refl
 hope_counts n _ why u cost = same_counts n u u cost refl refl
 
+again_rises : (n : ℕ) (f : Frame) (w : WaitingCall) (b : Beginning) (words : Call) (u now : Users) (cost : ℕ) → now.calls ≡ u.calls → now.serials ≡ u.serials → Rises n u (holds_again f w b words now) cost
+again_rises n f w (begins.Reopens version last) (call.Read fd at len) u now cost a b = same_counts n u _ cost a b
+again_rises n f w _ words u now cost a b = same_counts n u now cost a b
+
 reply_rise : (n : ℕ) (f : Frame) (w : WaitingCall) (r : Reply) (u now : Users) (cost : ℕ) → now.calls ≡ u.calls → now.serials ≡ u.serials → Rises n u (after_reply f w r now) cost
 reply_rise n f w (reply.Opened fd) u now cost a b = same_counts n u _ cost a b
 reply_rise n f w (reply.No why) u now cost a b = (let h : Rises n now (without_hope w.words why now) cost = hope_counts n w.words why now cost in record { calls = omega (arith, a, h.calls); serials = omega (arith, b, h.serials) })
+reply_rise n f w (reply.Data bytes) u now cost a b = again_rises n f w w.begins w.words u now cost a b
 reply_rise n f w _ u now cost a b = same_counts n u now cost a b
 
 ops_rise : (n : ℕ) (f : Frame) (w : WaitingCall) (o : Op) (i : Option UserInstance) (u : Users) → UsersRise n u (asks_op_of f w o i u)

@@ -180,7 +180,7 @@ does c few n s e v w here comes fact holds good calling g = acts_cases (Fitting 
 -- ---- boots ----
 
 fresh_values : (c : Config) (boot : ℕ) (copies : List FileCopy) → CopiesFit copies → SiteValues c [] (fresh boot copies)
-fresh_values c boot copies h = record { store = record { copies = h; instances = tt }; users = record { waiting = tt; instances = tt }; tables = tt; pulls = tt; reports = tt }
+fresh_values c boot copies h = record { store = record { copies = h; instances = tt }; users = record { waiting = tt; instances = tt; descriptors = tt }; tables = tt; pulls = tt; reports = tt }
 
 boot_places : (a : Option Armed) (s : ℕ) (p : Place) (w : World) (t : ℕ) → place_at (rearms s a (puts s p w)) t ≡ place_at (puts s p w) t
 boot_places None s p w t = refl

@@ -11,7 +11,7 @@ use Rattle.trace_book.specs.declared.call.Call.{Call}
 use Rattle.trace_book.specs.declared.call.Call.TheVariants as call
 use Rattle.trace_book.specs.declared.descriptor.Beginning.{Beginning}
 use Rattle.trace_book.specs.declared.descriptor.Beginning.TheVariants as begins
-use Rattle.call_rules.specs.Descriptors.{beginning, begins_on}
+use Rattle.call_rules.specs.Descriptors.{beginning, begins_again, begins_change, begins_read, is_in, stale_or}
 use Rattle.call_rules.specs.Words.{is_too_long}
 use Rattle.schedule_lines.specs.Ranges.{fits_call, is_byte, is_descriptor}
 use Rattle.wire_fields.specs.Parts.{processes, stamps}
@@ -40,6 +40,7 @@ use Rattle.locus_ids.specs.declared.ids.EpochId.{EpochId}
 use Rattle.locus_ids.specs.declared.refusal.Refusal.TheVariants as refusal
 use Rattle.locus_ids.specs.Sizes.{file_bytes_max}
 use Rattle.trace_book.specs.declared.descriptor.Descriptor.{Descriptor}
+use Rattle.trace_book.specs.declared.descriptor.OneVersion.{OneVersion}
 use Rattle.std.specs.Prelude.{nat_le, nat_lt}
 use Rattle.role_steps.proofs.of_plain_facts.Tests.{both_true}
 use Rattle.role_steps.proofs.Sending.{every_append}
@@ -49,7 +50,7 @@ use Rattle.the_run.proofs.InsideSync.{Found, every_row, every_without, first_fou
 use Rattle.the_run.proofs.StepSends.{order_sent}
 use Rattle.packet_fit_laws.specs.Fields.{AreBoots, IsSite}
 use Rattle.packet_value_laws.specs.Bodies.{FitsBut, IsListed, NamesListed}
-use Rattle.packet_value_laws.specs.Values.{CallFits, FileFits, Grounds, KeptAt, PullFits, SentFits, SiteValues, TableFits}
+use Rattle.packet_value_laws.specs.Values.{KeptFits, CallFits, FileFits, Grounds, KeptAt, PullFits, SentFits, SiteValues, TableFits}
 use Rattle.packet_value_laws.proofs.Copies.{report_fits, with_copy_fits}
 use Rattle.packet_value_laws.proofs.Fields.{AskedFits, every_flat, size_fits, size_most, sync_asks}
 use Rattle.packet_value_laws.proofs.Files.{found_file}
@@ -57,7 +58,7 @@ use Rattle.packet_value_laws.proofs.Operating.{on_look_ss_fits, on_op_fits, on_p
 use Rattle.packet_value_laws.proofs.Pulls.{PullsDone, on_notify_fits, on_page_fits, pull_repeats_fit}
 use Rattle.packet_value_laws.proofs.Store.{StoreDone, on_close_fits, on_closed_ok_fits, on_open_ss_fits, store_repeats_fit}
 use Rattle.packet_value_laws.proofs.Sync.{TableDone, have_fits, kept_of_fit, on_closed_fits, on_look_fits, on_open_fits, on_opened_fits, on_report_fits, sync_repeats_fit}
-use Rattle.packet_value_laws.proofs.Users.{UsersDone, on_call_fits, on_close_done_fits, on_look_done_fits, on_op_done_fits, on_open_done_fits, users_repeats_fit}
+use Rattle.packet_value_laws.proofs.Users.{EntryFits, UsersDone, on_call_fits, on_close_done_fits, on_look_done_fits, on_op_done_fits, on_open_done_fits, users_repeats_fit}
 
 pub record SiteDone (c : Config) (boots : List ℕ) (o : Outcome SiteView) : Type 0 where
   pub sent : Every (SentFits boots) o.sent
@@ -222,18 +223,35 @@ write_fits c fd at bytes b h = over (nat_lt file_bytes_max (at + length bytes)) 
     by_begin (begins.Denied why) le = h
     by_begin (begins.Uses e inst) le = (let k : (1 ≤ length bytes) × (length bytes ≤ 4096) = write_lengths c.sites fd at bytes h in (k.0, k.1, le))
     by_begin (begins.Walks id) le = h
+    by_begin (begins.Reopens kept last) le = h
+    by_begin begins.Frees le = h
 
     over : (t : Bool) → nat_lt file_bytes_max (at + length bytes) ≡ t → (b : Beginning) → CallFits c (call.Write fd at bytes) (cond t (begins.Denied refusal.TooLong) b)
     over true e b = h
     over false e b = by_begin b (short e)
 
+-- a read that opens a version again does so of a file
+read_fits : (c : Config) (fd at len : ℕ) (now : Option EpochId) (o : Option Descriptor) → EntryFits o → fits_call c.sites (call.Read fd at len) ≡ true → CallFits c (call.Read fd at len) (begins_read now o)
+read_fits c fd at len now None k h = h
+read_fits c fd at len now (Some d) k h = over (is_in now d.epoch)
+  where
+    stale : (at_epoch : Option EpochId) (kept : Option OneVersion) → KeptFits kept → CallFits c (call.Read fd at len) (stale_or (begins_again at_epoch d.epoch) d.epoch kept)
+    stale at_epoch None fits = h
+    stale None (Some kept) fits = h
+    stale (Some e) (Some kept) fits = (h, fits)
+
+    over : (b : Bool) → CallFits c (call.Read fd at len) (cond b (begins.Uses d.epoch d.inst) (stale_or (begins_again now d.epoch) d.epoch d.steady))
+    over true = h
+    over false = stale now d.steady k
+
 -- the words of a line, where the call begins by them
-pub call_fits : (c : Config) (table : ℕ → Option Descriptor) (now : Option EpochId) (id : CallId) (words : Call) → fits_call c.sites words ≡ true → is_name (message_name id) ≡ true → CallFits c words (beginning table now id words)
-call_fits c table now id (call.Mend file) h named = absurd (cc)
-call_fits c table now id (call.Write fd at bytes) h named = write_fits c fd at bytes (begins_on true now (table fd)) h
-call_fits c table None id (call.Mail path bytes) h named = h
-call_fits c table (Some e) id (call.Mail path bytes) h named = (h, named)
-call_fits c table now id _ h named = h
+pub call_fits : (c : Config) (table : ℕ → Option Descriptor) (now : Option EpochId) (id : CallId) (words : Call) → ((fd : ℕ) → EntryFits (table fd)) → fits_call c.sites words ≡ true → is_name (message_name id) ≡ true → CallFits c words (beginning table now id words)
+call_fits c table now id (call.Mend file) entries h named = absurd (cc)
+call_fits c table now id (call.Read fd at len) entries h named = read_fits c fd at len now (table fd) (entries fd) h
+call_fits c table now id (call.Write fd at bytes) entries h named = write_fits c fd at bytes (begins_change now (table fd)) h
+call_fits c table None id (call.Mail path bytes) entries h named = h
+call_fits c table (Some e) id (call.Mail path bytes) entries h named = (h, named)
+call_fits c table now id _ entries h named = h
 
 pub call_done : (f : Frame) (g : Grounds f.config) (now : Option EpochId) (process : ℕ) (words : Call) (v : SiteView) → processes.Fits process → CallFits f.config words (beginning (descriptors_of v.users process) now (own_call f.me f.boot (v.users.calls + 1)) words) → SiteValues f.config f.members.boot v → AskingDone f.config f.members.boot (at_users (on_call f now process words) v)
 call_done f g now process words v p k h = users_done f.config f.members.boot (on_call f now process words v.users) v h (on_call_fits f g.scripts g.packs now process words v.users p k h.users)

@@ -22,6 +22,7 @@ use Rattle.trace_book.specs.declared.call.Call.{Call}
 use Rattle.trace_book.specs.declared.call.Call.TheVariants as call
 use Rattle.trace_book.specs.declared.call.OpenMode.{OpenMode}
 use Rattle.trace_book.specs.declared.call.OpenMode.TheVariants as mode
+use Rattle.trace_book.specs.declared.descriptor.OneVersion.{OneVersion}
 use Rattle.trace_book.specs.declared.descriptor.Beginning.{Beginning}
 use Rattle.trace_book.specs.declared.descriptor.Beginning.TheVariants as begins
 use Rattle.trace_book.specs.declared.operation.Op.{Op}
@@ -35,6 +36,8 @@ use Rattle.call_rules.specs.Making.{after_insert, after_make, fills, after_probe
 use Rattle.call_rules.specs.Mending.{after_mend, brings, mend_wants}
 use Rattle.call_rules.specs.Naming.{renames}
 use Rattle.call_rules.specs.Opening.{close_wants, describes, lists, op_wants, opens_file, uses_wants, Shows, shown_in}
+use Rattle.commit_graph.specs.Versions.{same_stamp}
+use Rattle.call_rules.specs.Reopening.{reads_again, reopened, reopens, reopen_wants}
 use Rattle.call_rules.specs.Paths.{is_component, is_path, path_bytes_max}
 use Rattle.call_rules.specs.Removing.{by_kind, empties, finds, opens_target, removes}
 use Rattle.call_rules.specs.Scripts.{begun_wants, named_wants, path_wants, where_packed}
@@ -213,6 +216,7 @@ opens_fit : (m : OpenMode) (free : Option ℕ) (file : FileId) (kind : Kind) →
 opens_fit m free file Dir o k answers h = tt
 opens_fit m free file File o k [] h = (k, o)
 opens_fit m (Some fd) file File o k (answer.Opened i ino ∷ []) h = tt
+opens_fit m (Some fd) file File o k (answer.Reading i version ∷ []) h = tt
 opens_fit m free file File o k (answer.Refused why ∷ []) h = tt
 opens_fit m free file File o k (_ ∷ rest) h = tt
 
@@ -368,8 +372,12 @@ set_fits n (Some s) e = some_of s.0 (2 ^ min n sites_max) (power_most (min n sit
     some_of : (x most : ℕ) → most ≤ set_span → (nat_lt 0 x ≡ true) × (nat_lt x most ≡ true) → IsTrue (from_to 1 (set_span - 1) x) × (x < set_span)
     some_of x most le e = let low : 1 ≤ x = positive x e.0 in let high : x < most = less x most e.1 in (in_range 1 (set_span - 1) x low (omega (arith, high, le)), omega (arith, high, le))
 
+read_opens : (openings false).Fits (opening_of mode.Read)
+read_opens = ((refl, omega arith), ((refl, omega arith), ((refl, omega arith), (refl, omega arith))))
+
 mode_fits : (n : ℕ) (m : OpenMode) → fits_mode n m ≡ true → (openings false).Fits (opening_of m)
-mode_fits n mode.Read e = ((refl, omega arith), ((refl, omega arith), ((refl, omega arith), (refl, omega arith))))
+mode_fits n mode.Read e = read_opens
+mode_fits n mode.Steady e = read_opens
 mode_fits n mode.Write e = write_opens
 mode_fits n (mode.Resolve site) e = ((refl, omega arith), ((site_in n site e, site_low n site e), ((refl, omega arith), (refl, omega arith))))
 
@@ -437,10 +445,35 @@ walks_says c free id (call.Mails path) named k = path_says c.mounts free c.sites
 walks_says c free id (call.Open path m) named k = path_says c.mounts free c.sites id (call.Open path m) tt named k
 walks_says c free id _ named k = λ answers h. tt
 
+reads_again_fit : (i : Serial) (at len : ℕ) → OpFits (op.Read at len) → AlwaysFits (reads_again i at len)
+reads_again_fit i at len k [] h = k
+reads_again_fit i at len k (answer.Did result ∷ []) h = tt
+reads_again_fit i at len k (answer.Refused why ∷ rest) h = one_up i why rest h.1
+reads_again_fit i at len k (_ ∷ rest) h = tt
+
+reopened_fit : (kept granted : OneVersion) (last : EpochId) (at len : ℕ) (i : Serial) → OpFits (op.Read at len) → AlwaysFits (reopened kept last at len i granted)
+reopened_fit kept granted last at len i k answers h = over (same_stamp granted.stamp kept.stamp)
+  where
+    over : (b : Bool) → SaysFit (cond b (reads_again i at len answers) (give_up (Unchanged i ∷ []) (refusal.Stale last) answers))
+    over true = reads_again_fit i at len k answers h
+    over false = one_up i (refusal.Stale last) answers h
+
+reopens_fit : (kept : OneVersion) (last : EpochId) (at len : ℕ) → OpFits (op.Read at len) → inodes.Fits kept.file.ino → AlwaysFits (reopens kept last at len)
+reopens_fit kept last at len k f [] h = (f, read_opens)
+reopens_fit kept last at len k f (answer.Reading i granted ∷ rest) h = reopened_fit kept granted last at len i k rest h.1
+reopens_fit kept last at len k f (answer.Refused why ∷ []) h = tt
+reopens_fit kept last at len k f (_ ∷ rest) h = tt
+
+reopen_says : (c : Config) (words : Call) (kept : OneVersion) (last : EpochId) → CallFits c words (begins.Reopens kept last) → AlwaysFits (reopen_wants words kept last)
+reopen_says c (call.Read fd at len) kept last k = reopens_fit kept last at len (read_op c.sites fd at len k.0) k.1.1
+reopen_says c _ kept last k = λ answers h. tt
+
 begun_says : (c : Config) (free : Option ℕ) (words : Call) (b : Beginning) → is_badly_named c.mounts words ≡ false → CallFits c words b → AlwaysFits (begun_wants c.mounts free words b)
 begun_says c free words (begins.Denied why) named k answers h = tt
 begun_says c free words (begins.Uses e i) named k answers h = uses_says c words e i k answers h
 begun_says c free words (begins.Walks id) named k answers h = walks_says c free id words named k answers h
+begun_says c free words (begins.Reopens kept last) named k answers h = reopen_says c words kept last k answers h
+begun_says c free words begins.Frees named k answers h = tt
 
 named_says : (c : Config) (free : Option ℕ) (words : Call) (b : Beginning) (answers : List Answer) → CallFits c words b → Every AnswerFits answers → SaysFit (named_wants c.mounts free words b answers)
 named_says c free words b answers k h = over (is_badly_named c.mounts words) refl

@@ -41,6 +41,7 @@ use Rattle.packet_fit_laws.proofs.Meeting.{IsAddressed, listed_site}
 use Rattle.packet_value_laws.specs.Bodies.{FitsBut, IsListed, NamesListed, NamesNone}
 use Rattle.packet_value_laws.specs.Values.{Grounds, KeptAt, SentFits, SiteValues, TableFits, boots_in, AskingFits, HasOpen, InstanceFits, PullFits, StoreFits, UsersFit, WaitingFits}
 use Rattle.packet_value_laws.proofs.Fields.{AskedFits, every_some}
+use Rattle.packet_value_laws.proofs.Users.{entries_fit}
 use Rattle.packet_value_laws.proofs.Inside.{AskingDone, SiteDone, adopts_first_done, call_done, call_fits, inside_done, inside_repeats, mends_done, quiet_asking, quiet_done, reports_fit}
 use Rattle.role_steps.specs.Requests.{descriptors_of}
 use Rattle.role_steps.specs.Tables.{without_row}
@@ -136,7 +137,7 @@ module _ (c : Config) (me : ℕ) (o0 : Option InEpoch) where
 
   leaves_done : (e : Option InEpoch) (v : SiteView) → Apart v → SiteValues c (boots_in v.epoch) v → Done c o0 (leaves_of me e v)
   leaves_done None v apart h = still v apart h
-  leaves_done (Some e) v apart h = record { view = record { store = record { copies = h.store.copies; instances = tt }; users = record { waiting = tt; instances = tt }; tables = tt; pulls = tt; reports = tt }; sent = tt; apart = λ r k. refl }
+  leaves_done (Some e) v apart h = record { view = record { store = record { copies = h.store.copies; instances = tt }; users = record { waiting = tt; instances = tt; descriptors = h.users.descriptors }; tables = tt; pulls = tt; reports = tt }; sent = tt; apart = λ r k. refl }
 
   -- after a promise the site is in no epoch
   promises_done : (id : EpochId) (reach : Sites) (v : SiteView) → Apart v → SiteValues c (boots_in v.epoch) v → Done c o0 (promises me id reach v)
@@ -206,6 +207,7 @@ module _ (c : Config) (boots : List ℕ) where
   users_lifted u h = record {
     waiting = every_weaker (WaitingFits c []) (WaitingFits c boots) u.waiting (λ w k. record { process = k.process; words = k.words; answers = k.answers; asking = asking_lifted boots w.asking k.asking }) h.waiting;
     instances = every_weaker (HasOpen []) (HasOpen boots) u.instances (λ i k. absurd (nobody i.ss k.ss)) h.instances;
+    descriptors = h.descriptors;
   }
 
   pulls_lifted : (ps : List Pull) → Every (PullFits []) ps → Every (PullFits boots) ps
@@ -399,8 +401,8 @@ module _ (c : Config) (me : ℕ) (site : IsSite me) (g : Grounds c) where
   quiet_whole links o0 o s h = whole_done links o0 o quiet s h (still c me o0 o.view h.apart h.view)
 
   call_sent : (o : Option InEpoch) (v : SiteView) (process : ℕ) (words : Call) → HasBoots o → v.epoch ≡ o → processes.Fits process → fits_call c.sites words ≡ true → IsNextNamed me v → SiteValues c (boots_in o) v → AskingDone c (boots_in o) (at_users (on_call (call_frame c me v.boot o) (epoch_id o) process words) v)
-  call_sent None v process words fit here p k named h = call_done (call_frame c me v.boot None) g None process words v p (call_fits c (descriptors_of v.users process) None (own_call me v.boot (v.users.calls + 1)) words k named) h
-  call_sent (Some e) v process words fit here p k named h = call_done (frame_in c me v.boot e) g (Some e.id) process words v p (call_fits c (descriptors_of v.users process) (Some e.id) (own_call me v.boot (v.users.calls + 1)) words k named) h
+  call_sent None v process words fit here p k named h = call_done (call_frame c me v.boot None) g None process words v p (call_fits c (descriptors_of v.users process) None (own_call me v.boot (v.users.calls + 1)) words (λ fd. entries_fit c (boots_in None) v.users process fd h.users) k named) h
+  call_sent (Some e) v process words fit here p k named h = call_done (frame_in c me v.boot e) g (Some e.id) process words v p (call_fits c (descriptors_of v.users process) (Some e.id) (own_call me v.boot (v.users.calls + 1)) words (λ fd. entries_fit c (boots_in (Some e)) v.users process fd h.users) k named) h
 
   calls_done : (process : ℕ) (words : Call) (v : SiteView) → Site v → Apart v → processes.Fits process → fits_call c.sites words ≡ true → IsNextNamed me v → SiteValues c (boots_in v.epoch) v → Done c v.epoch (takes_call c me process words v)
   calls_done process words v s apart p k named h =

@@ -11,7 +11,8 @@ use Rattle.locus_ids.specs.Sizes.{inodes_max, site_inodes}
 use Rattle.wire_fields.specs.Parts.{files, files_or_new, inodes, stamps}
 use Rattle.field_codec.specs.Codec.{followed_by}
 use Rattle.wire_fields.proofs.Members.{range}
-use Rattle.wire_messages.specs.Answers.{is_new, made_answers, versions, mode_number, modes, close_answers}
+use Rattle.wire_messages.specs.declared.body.Opening.TheVariants as opening
+use Rattle.wire_messages.specs.Answers.{is_new, made_answers, versions, mode_number, modes, close_answers, openings}
 use Rattle.wire_messages.specs.declared.body.Body.TheVariants as body
 use Rattle.wire_messages.specs.declared.body.CloseAnswer.{CloseAnswer}
 use Rattle.wire_messages.specs.declared.body.CloseAnswer.TheVariants as closing
@@ -71,6 +72,14 @@ old_file file m old h = (h.0.0, ino_fits file.ino (some (file.ino == 0) refl) (r
   where
     some : (b : Bool) → (file.ino == 0) ≡ b → 1 ≤ file.ino
     some true e = absurd (let k : 5 ≤ mode_number m = subst (λ (t : Bool). (modes t).Fits m → 5 ≤ mode_number m) (sym e) (λ g. (range 5 5 (mode_number m) g.0).0) h.1 in omega (arith, k, old))
+    some false e = grind (arith, nat_tests)
+
+-- so is one that is opened to read
+pub read_file : (file : FileId) → files_or_new.Fits file → (openings (is_new file)).Fits opening.Read → files.Fits file
+read_file file h k = (h.0, ino_fits file.ino (some (file.ino == 0) refl) (range 0 inodes_max file.ino h.1.0).1)
+  where
+    some : (b : Bool) → (file.ino == 0) ≡ b → 1 ≤ file.ino
+    some true e = absurd (let low : 5 ≤ 1 = subst (λ (t : Bool). (openings t).Fits opening.Read → 5 ≤ 1) (sym e) (λ g. (range 5 5 1 g.0.0).0) k in omega (arith, low))
     some false e = grind (arith, nat_tests)
 
 -- ---- opens ----

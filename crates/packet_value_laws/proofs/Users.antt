@@ -1,13 +1,17 @@
 -- What a using site asks is of the format, where its scripts want what is of the format.
 use Rattle.std.proofs.Common.{◌≡◌, ◌≤◌, ◌<◌, ◌^◌, ℕ, ◌+◌, ◌==◌, Bool, true, false, cond, List, [], ◌∷◌, ◌++◌, Option, None, Some, is_some, refl, sym, subst, arith}
 use Rattle.std.proofs.lemmas.Bool.Decides.{nat_tests}
-use Rattle.locus_ids.specs.declared.ids.CallId.{CallId}
 use Rattle.locus_ids.specs.declared.config.Config.{Config}
 use Rattle.locus_ids.specs.declared.ids.EpochId.{EpochId}
 use Rattle.locus_ids.specs.declared.ids.FileId.{FileId}
 use Rattle.locus_ids.specs.declared.ids.Stamp.{Stamp}
 use Rattle.trace_book.specs.declared.call.Call.{Call}
 use Rattle.trace_book.specs.declared.call.Call.TheVariants as call
+use Rattle.trace_book.specs.declared.descriptor.Beginning.{Beginning}
+use Rattle.trace_book.specs.declared.descriptor.Beginning.TheVariants as begins
+use Rattle.trace_book.specs.declared.descriptor.Descriptor.{Descriptor}
+use Rattle.trace_book.specs.declared.descriptor.OneVersion.{OneVersion}
+use Rattle.call_rules.specs.Opening.{is_steady}
 use Rattle.trace_book.specs.declared.operation.Op.{Op}
 use Rattle.trace_book.specs.declared.operation.Op.TheVariants as op
 use Rattle.trace_book.specs.declared.operation.Outcome.{Outcome as Result}
@@ -32,12 +36,13 @@ use Rattle.wire_messages.specs.declared.body.LookAnswer.{LookAnswer}
 use Rattle.wire_messages.specs.declared.body.LookAnswer.TheVariants as looked
 use Rattle.wire_messages.specs.declared.body.Opening.TheVariants as how
 use Rattle.role_steps.specs.Own.{Every}
-use Rattle.role_steps.specs.Requests.{asks_open, asks_make, descriptors_of, asks, asks_close_of, asks_op_of, instance_serial, made_for, next_request, opened_serial, opening_of, request_packets, seen_by, user_instance, users_repeats, vector_in, vector_opened, waiting_key, with_user_instance, without_user_instance, without_waiting}
-use Rattle.role_steps.specs.Tables.{first_that}
-use Rattle.role_steps.specs.Using.{is_some_site, asks_close_of as asks_close_serial, asks_open_of, asks_op_number, asks_take, close_answer, is_hopeless, is_packed, accepted, after_reply, asks_want, content_answer, frees, goes_on, kept_for, looks_again, mended_file, next_want, on_call, on_close_done, on_close_done_of, on_look_done, on_look_done_of, on_op_done, on_op_done_of, on_open_done, on_open_done_of, op_answer, opened_answer, replies, takes_answer, takes_look, takes_open, with_answer, with_brought, without_hope, own_call}
+use Rattle.role_steps.specs.Requests.{descriptor_in, descriptor_key, fd_key, asks_open, asks_make, descriptors_of, asks, asks_close_of, asks_op_of, instance_serial, made_for, next_request, opened_serial, opening_of, request_packets, seen_by, user_instance, users_repeats, vector_in, vector_opened, waiting_key, with_user_instance, without_user_instance, without_waiting}
+use Rattle.role_steps.specs.Tables.{first_that, row}
+use Rattle.role_steps.specs.Using.{asked_answer, holds_again, last_version, opened_row, is_some_site, asks_close_of as asks_close_serial, asks_open_of, asks_op_number, asks_take, close_answer, is_hopeless, is_packed, accepted, after_reply, asks_want, content_answer, frees, goes_on, kept_for, looks_again, mended_file, next_want, on_call, on_close_done, on_close_done_of, on_look_done, on_look_done_of, on_op_done, on_op_done_of, on_open_done, on_open_done_of, op_answer, opened_answer, replies, takes_answer, takes_look, takes_open, with_answer, with_brought, without_hope, own_call}
 use Rattle.role_steps.specs.Views.{sync_site, Frame, Outcome, Users}
 use Rattle.role_steps.specs.declared.users.Asking.{Asking}
 use Rattle.role_steps.specs.declared.users.Asking.TheVariants as asking
+use Rattle.role_steps.specs.declared.users.DescriptorRow.{DescriptorRow}
 use Rattle.role_steps.specs.declared.users.UserInstance.{UserInstance}
 use Rattle.role_steps.specs.declared.users.WaitingCall.{WaitingCall}
 use Rattle.wire_fields.proofs.Members.{in_range}
@@ -50,7 +55,8 @@ use Rattle.wire_messages.specs.declared.body.Opening.{Opening}
 use Rattle.role_steps.proofs.Sending.{every_append}
 use Rattle.the_run.proofs.InsideSync.{Found, every_row, every_without, first_found, row_found}
 use Rattle.packet_value_laws.specs.Bodies.{FitsBut, NamesListed}
-use Rattle.packet_value_laws.specs.Values.{CallFits, PackFits, PacksFit, ScriptsFit, AnswerFits, AskingFits, HasOpen, OpFits, UsersFit, WaitingFits, WantFits}
+use Rattle.packet_value_laws.specs.Values.{CallFits, DescriptorFits, KeptFits, PackFits, PacksFit, ScriptsFit, AnswerFits, AskingFits, HasOpen, OpFits, UsersFit, WaitingFits, WantFits}
+use Rattle.packet_value_laws.proofs.Store.{read_file}
 use Rattle.packet_value_laws.proofs.Fields.{AskedFits, every_flat, ino_range, nothing_fits, one_asks, sync_asks}
 
 -- what an outcome of the using site sends and leaves is of the format
@@ -76,6 +82,18 @@ request_fits f w (asking.Close serial ss) p h = (one_asks f ss (body.Close seria
 pub users_repeats_fit : (f : Frame) (u : Users) → UsersFit f.config f.members.boot u → Every (AskedFits f.members.boot) (users_repeats f u)
 users_repeats_fit f u h = every_flat (WaitingFits f.config f.members.boot) (AskedFits f.members.boot) (λ (w : WaitingCall). request_packets f w w.asking) u.waiting (λ w k. request_fits f w w.asking k.process k.asking) h.waiting
 
+-- the descriptors of a process keep versions of files
+abbrev pub EntryFits : Option Descriptor → Type 0
+EntryFits None = Unit {0}
+EntryFits (Some d) = KeptFits d.steady
+
+in_row : (o : Option DescriptorRow) → Found DescriptorFits o → EntryFits (descriptor_in o)
+in_row None h = tt
+in_row (Some d) h = h
+
+pub entries_fit : (c : Config) (boots : List ℕ) (u : Users) (process fd : ℕ) → UsersFit c boots u → EntryFits (descriptors_of u process fd)
+entries_fit c boots u process fd h = in_row (row descriptor_key (fd_key process fd) u.descriptors) (row_found DescriptorFits descriptor_key (fd_key process fd) u.descriptors h.descriptors)
+
 -- the call as far as it doesn't say what it asks now
 pub record CallerFits (c : Config) (w : WaitingCall) : Type 0 where
   pub process : processes.Fits w.process
@@ -83,7 +101,7 @@ pub record CallerFits (c : Config) (w : WaitingCall) : Type 0 where
   pub answers : Every AnswerFits w.answers
 
 asks_fit : (f : Frame) (w : WaitingCall) (u : Users) → WaitingFits f.config f.members.boot w → UsersFit f.config f.members.boot u → UsersDone f.config f.members.boot (asks f w u)
-asks_fit f w u k h = (request_fits f w w.asking k.process k.asking, record { waiting = every_row (WaitingFits f.config f.members.boot) waiting_key w u.waiting k h.waiting; instances = h.instances })
+asks_fit f w u k h = (request_fits f w w.asking k.process k.asking, record { waiting = every_row (WaitingFits f.config f.members.boot) waiting_key w u.waiting k h.waiting; instances = h.instances; descriptors = h.descriptors })
 
 next_fits : (f : Frame) (w : WaitingCall) (a : Asking) → CallerFits f.config w → AskingFits f.members.boot a → WaitingFits f.config f.members.boot (next_request w a)
 next_fits f w a k h = record { process = k.process; words = k.words; answers = k.answers; asking = h }
@@ -104,7 +122,7 @@ mend_opens = ((in_range 1 4 4 (omega arith) (omega arith), omega arith), ((refl,
 
 open_fits : (f : Frame) (w : WaitingCall) (file : FileId) (it : Opening) (u : Users) → CallerFits f.config w → files.Fits file → (openings false).Fits it → UsersFit f.config f.members.boot u → UsersDone f.config f.members.boot (asks_open f w file it u)
 open_fits f w file it u k at it_fits h = asks_fit f (next_request w (asking.Open (u.serials + 1) file it)) (record u { serials = u.serials + 1 })
-    (next_fits f w (asking.Open (u.serials + 1) file it) k (omega arith, old_or_new file at, subst (λ (b : Bool). (openings b).Fits it) (sym (not_new file at)) it_fits)) (record { waiting = h.waiting; instances = h.instances })
+    (next_fits f w (asking.Open (u.serials + 1) file it) k (omega arith, old_or_new file at, subst (λ (b : Bool). (openings b).Fits it) (sym (not_new file at)) it_fits)) (record { waiting = h.waiting; instances = h.instances; descriptors = h.descriptors })
 
 make_kind : (k : Kind) → (u8_in 1 2).Fits (kind_number k)
 make_kind File = (refl, omega arith)
@@ -112,7 +130,7 @@ make_kind Dir = (refl, omega arith)
 
 make_fits : (f : Frame) (w : WaitingCall) (group : ℕ) (k : Kind) (set : Option Sites) (u : Users) → CallerFits f.config w → (group < 2 ^ 8) × some_set.Fits (made_for f.config group set) → UsersFit f.config f.members.boot u → UsersDone f.config f.members.boot (asks_make f w group k set u)
 make_fits f w group k set u caller at h = asks_fit f (next_request w made) (record u { serials = u.serials + 1 })
-    (next_fits f w made caller (omega arith, (at.0, (refl, omega arith)), ((refl, omega arith), ((refl, omega arith), (at.1, make_kind k))))) (record { waiting = h.waiting; instances = h.instances })
+    (next_fits f w made caller (omega arith, (at.0, (refl, omega arith)), ((refl, omega arith), ((refl, omega arith), (at.1, make_kind k))))) (record { waiting = h.waiting; instances = h.instances; descriptors = h.descriptors })
   where
     made : Asking
     made = asking.Open (u.serials + 1) (record { group = group; ino = 0 }) (how.Make (made_for f.config group set) k)
@@ -143,7 +161,7 @@ seen_fits f u answers op.Abort k h = k
 seen_fits f u answers op.Mend k h = k
 
 with_instance_fits : (c : Config) (boots : List ℕ) (i : UserInstance) (u : Users) → HasOpen boots i → UsersFit c boots u → UsersFit c boots (with_user_instance i u)
-with_instance_fits c boots i u k h = record { waiting = h.waiting; instances = every_row (HasOpen boots) instance_serial i u.instances k h.instances }
+with_instance_fits c boots i u k h = record { waiting = h.waiting; instances = every_row (HasOpen boots) instance_serial i u.instances k h.instances; descriptors = h.descriptors }
 
 op_of_fits : (f : Frame) (w : WaitingCall) (o : Op) (i : Option UserInstance) (u : Users) → CallerFits f.config w → OpFits o → Found (HasOpen f.members.boot) i → UsersFit f.config f.members.boot u → UsersDone f.config f.members.boot (asks_op_of f w o i u)
 op_of_fits f w o None u caller k found h = (tt, h)
@@ -156,21 +174,35 @@ close_of_fits f w None u caller found h = (tt, h)
 close_of_fits f w (Some i) u caller found h = asks_fit f (next_request w (asking.Close i.serial i.ss)) u (next_fits f w (asking.Close i.serial i.ss) caller (found.serial, found.ss)) h
 
 -- a reply
-with_reply_fits : (c : Config) (boots : List ℕ) (f : Frame) (w : WaitingCall) (r : Reply) (u : Users) → UsersFit c boots u → UsersFit c boots (after_reply f w r u)
-with_reply_fits c boots f w (reply.Opened fd) u h = record { waiting = h.waiting; instances = h.instances }
-with_reply_fits c boots f w (reply.No why) u h = over w.words
+last_fits : (o : Option OneVersion) (answers : List Answer) → KeptFits o → Every AnswerFits answers → KeptFits (last_version o answers)
+last_fits o [] k h = k
+last_fits o (answer.Reading inst version ∷ rest) k h = last_fits (Some version) rest h.0 h.1
+last_fits o (_ ∷ rest) k h = last_fits o rest k h.1
+
+again_fits : (c : Config) (boots : List ℕ) (f : Frame) (w : WaitingCall) (b : Beginning) (words : Call) (u : Users) → CallFits c words b → UsersFit c boots u → UsersFit c boots (holds_again f w b words u)
+again_fits c boots f w (begins.Reopens version last) (call.Read fd at len) u k h = record { waiting = h.waiting; instances = h.instances; descriptors = every_row DescriptorFits descriptor_key (opened_row f w fd (Some version)) u.descriptors k.1 h.descriptors }
+again_fits c boots f w _ words u k h = h
+
+with_reply_fits : (c : Config) (boots : List ℕ) (f : Frame) (w : WaitingCall) (r : Reply) (u : Users) → CallerFits c w → UsersFit c boots u → UsersFit c boots (after_reply f w r u)
+with_reply_fits c boots f w (reply.Opened fd) u k h = record { waiting = h.waiting; instances = h.instances; descriptors = every_row DescriptorFits descriptor_key (opened_row f w fd (cond (is_steady w.words) (last_version None w.answers) None)) u.descriptors (steady (is_steady w.words)) h.descriptors }
+  where
+    steady : (b : Bool) → KeptFits (cond b (last_version None w.answers) None)
+    steady true = last_fits None w.answers tt k.answers
+    steady false = tt
+with_reply_fits c boots f w (reply.No why) u k h = over w.words
   where
     by_hope : (file : FileId) (b : Bool) → UsersFit c boots (cond b (record u { hopeless = u.hopeless ++ file ∷ [] }) u)
-    by_hope file true = record { waiting = h.waiting; instances = h.instances }
+    by_hope file true = record { waiting = h.waiting; instances = h.instances; descriptors = h.descriptors }
     by_hope file false = h
 
     over : (words : Call) → UsersFit c boots (without_hope words why u)
     over (call.Mend file) = by_hope file (is_hopeless why)
     over _ = h
-with_reply_fits c boots f w _ u h = h
+with_reply_fits c boots f w (reply.Data bytes) u k h = again_fits c boots f w w.begins w.words u k.words h
+with_reply_fits c boots f w _ u k h = h
 
-replies_fit : (f : Frame) (w : WaitingCall) (r : Reply) (u : Users) → UsersFit f.config f.members.boot u → UsersDone f.config f.members.boot (replies f w r u)
-replies_fit f w r u h = (tt, with_reply_fits f.config f.members.boot f w r (without_waiting w u) (record { waiting = every_without (WaitingFits f.config f.members.boot) waiting_key (waiting_key w) u.waiting h.waiting; instances = h.instances }))
+replies_fit : (f : Frame) (w : WaitingCall) (r : Reply) (u : Users) → CallerFits f.config w → UsersFit f.config f.members.boot u → UsersDone f.config f.members.boot (replies f w r u)
+replies_fit f w r u k h = (tt, with_reply_fits f.config f.members.boot f w r (without_waiting w u) k (record { waiting = every_without (WaitingFits f.config f.members.boot) waiting_key (waiting_key w) u.waiting h.waiting; instances = h.instances; descriptors = h.descriptors }))
 
 asks_want_fits : (f : Frame) (w : WaitingCall) (x : Want) (u : Users) → CallerFits f.config w → WantFits f.config x → UsersFit f.config f.members.boot u → UsersDone f.config f.members.boot (asks_want f w x u)
 asks_want_fits f w (want.Look file what) u caller k h = asks_fit f (next_request w (asking.Look file what 1)) u (next_fits f w (asking.Look file what 1) caller k) h
@@ -179,7 +211,7 @@ asks_want_fits f w (want.OpenToMend file) u caller k h = open_fits f w file how.
 asks_want_fits f w (want.Make group kind sites) u caller k h = make_fits f w group kind sites u caller k h
 asks_want_fits f w (want.Do inst o) u caller k h = op_of_fits f w o (user_instance u inst.serial) u caller k (found_instance f u inst.serial h) h
 asks_want_fits f w (want.Close inst) u caller k h = close_of_fits f w (user_instance u inst.serial) u caller (found_instance f u inst.serial h) h
-asks_want_fits f w (want.Give r) u caller k h = replies_fit f w r u h
+asks_want_fits f w (want.Give r) u caller k h = replies_fit f w r u caller h
 asks_want_fits f w want.Never u caller k h = (tt, h)
 
 module _ (f : Frame) (scripts : ScriptsFit f.config) (packs : PacksFit f.config) where
@@ -189,13 +221,13 @@ module _ (f : Frame) (scripts : ScriptsFit f.config) (packs : PacksFit f.config)
   -- ---- calls ----
 
   frees_fit : (process : ℕ) (words : Call) (u : Users) → UsersFit f.config f.members.boot u → UsersFit f.config f.members.boot (frees process words u)
-  frees_fit process (call.Close fd) u h = record { waiting = h.waiting; instances = h.instances }
+  frees_fit process (call.Close fd) u h = record { waiting = h.waiting; instances = h.instances; descriptors = every_without DescriptorFits descriptor_key (fd_key process fd) u.descriptors h.descriptors }
   frees_fit process _ u h = h
 
   pub on_call_fits : (now : Option EpochId) (process : ℕ) (words : Call) (u : Users) → processes.Fits process → CallFits f.config words (beginning (descriptors_of u process) now (own_call f.me f.boot (u.calls + 1)) words) → UsersFit f.config f.members.boot u → UsersDone f.config f.members.boot (on_call f now process words u)
   on_call_fits now process words u p k h =
       goes_on_fits (accepted process (u.calls + 1) words (beginning (descriptors_of u process) now (own_call f.me f.boot (u.calls + 1)) words)) (frees process words (record u { calls = u.calls + 1 })) (record { process = p; words = k; answers = tt })
-      (frees_fit process words (record u { calls = u.calls + 1 }) (record { waiting = h.waiting; instances = h.instances }))
+      (frees_fit process words (record u { calls = u.calls + 1 }) (record { waiting = h.waiting; instances = h.instances; descriptors = h.descriptors }))
 
   -- ---- answers ----
 
@@ -205,9 +237,13 @@ module _ (f : Frame) (scripts : ScriptsFit f.config) (packs : PacksFit f.config)
   caller_of : (w : WaitingCall) → WaitingFits f.config f.members.boot w → CallerFits f.config w
   caller_of w k = record { process = k.process; words = k.words; answers = k.answers }
 
-  opened_fits : (serial ino : ℕ) (kept : List Stamp) (words : Call) → inodes.Fits ino → Every stamps.Fits kept → AnswerFits (opened_answer f serial ino kept words)
-  opened_fits serial ino kept (call.Mend file) k ss = ss
-  opened_fits serial ino kept _ k ss = k
+  asked_fits : (serial ino : ℕ) (stamp : Stamp) (a : Asking) → AskingFits f.members.boot a → inodes.Fits ino → AnswerFits (asked_answer f serial ino stamp a)
+  asked_fits serial ino stamp (asking.Open s file how.Read) k i = read_file file k.1 k.2
+  asked_fits serial ino stamp _ k i = i
+
+  opened_fits : (serial ino : ℕ) (stamp : Stamp) (kept : List Stamp) (words : Call) (a : Asking) → AskingFits f.members.boot a → inodes.Fits ino → Every stamps.Fits kept → AnswerFits (opened_answer f serial ino stamp kept words a)
+  opened_fits serial ino stamp kept (call.Mend file) a asked k ss = ss
+  opened_fits serial ino stamp kept _ a asked k ss = asked_fits serial ino stamp a asked k
 
   kept_for_fits : (kept : FileId → List Stamp) (o : Option FileId) → ((file : FileId) → Every stamps.Fits (kept file)) → Every stamps.Fits (kept_for kept o)
   kept_for_fits kept None h = tt
@@ -215,8 +251,8 @@ module _ (f : Frame) (scripts : ScriptsFit f.config) (packs : PacksFit f.config)
 
   takes_open_fits : (kept : FileId → List Stamp) (serial : ℕ) (w : WaitingCall) (a : Granted) (u : Users) → ((file : FileId) → Every stamps.Fits (kept file)) → FitsBut (body.OpenDone serial a) → NamesListed f.members.boot (body.OpenDone serial a) → WaitingFits f.config f.members.boot w → UsersFit f.config f.members.boot u → UsersDone f.config f.members.boot (takes_open f kept serial w a u)
   takes_open_fits kept serial w (granted.Open ss ino size stamp vector) u ks k listed waits h =
-      answered w (opened_answer f serial ino (kept_for kept (mended_file w.words)) w.words) (with_user_instance (record { serial = serial; ss = ss; vector = vector; ops = 0 }) u) (caller_of w waits)
-      (opened_fits serial ino (kept_for kept (mended_file w.words)) w.words k.1.1.0 (kept_for_fits kept (mended_file w.words) ks))
+      answered w (opened_answer f serial ino stamp (kept_for kept (mended_file w.words)) w.words w.asking) (with_user_instance (record { serial = serial; ss = ss; vector = vector; ops = 0 }) u) (caller_of w waits)
+      (opened_fits serial ino stamp (kept_for kept (mended_file w.words)) w.words w.asking waits.asking k.1.1.0 (kept_for_fits kept (mended_file w.words) ks))
       (with_instance_fits f.config f.members.boot (record { serial = serial; ss = ss; vector = vector; ops = 0 }) u (record { serial = k.0; ss = listed; vector = k.1.1.1.1.1 }) h)
   takes_open_fits kept serial w (granted.No why) u ks k listed waits h = answered w (answer.Refused why) u (caller_of w waits) tt h
 
@@ -248,7 +284,7 @@ module _ (f : Frame) (scripts : ScriptsFit f.config) (packs : PacksFit f.config)
 
   on_close_done_of_fits : (serial : ℕ) (a : CloseAnswer) (o : Option WaitingCall) (u : Users) → Found (WaitingFits f.config f.members.boot) o → UsersFit f.config f.members.boot u → UsersDone f.config f.members.boot (on_close_done_of f serial a o u)
   on_close_done_of_fits serial a None u found h = (tt, h)
-  on_close_done_of_fits serial a (Some w) u found h = answered w (close_answer a) (without_user_instance serial u) (caller_of w found) (close_answer_fits a) (record { waiting = h.waiting; instances = every_without (HasOpen f.members.boot) instance_serial serial u.instances h.instances })
+  on_close_done_of_fits serial a (Some w) u found h = answered w (close_answer a) (without_user_instance serial u) (caller_of w found) (close_answer_fits a) (record { waiting = h.waiting; instances = every_without (HasOpen f.members.boot) instance_serial serial u.instances h.instances; descriptors = h.descriptors })
 
   pub on_close_done_fits : (serial : ℕ) (a : CloseAnswer) (u : Users) → UsersFit f.config f.members.boot u → UsersDone f.config f.members.boot (on_close_done f serial a u)
   on_close_done_fits serial a u h = on_close_done_of_fits serial a (first_that (asks_close_serial serial) u.waiting) u (first_found (WaitingFits f.config f.members.boot) (asks_close_serial serial) u.waiting h.waiting) h

@@ -13,6 +13,7 @@ use Rattle.trace_book.specs.declared.operation.Op.{Op}
 use Rattle.trace_book.specs.declared.operation.Op.TheVariants as op
 use Rattle.trace_book.specs.declared.operation.Outcome.{Outcome as Result}
 use Rattle.trace_book.specs.declared.operation.Outcome.TheVariants as result
+use Rattle.trace_book.specs.declared.descriptor.OneVersion.{OneVersion}
 use Rattle.trace_book.specs.declared.descriptor.Beginning.{Beginning}
 use Rattle.trace_book.specs.declared.descriptor.Beginning.TheVariants as begins
 use Rattle.schedule_lines.specs.Ranges.{fits_call}
@@ -59,6 +60,7 @@ use Rattle.role_steps.specs.declared.synchronizing.VersionRow.{VersionRow}
 use Rattle.role_steps.specs.declared.users.Asking.{Asking}
 use Rattle.role_steps.specs.declared.users.Asking.TheVariants as asking
 use Rattle.role_steps.specs.declared.users.UserInstance.{UserInstance}
+use Rattle.role_steps.specs.declared.users.DescriptorRow.{DescriptorRow}
 use Rattle.role_steps.specs.declared.users.WaitingCall.{WaitingCall}
 use Rattle.packet_value_laws.specs.Bodies.{IsNamed, FitsBut, IsListed, NamesListed}
 
@@ -129,6 +131,7 @@ pub record StoreFits (boots : List ℕ) (s : Store) : Type 0 where
 abbrev pub CallFits : Config → Call → Beginning → Type 0
 CallFits c (call.Mend file) b = files.Fits file
 CallFits c (call.Write fd at bytes) (begins.Uses e inst) = (1 ≤ length bytes) × (length bytes ≤ 4096) × (at + length bytes ≤ file_bytes_max)
+CallFits c (call.Read fd at len) (begins.Reopens kept last) = (fits_call c.sites (call.Read fd at len) ≡ true) × files.Fits kept.file
 CallFits c (call.Mail path bytes) (begins.Walks id) = (fits_call c.sites (call.Mail path bytes) ≡ true) × (is_name (message_name id) ≡ true)
 CallFits c words b = fits_call c.sites words ≡ true
 
@@ -136,6 +139,7 @@ CallFits c words b = fits_call c.sites words ≡ true
 abbrev pub AnswerFits : Answer → Type 0
 AnswerFits (answer.Entered ino kind) = inodes.Fits ino
 AnswerFits (answer.Opened inst ino) = inodes.Fits ino
+AnswerFits (answer.Reading inst version) = files.Fits version.file
 AnswerFits (answer.Merging inst kept) = Every stamps.Fits kept
 AnswerFits (answer.Did (result.Found ino kind)) = inodes.Fits ino
 AnswerFits _ = Unit {0}
@@ -183,9 +187,18 @@ pub record HasOpen (boots : List ℕ) (i : UserInstance) : Type 0 where
   pub ss : IsListed boots i.ss
   pub vector : vectors.Fits i.vector
 
+-- the version that a steady descriptor keeps is of a file
+abbrev pub KeptFits : Option OneVersion → Type 0
+KeptFits None = Unit {0}
+KeptFits (Some version) = files.Fits version.file
+
+abbrev pub DescriptorFits : DescriptorRow → Type 0
+DescriptorFits d = KeptFits d.descriptor.steady
+
 pub record UsersFit (c : Config) (boots : List ℕ) (u : Users) : Type 0 where
   pub waiting : Every (WaitingFits c boots) u.waiting
   pub instances : Every (HasOpen boots) u.instances
+  pub descriptors : Every DescriptorFits u.descriptors
 
 -- the names that a directory shows are components
 abbrev pub ShownFit : Type 0

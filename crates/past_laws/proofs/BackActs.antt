@@ -39,11 +39,11 @@ use Rattle.promises.specs.Rows.{is_asked, is_synced, may_follow}
 use Rattle.promises.specs.Same.{same_op, same_request}
 use Rattle.promises.specs.Tree as new
 use Rattle.past_laws.specs.Agreement.{Agrees, instance_of}
-use Rattle.past_laws.specs.Standing.{CallStands, HasTurn, InstanceStands}
+use Rattle.past_laws.specs.Standing.{CallStands, HasTurn, InstanceStands, is_use}
 use Rattle.past_laws.proofs.BackOpens.{asks_back, call_in}
 use Rattle.past_laws.proofs.CallsAsks.{is_request}
 use Rattle.past_laws.proofs.CallsLists.{each_found}
-use Rattle.past_laws.proofs.CallsOwners.{EpochAt, epoch_stands}
+use Rattle.past_laws.proofs.CallsOwners.{EpochAt, acts_as, epoch_stands}
 use Rattle.past_laws.proofs.Names.{both, both_parts, call_eq, call_own, false_true, number_eq, serial_eq}
 use Rattle.past_laws.proofs.RowsServed.{synced_as}
 use Rattle.past_laws.proofs.TreesAt.{id_at}
@@ -217,9 +217,9 @@ back_act c before p e i n o result a silent groups h = record {
     inst_is = serial_eq it.one.grant.inst i (found_passes (is_named i) u.opened it.one it.found)
 
     owned : call_of_act before e i n ≡ Some by.call.id
-    owned = ap (λ j. call_of_act before e j n) (sym inst_is) ∙ owner_back before p.calls e it.one st (use_number (uses_of before e it.one.grant.inst) n) by.call (is_on by.call.begins e it.one.grant.inst && (not (is_close by.call.words) && (by.call.turn == n)))
-        ((each_found (HasTurn before e it.one.grant.inst) (is_id by.call.id) p.calls by.call by.found st.turns).0 n) (inl quiet)
-        (ap (λ z. acts z it.one n by.call) (sym (id_at p e)) ∙ by.which_so)
+    owned = ap (λ j. call_of_act before e j n) (sym inst_is) ∙ owner_back before p.calls e it.one st (use_number (uses_of before e it.one.grant.inst) n) by.call (is_use e it.one n by.call)
+        ((each_found (HasTurn before e it.one) (is_id by.call.id) p.calls by.call by.found st.turns).0 n) (inl quiet)
+        (sym (acts_as e it.one n by.call) ∙ (ap (λ z. acts z it.one n by.call) (sym (id_at p e)) ∙ by.which_so))
 
 -- Releases.
 

@@ -6,7 +6,6 @@ use Rattle.locus_ids.specs.declared.config.Mount.{Mount}
 use Rattle.locus_ids.specs.declared.ids.FileId.{FileId}
 use Rattle.locus_ids.specs.declared.ids.Kind.{Kind}
 use Rattle.locus_ids.specs.declared.ids.Kind.TheVariants.{Dir, File}
-use Rattle.locus_ids.specs.declared.ids.Serial.{Serial}
 use Rattle.locus_ids.specs.declared.refusal.Refusal.TheVariants.{BadName, NoStorage}
 use Rattle.trace_book.specs.declared.call.Call.{Call}
 use Rattle.trace_book.specs.declared.call.Call.TheVariants as call
@@ -29,6 +28,19 @@ use Rattle.past_laws.proofs.CallsAsks.{is_request, packed_request}
 use Rattle.past_laws.proofs.CallsFree.{opened_open}
 use Rattle.past_laws.proofs.Names.{false_true}
 
+-- an open is answered so that is granted
+abbrev pub Opens : Answer → Type 0
+Opens (answer.Opened inst ino) = Unit {0}
+Opens (answer.Reading inst version) = Unit {0}
+Opens _ = ⊥
+
+opened_no : (how : OpenMode) (free : Option ℕ) (file : FileId) (a : Answer) → Opens a → is_request (opens_file how free file File (a ∷ [])) ≡ true → ⊥
+opened_no how None file (answer.Opened inst ino) h e = false_true e
+opened_no how (Some fd) file (answer.Opened inst ino) h e = false_true e
+opened_no how None file (answer.Reading inst version) h e = false_true e
+opened_no how (Some fd) file (answer.Reading inst version) h e = false_true e
+opened_no how free file _ h e = absurd h
+
 -- The walk of an open is there, and its open was granted.
 
 pub record IsOpened (mounts : List Mount) (words : Call) (xs : List Answer) : Type 0 where
@@ -36,25 +48,23 @@ pub record IsOpened (mounts : List Mount) (words : Call) (xs : List Answer) : Ty
   pub how : OpenMode
   pub is : words ≡ call.Open path how
   pub file : FileId
-  pub inst : Serial
-  pub ino : ℕ
-  pub there : walk mounts (components path) [] (root_of 0) Dir xs ≡ There file File (answer.Opened inst ino ∷ [])
+  pub last : Answer
+  pub opens : Opens last
+  pub there : walk mounts (components path) [] (root_of 0) Dir xs ≡ There file File (last ∷ [])
 
 -- it asks nothing
 pub opened_silent : (mounts : List Mount) (q : ℕ → Bool) (free : Option ℕ) (words : Call) (b : Beginning) (xs : List Answer) → IsOpened mounts words xs → is_request (wants mounts q free words b xs) ≡ true → ⊥
 opened_silent mounts q free words b xs k h = at (packed_request q (named_wants mounts free words b xs) h)
   where
-    of_file : (o : Option ℕ) → is_request (opens_file k.how o k.file File (answer.Opened k.inst k.ino ∷ [])) ≡ true → ⊥
-    of_file None e = false_true e
-    of_file (Some fd) e = false_true e
-
     by_walk : is_request (walked mounts (components k.path) xs (opens_file k.how free)) ≡ true → ⊥
-    by_walk e = of_file free (rw k.there at e)
+    by_walk e = opened_no k.how free k.file k.last k.opens (rw k.there at e)
 
     by_words : (x : Beginning) → is_request (begun_wants mounts free (call.Open k.path k.how) x xs) ≡ true → ⊥
     by_words (begins.Denied why) e = false_true e
     by_words (begins.Uses at inst) e = false_true e
     by_words (begins.Walks id) e = by_walk e
+    by_words (begins.Reopens kept last) e = false_true e
+    by_words begins.Frees e = false_true e
 
     by_name : (x : Bool) → is_request (cond x (want.Give (reply.No BadName)) (begun_wants mounts free (call.Open k.path k.how) b xs)) ≡ true → ⊥
     by_name true e = false_true e
@@ -102,7 +112,7 @@ pub no_look : (mounts : List Mount) (q : ℕ → Bool) (free : Option ℕ) (word
 no_look mounts q free words b xs n k l f w h = by_name (is_badly_named mounts (call.Open k.path k.how)) (ap (λ z. where_packed q (named_wants mounts free z b (take n xs))) (sym k.is) ∙ h)
   where
     init : walk mounts (components k.path) [] (root_of 0) Dir (take n xs) ≡ There k.file File []
-    init = walk_init mounts (components k.path) [] (root_of 0) Dir xs n k.file File (answer.Opened k.inst k.ino) k.there l
+    init = walk_init mounts (components k.path) [] (root_of 0) Dir xs n k.file File k.last k.there l
 
     of_open : (x : Bool) → cond x (want.Open k.file k.how) (want.Give (reply.No NoStorage)) ≡ want.Look f w → ⊥
     of_open true e = cc
@@ -112,6 +122,8 @@ no_look mounts q free words b xs n k l f w h = by_name (is_badly_named mounts (c
     by_begin (begins.Denied why) e = cc
     by_begin (begins.Uses at inst) e = cc
     by_begin (begins.Walks id) e = of_open (q k.file.group) (rw init at e)
+    by_begin (begins.Reopens kept last) e = cc
+    by_begin begins.Frees e = cc
 
     by_name : (x : Bool) → where_packed q (cond x (want.Give (reply.No BadName)) (begun_wants mounts free (call.Open k.path k.how) b (take n xs))) ≡ want.Look f w → ⊥
     by_name true e = cc
@@ -129,7 +141,10 @@ opened_is mounts q free (call.Open path how) b xs fd h = by_name (is_badly_named
         packed : (x : Bool) → cond x (want.Open file how) (want.Give (reply.No NoStorage)) ≡ want.Give (reply.Opened fd) → IsOpened mounts (call.Open path how) xs
         packed true k = absurd (cc)
         packed false k = absurd (cc)
-    ends file File (answer.Opened i ino ∷ []) o e j = record { path = path; how = how; is = refl; file = file; inst = i; ino = ino; there = j }
+    ends file File (answer.Opened i ino ∷ []) o e j = record { path = path; how = how; is = refl; file = file; last = answer.Opened i ino; opens = tt; there = j }
+    ends file File (answer.Reading i version ∷ []) o e j = record { path = path; how = how; is = refl; file = file; last = answer.Reading i version; opens = tt; there = j }
+    ends file File (answer.Reading i version ∷ y ∷ ys) None e j = absurd (cc)
+    ends file File (answer.Reading i version ∷ y ∷ ys) (Some n) e j = absurd (cc)
     ends file File (answer.Refused why ∷ []) None e j = absurd (cc)
     ends file File (answer.Refused why ∷ []) (Some n) e j = absurd (cc)
     ends file File (answer.Opened i ino ∷ y ∷ ys) None e j = absurd (cc)
@@ -157,6 +172,8 @@ opened_is mounts q free (call.Open path how) b xs fd h = by_name (is_badly_named
     by_begin (begins.Denied why) e = absurd (cc)
     by_begin (begins.Uses at inst) e = absurd (cc)
     by_begin (begins.Walks id) e = by_walk (walk mounts (components path) [] (root_of 0) Dir xs) refl e
+    by_begin (begins.Reopens kept last) e = absurd (cc)
+    by_begin begins.Frees e = absurd (cc)
 
     by_name : (x : Bool) → where_packed q (cond x (want.Give (reply.No BadName)) (begun_wants mounts free (call.Open path how) b xs)) ≡ want.Give (reply.Opened fd) → IsOpened mounts (call.Open path how) xs
     by_name true e = absurd (cc)

@@ -14,19 +14,21 @@ use Rattle.past_laws.proofs.Names.{none_some}
 use Rattle.past_laws.proofs.CallsGranted.{With}
 use Rattle.past_laws.proofs.CallsDescribed.{users_step, users_none}
 use Rattle.past_laws.proofs.CallsFields.{named_step, once_step, begun_step, unheard_step, granted_step, waits_step, stand_step}
+use Rattle.past_laws.proofs.CallsUngranted.{ungranted_step}
 use Rattle.past_laws.proofs.CallsOpened.{opened_stand}
 use Rattle.past_laws.proofs.CallsAccepts.{accepts_stand}
 use Rattle.past_laws.proofs.CallsAnswers.{answers_step}
 use Rattle.past_laws.proofs.CallsFree.{free_step}
 
-instances_step : (c : Config) (n : ℕ) (w : Record) (before : Trace) (p : Past) → MayCome c before w → Agrees c before p → AllByRecursion (EpochStands (With n w before) (told_by c w p).calls) (told_by c w p).epochs
-instances_step c n (says.Accept s process new words) before p may a = accepts_stand c n s process new words before p may a
-instances_step c n w before p may a = opened_stand c n w before p tt may a
+instances_step : (c : Config) (n : ℕ) (w : Record) (before : Trace) (p : Past) → MayCome c before w → SaysGiven c before w → Agrees c before p → AllByRecursion (EpochStands (With n w before) (told_by c w p).calls) (told_by c w p).epochs
+instances_step c n (says.Accept s process new words) before p may given a = accepts_stand c n s process new words before p may a
+instances_step c n w before p may given a = opened_stand c n w before p tt may given a
 
 pub calls_step : (c : Config) (n : ℕ) (w : Record) (before : Trace) (p : Past) → MayCome c before w → SaysGiven c before w → Agrees c before p → CallsAgree c (With n w before) (after c w p)
 calls_step c n w before p may given a = record {
   named = named_step c n w before p may a;
   once = once_step c n w before p may a;
+  ungranted = ungranted_step c n w before p may a;
   begun = begun_step c n w before p may a;
   unheard = unheard_step c n w before may a.calls.unheard;
   granted = granted_step c n w before p may a;
@@ -35,7 +37,7 @@ calls_step c n w before p may given a = record {
   free = free_step c n w before p may given a;
   users = users_step c n w before may a.calls.users;
   stand = stand_step c n w before p may a;
-  instances = instances_step c n w before p may a;
+  instances = instances_step c n w before p may given a;
 }
 
 -- before the first record
@@ -43,6 +45,7 @@ pub calls_none : (c : Config) → CallsAgree c [] (nothing_yet c)
 calls_none c = record {
   named = λ id. refl;
   once = λ id. omega arith;
+  ungranted = λ id e i h. refl;
   begun = λ id. refl;
   unheard = λ id h. (refl, refl);
   granted = λ k h. none_some k h;

@@ -1,10 +1,9 @@
 -- What stands of the open instances when a call is accepted.
-use Rattle.std.proofs.Common.{◌≡◌, ℕ, suc, ◌+◌, ◌≤◌, ◌==◌, Bool, true, false, not, cond, ◌&&◌, [], ◌∷◌, length, filter, Option, Some, None, refl, sym, ◌∙◌, ap, subst, arith, ◌⊎◌, inl, inr}
+use Rattle.std.proofs.Common.{◌≡◌, ℕ, suc, ◌+◌, ◌≤◌, ◌==◌, Bool, true, false, not, cond, ◌&&◌, List, [], ◌∷◌, length, filter, Option, Some, None, refl, sym, ◌∙◌, ap, subst, arith, ◌⊎◌, inl, inr}
 use Rattle.std.specs.List.{AllByRecursion}
 use Rattle.locus_ids.specs.declared.config.Config.{Config}
 use Rattle.locus_ids.specs.declared.ids.CallId.{CallId}
 use Rattle.locus_ids.specs.declared.ids.EpochId.{EpochId}
-use Rattle.locus_ids.specs.declared.ids.Serial.{Serial}
 use Rattle.trace_book.specs.Same.{same_call}
 use Rattle.trace_book.specs.declared.call.Call.{Call}
 use Rattle.trace_book.specs.declared.descriptor.Descriptor.{Descriptor}
@@ -16,7 +15,7 @@ use Rattle.lawful_trace.specs.Tables.{begins_now, descriptor, uses_by, uses_of, 
 use Rattle.promises.specs.Past.{Past, Epoch, Instance, CallSoFar, is_on, is_close, is_named, site_at}
 use Rattle.promises.specs.After.{change, told_by, uses}
 use Rattle.past_laws.specs.Agreement.{Agrees}
-use Rattle.past_laws.specs.Standing.{CallStands, HasTurn, InstanceStands, EpochStands}
+use Rattle.past_laws.specs.Standing.{CallStands, HasTurn, InstanceStands, EpochStands, is_use}
 use Rattle.past_laws.proofs.Names.{false_true, call_turned, epoch_test}
 use Rattle.past_laws.proofs.CallsLists.{each_both, each_mapped, many_changed}
 use Rattle.past_laws.proofs.CallsGranted.{With}
@@ -31,19 +30,28 @@ accept_opens : (before : Trace) (s process : ℕ) (new : CallId) (words : Call) 
 accept_opens before s process new words t q fd d o = cc (o.opens)
 
 -- an older call keeps its turn
-turn_old : (c : Config) (before : Trace) (p : Past) (s process : ℕ) (new : CallId) (words : Call) (n : ℕ) → Accepts c before p s process new words → (e : EpochId) (i : Serial) (k : CallSoFar) → CallStands before k → HasTurn before e i k → HasTurn (With n (says.Accept s process new words) before) e i k
-turn_old c before p s process new words n a e i k st h m = over (not (is_close words) && uses_by (begins_now before s process new words) e i)
+turn_old : (c : Config) (before : Trace) (p : Past) (s process : ℕ) (new : CallId) (words : Call) (n : ℕ) → Accepts c before p s process new words → (e : EpochId) (x : Instance) (k : CallSoFar) → CallStands before k → HasTurn before e x k → HasTurn (With n (says.Accept s process new words) before) e x k
+turn_old c before p s process new words n a e x k st h m = over (not (is_close words) && uses_by (begins_now before s process new words) e x.grant.inst)
   where
     apart : same_call new k.id ≡ false
     apart = call_turned new k.id ∙ new_apart c before p s process new words a k.id st.low
 
-    last : (b : Bool) → (m == suc (length (uses_of before e i))) ≡ b → is_call (use_number (uses_of before e i) m) k.id ≡ is_call (cond b (Some new) (use_number (uses_of before e i) m)) k.id
-    last true t = last_free (uses_of before e i) m k.id t ∙ sym apart
+    last : (b : Bool) → (m == suc (length (uses_of before e x.grant.inst))) ≡ b → is_call (use_number (uses_of before e x.grant.inst) m) k.id ≡ is_call (cond b (Some new) (use_number (uses_of before e x.grant.inst) m)) k.id
+    last true t = last_free (uses_of before e x.grant.inst) m k.id t ∙ sym apart
     last false t = refl
 
-    over : (b : Bool) → (is_on k.begins e i && (not (is_close k.words) && (k.turn == m))) ≡ is_call (use_number (cond b (new ∷ uses_of before e i) (uses_of before e i)) m) k.id
-    over true = h m ∙ last (m == suc (length (uses_of before e i))) refl
+    over : (b : Bool) → is_use e x m k ≡ is_call (use_number (cond b (new ∷ uses_of before e x.grant.inst) (uses_of before e x.grant.inst)) m) k.id
+    over true = h m ∙ last (m == suc (length (uses_of before e x.grant.inst))) refl
     over false = h m
+
+-- what is the first use stays it
+first_stays : (xs : List CallId) (new d : CallId) (b : Bool) → is_call (use_number xs 1) d ≡ true → is_call (use_number (cond b (new ∷ xs) xs) 1) d ≡ true
+first_stays xs new d false h = h
+first_stays xs new d true h = at (1 == suc (length xs)) refl
+  where
+    at : (b : Bool) → (1 == suc (length xs)) ≡ b → is_call (cond b (Some new) (use_number xs 1)) d ≡ true
+    at true t = false_true (sym (last_free xs 1 d t) ∙ h)
+    at false t = h
 
 -- whom the call uses a descriptor names
 used_named : {A : Type 0} (c : Config) (before : Trace) (p : Past) (s process : ℕ) (id : CallId) (words : Call) (e : EpochId) (x : Instance) → InstanceStands before p.calls e x → x.named ≡ false → uses_by (begins_now before s process id words) e x.grant.inst ≡ true → A
@@ -56,16 +64,17 @@ once_used k e x = cond (uses k.begins k.words e x) (record x { uses = x.uses + 1
 
 accept_stands : (c : Config) (before : Trace) (p : Past) (s process : ℕ) (new : CallId) (words : Call) (n : ℕ) → Accepts c before p s process new words → (e : EpochId) (x : Instance)
     → (uses (accepted_call p s process new words).begins words e x ≡ true → (accepted_call p s process new words).turn ≡ x.uses + 1) → InstanceStands before p.calls e x
-    → (y : Instance) → x.grant ≡ y.grant → x.named ≡ y.named → y.uses ≡ length (uses_of (With n (says.Accept s process new words) before) e x.grant.inst)
-    → InstanceStands (With n (says.Accept s process new words) before) (accepted_call p s process new words ∷ p.calls) e y
-accept_stands c before p s process new words n a e x turn st y same_grant same_named now = subst (λ (g : _). InstanceStands (With n (says.Accept s process new words) before) (accepted_call p s process new words ∷ p.calls) e (record y { grant = g })) same_grant (record {
+    → (often : ℕ) → often ≡ length (uses_of (With n (says.Accept s process new words) before) e x.grant.inst)
+    → InstanceStands (With n (says.Accept s process new words) before) (accepted_call p s process new words ∷ p.calls) e (record x { uses = often })
+accept_stands c before p s process new words n a e x turn st often now = record {
   granted = st.granted;
   uses = now;
-  named = λ h. st.named (same_named ∙ h);
-  unnamed = λ h. (let k = st.unnamed (same_named ∙ h) in record { unused = unused (same_named ∙ h) (not (is_close words)) (uses_by (begins_now before s process new words) e x.grant.inst) refl k.unused; unclosed = unclosed (same_named ∙ h) (is_close words) (uses_by (begins_now before s process new words) e x.grant.inst) refl k.unclosed });
-  undescribed = λ h t q fd d stands is_e is_i. undescribed (same_named ∙ h) t q fd d is_e is_i (described n (says.Accept s process new words) before t q fd d stands);
-  turns = (turn_new c before p s process new words n a e x st.uses turn, each_both (CallStands before) (HasTurn before e x.grant.inst) (HasTurn (With n (says.Accept s process new words) before) e x.grant.inst) (λ k. turn_old c before p s process new words n a e x.grant.inst k) p.calls a.agree.calls.stand st.turns);
-})
+  first = λ h. first_stays (uses_of before e x.grant.inst) new x.grant.call (not (is_close words) && uses_by (begins_now before s process new words) e x.grant.inst) (st.first h);
+  named = st.named;
+  unnamed = λ h. (let k = st.unnamed h in record { unused = unused h (not (is_close words)) (uses_by (begins_now before s process new words) e x.grant.inst) refl k.unused; unclosed = unclosed h (is_close words) (uses_by (begins_now before s process new words) e x.grant.inst) refl k.unclosed });
+  undescribed = λ h t q fd d stands is_e is_i. undescribed h t q fd d is_e is_i (described n (says.Accept s process new words) before t q fd d stands);
+  turns = (turn_new c before p s process new words n a e x st turn, each_both (CallStands before) (HasTurn before e x) (HasTurn (With n (says.Accept s process new words) before) e x) (λ k. turn_old c before p s process new words n a e x k) p.calls a.agree.calls.stand st.turns);
+}
   where
     unused : x.named ≡ false → (u v : Bool) → uses_by (begins_now before s process new words) e x.grant.inst ≡ v → uses_of before e x.grant.inst ≡ [] → cond (u && v) (new ∷ uses_of before e x.grant.inst) (uses_of before e x.grant.inst) ≡ []
     unused h true true q k = used_named c before p s process new words e x st h q
@@ -120,11 +129,11 @@ epoch_accepts c before p s process new words n a t turns st true inside = record
     one x k turn = over (uses (accepted_call p s process new words).begins words t.id x) refl
       where
         over : (b : Bool) → uses (accepted_call p s process new words).begins words t.id x ≡ b → InstanceStands (With n (says.Accept s process new words) before) (accepted_call p s process new words ∷ p.calls) t.id (cond b (record x { uses = x.uses + 1 }) x)
-        over true h = accept_stands c before p s process new words n a t.id x turn k (record x { uses = x.uses + 1 }) refl refl (used_more c before p s process new words n a t.id x k true h)
-        over false h = accept_stands c before p s process new words n a t.id x turn k x refl refl (used_more c before p s process new words n a t.id x k false h)
+        over true h = accept_stands c before p s process new words n a t.id x turn k (x.uses + 1) (used_more c before p s process new words n a t.id x k true h)
+        over false h = accept_stands c before p s process new words n a t.id x turn k x.uses (used_more c before p s process new words n a t.id x k false h)
 epoch_accepts c before p s process new words n a t turns st false outside = record {
   instances = each_both (InstanceStands before p.calls t.id) (λ (x : Instance). uses (accepted_call p s process new words).begins words t.id x ≡ true → (accepted_call p s process new words).turn ≡ x.uses + 1)
-      (InstanceStands (With n (says.Accept s process new words) before) (accepted_call p s process new words ∷ p.calls) t.id) (λ x k turn. accept_stands c before p s process new words n a t.id x turn k x refl refl (used_more c before p s process new words n a t.id x k false (not_used x))) t.opened st.instances turns;
+      (InstanceStands (With n (says.Accept s process new words) before) (accepted_call p s process new words ∷ p.calls) t.id) (λ x k turn. accept_stands c before p s process new words n a t.id x turn k x.uses (used_more c before p s process new words n a t.id x k false (not_used x))) t.opened st.instances turns;
   single = st.single;
 }
   where

@@ -1,5 +1,5 @@
 -- What the requests of a call were answered, by both.
-use Rattle.std.proofs.Common.{◌≡◌, ℕ, Bool, true, false, cond, List, [], ◌∷◌, ◌++◌, Option, Some, refl, sym, ◌∙◌, ap}
+use Rattle.std.proofs.Common.{◌≡◌, ℕ, Bool, true, false, cond, List, [], ◌∷◌, ◌++◌, Option, Some, None, refl, sym, ◌∙◌, ap}
 use Rattle.std.specs.Prelude.{fold, take, ◌-◌}
 use Rattle.std.specs.List.{find}
 use Rattle.locus_ids.specs.declared.config.Config.{Config}
@@ -11,8 +11,10 @@ use Rattle.locus_ids.specs.declared.ids.Stamp.{Stamp}
 use Rattle.trace_book.specs.Same.{same_call}
 use Rattle.trace_book.specs.declared.record.Record.{Record}
 use Rattle.trace_book.specs.declared.record.Record.TheVariants as says
+use Rattle.call_rules.specs.Opening.{is_steady}
 use Rattle.call_rules.specs.declared.answer.Answer.{Answer}
 use Rattle.call_rules.specs.declared.answer.Answer.TheVariants.{Refused}
+use Rattle.tree_model.specs.Calls.{version_at}
 use Rattle.tree_model.specs.Folds.{Trace}
 use Rattle.tree_model.specs.State.{instance_in}
 use Rattle.tree_model.specs.Tree.{tree_of, kept_in as kept_by}
@@ -81,8 +83,8 @@ answers_step c n (says.Accept s process new words) before p may a k found = over
     over false e q = a.calls.answers k q
 answers_step c n (says.Look e id request f w result) before p may a k found = changed_answers c before p a (is_id id) (same_call id) (λ (x : CallSoFar). record x { answers = take (request - 1) x.answers ++ look_answer p f w result ∷ [] })
     (λ old. take (request - 1) old ++ look_answer p f w result ∷ []) (λ old. take (request - 1) old ++ answer_by c before f w result ∷ []) (λ d x. refl) (λ x. refl) (λ x own. by_id id x) (λ old. ap (λ (y : Answer). take (request - 1) old ++ y ∷ []) (look_same c before p e id request f w result may a)) k found
-answers_step c n (says.Grant e id request i m f stamp ss) before p may a k found = changed_answers c before p a (is_id id) (same_call id) (λ (x : CallSoFar). record x { granted = Some (record { mode = m; epoch = e; inst = i }); answers = x.answers ++ granted_answer m i f (kept_in p (epoch_at p e) f) ∷ [] })
-    (λ old. old ++ granted_answer m i f (kept_in p (epoch_at p e) f) ∷ []) (λ old. old ++ granted_answer m i f (kept_by c before e f) ∷ []) (λ d x. refl) (λ x. refl) (λ x own. by_id id x) (λ old. ap (λ (ss : List Stamp). old ++ granted_answer m i f ss ∷ []) (kept_same c before p a e f)) k found
+answers_step c n (says.Grant e id request i m f stamp ss) before p may a k found = changed_answers c before p a (is_id id) (same_call id) (λ (x : CallSoFar). record x { granted = Some (record { mode = m; epoch = e; inst = i; steady = cond (is_steady x.words) (version_at f stamp) None }); answers = x.answers ++ granted_answer m i f stamp (kept_in p (epoch_at p e) f) ∷ [] })
+    (λ old. old ++ granted_answer m i f stamp (kept_in p (epoch_at p e) f) ∷ []) (λ old. old ++ granted_answer m i f stamp (kept_by c before e f) ∷ []) (λ d x. refl) (λ x. refl) (λ x own. by_id id x) (λ old. ap (λ (ss : List Stamp). old ++ granted_answer m i f stamp ss ∷ []) (kept_same c before p a e f)) k found
 answers_step c n (says.Refuse e id request i m f why) before p may a k found = changed_answers c before p a (is_id id) (same_call id) (λ (x : CallSoFar). record x { answers = x.answers ++ Refused why ∷ [] })
     (λ old. old ++ Refused why ∷ []) (λ old. old ++ Refused why ∷ []) (λ d x. refl) (λ x. refl) (λ x own. by_id id x) (λ old. refl) k found
 answers_step c n (says.Act e i m o result) before p may a k found = changed_answers c before p a (is_actor (epoch_at p e) i m) (is_call (call_of_act before e i m)) (λ (x : CallSoFar). record x { answers = x.answers ++ outcome_answer result ∷ [] })

@@ -18,7 +18,7 @@ use Rattle.trace_book.specs.declared.call.Call.{Call}
 use Rattle.trace_book.specs.declared.call.Call.TheVariants as call
 use Rattle.trace_book.specs.declared.call.OpenMode.{OpenMode}
 use Rattle.trace_book.specs.declared.descriptor.Beginning.{Beginning}
-use Rattle.trace_book.specs.declared.descriptor.Beginning.TheVariants.{Denied, Uses, Walks}
+use Rattle.trace_book.specs.declared.descriptor.Beginning.TheVariants.{Denied, Uses, Walks, Reopens, Frees}
 use Rattle.trace_book.specs.declared.reply.Reply.TheVariants as reply
 use Rattle.call_rules.specs.declared.answer.Answer.{Answer}
 use Rattle.call_rules.specs.declared.answer.Answer.TheVariants as answer
@@ -127,6 +127,9 @@ opens_same how a b file File [] r = refl
 opens_same how (Some fd) b file File (answer.Opened i ino ∷ []) r = false_true r
 opens_same how None b file File (answer.Opened i ino ∷ []) r = false_true r
 opens_same how a b file File (answer.Opened i ino ∷ x ∷ xs) r = false_true r
+opens_same how (Some fd) b file File (answer.Reading i version ∷ []) r = false_true r
+opens_same how None b file File (answer.Reading i version ∷ []) r = false_true r
+opens_same how a b file File (answer.Reading i version ∷ x ∷ xs) r = false_true r
 opens_same how a b file File (answer.Refused why ∷ []) r = false_true r
 opens_same how a b file File (answer.Refused why ∷ x ∷ xs) r = false_true r
 opens_same how a b file File (_ ∷ xs) r = false_true r
@@ -148,6 +151,8 @@ begun_same : (mounts : List Mount) (a b : Option ℕ) (words : Call) (begins : B
 begun_same mounts a b words (Denied why) xs = λ r. refl
 begun_same mounts a b words (Uses epoch inst) xs = λ r. refl
 begun_same mounts a b words (Walks id) xs = path_same mounts a b id words xs
+begun_same mounts a b words (Reopens kept last) xs = λ r. refl
+begun_same mounts a b words Frees xs = λ r. refl
 
 named_same : (mounts : List Mount) (a b : Option ℕ) (words : Call) (begins : Beginning) (xs : List Answer) → AsksSame (named_wants mounts a words begins xs) (named_wants mounts b words begins xs)
 named_same mounts a b words begins xs = over (is_badly_named mounts words)
@@ -173,6 +178,8 @@ begun_other : (mounts : List Mount) (a b : Option ℕ) (words : Call) (begins : 
 begun_other mounts a b words (Denied why) xs h = refl
 begun_other mounts a b words (Uses epoch inst) xs h = refl
 begun_other mounts a b words (Walks id) xs h = path_other mounts a b id words xs h
+begun_other mounts a b words (Reopens kept last) xs h = refl
+begun_other mounts a b words Frees xs h = refl
 
 pub other_same : (mounts : List Mount) (q : ℕ → Bool) (a b : Option ℕ) (words : Call) (begins : Beginning) (xs : List Answer) → is_open words ≡ false → wants mounts q a words begins xs ≡ wants mounts q b words begins xs
 other_same mounts q a b words begins xs h = ap (λ (w : Want). where_packed q (cond (is_badly_named mounts words) (want.Give (reply.No BadName)) w)) (begun_other mounts a b words begins xs h)

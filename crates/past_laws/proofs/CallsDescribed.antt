@@ -1,5 +1,6 @@
 -- What descriptors stand for with each record that may come, and that who isn't named by one isn't used.
 use Rattle.std.proofs.Common.{◌≡◌, ℕ, ◌==◌, Bool, true, false, not, cond, ◌&&◌, ◌||◌, [], ◌∷◌, Option, Some, None, refl, sym, ◌∙◌, ap, subst, arith, ◌⊎◌, inl, inr}
+use Rattle.std.specs.Option.{option_map}
 use Rattle.locus_ids.specs.declared.config.Config.{Config}
 use Rattle.locus_ids.specs.declared.ids.CallId.{CallId}
 use Rattle.locus_ids.specs.declared.ids.EpochId.{EpochId}
@@ -8,17 +9,19 @@ use Rattle.trace_book.specs.Same.{same_call, same_epoch, same_serial}
 use Rattle.trace_book.specs.declared.call.Call.{Call}
 use Rattle.trace_book.specs.declared.call.Call.TheVariants as call
 use Rattle.trace_book.specs.declared.descriptor.Descriptor.{Descriptor}
+use Rattle.trace_book.specs.declared.descriptor.OneVersion.{OneVersion}
 use Rattle.trace_book.specs.declared.record.Record.{Record}
 use Rattle.trace_book.specs.declared.record.Record.TheVariants as says
 use Rattle.trace_book.specs.declared.reply.Reply.{Reply}
 use Rattle.trace_book.specs.declared.reply.Reply.TheVariants as reply
-use Rattle.tree_model.specs.Calls.{granted_to, opening_of}
+use Rattle.tree_model.specs.declared.accepted.Waiting.{Waiting}
+use Rattle.tree_model.specs.Calls.{call_named, granted_to, opening_of, version_of}
 use Rattle.tree_model.specs.Epochs.{epoch_of}
 use Rattle.tree_model.specs.Folds.{Trace}
 use Rattle.lawful_trace.specs.Lawful.{MayCome}
-use Rattle.lawful_trace.specs.Tables.{begins_now, closed_by, opened_by, descriptor, is_close, uses_by, uses_of, close_of, has_named}
+use Rattle.lawful_trace.specs.Tables.{begins_now, closed_by, held_again, is_opening, is_read_of, kept_by, opened_as, opened_by, descriptor, is_close, reads_by, uses_by, uses_of, close_of, has_named}
 use Rattle.past_laws.specs.Standing.{IsUntouched, StandsFor, UsersStand}
-use Rattle.past_laws.proofs.Names.{false_true, none_some, some_same, number_eq, number_own, call_eq, call_own, epoch_own, serial_own}
+use Rattle.past_laws.proofs.Names.{both_parts, false_true, none_some, some_same, number_eq, number_own, call_eq, call_own, epoch_eq, epoch_own, serial_eq, serial_own}
 use Rattle.past_laws.proofs.CallsGranted.{With, granted_stays}
 use Rattle.past_laws.proofs.CallsUsing.{ClosesNumber, FromDescriptor, uses_from, uses_is}
 use Rattle.past_laws.proofs.CallsUsers.{named_more, unnamed_before, answers, low_step, low_named_step, low_uses_step, low_close_step, waits_step, alone_step}
@@ -29,7 +32,7 @@ opening_step : (c : Config) (n : ℕ) (r : Record) (before : Trace) → MayCome 
 opening_step c n (says.Grant at call request inst m f stamp ss) before may u d x h = over (same_call call d) refl h
   where
     it : Descriptor
-    it = record { mode = m; epoch = at; inst = inst }
+    it = record { mode = m; epoch = at; inst = inst; steady = None }
 
     own : cond (same_epoch at at && same_serial inst inst) (Some call) (granted_to before at inst) ≡ Some call
     own = ap (λ (b : Bool). cond (b && same_serial inst inst) (Some call) (granted_to before at inst)) (epoch_own at) ∙ ap (λ (b : Bool). cond b (Some call) (granted_to before at inst)) (serial_own inst)
@@ -41,11 +44,22 @@ opening_step c n _ before may u d x h = u.opening d x h
 
 -- ---- where a descriptor comes from ----
 
--- the record is the reply that makes it
+-- by this number a reply to the call makes a descriptor stand for what was granted to the call
+abbrev pub Numbers : Trace → CallId → Reply → ℕ → Type 0
+Numbers before d (reply.Opened n) fd = n ≡ fd
+Numbers before d (reply.Data bytes) fd = reads_by (call_named before d) fd ≡ true
+Numbers before d _ fd = ⊥
+
+-- the record is the reply that makes it: an open's, or a read's that has opened a version again
 pub record IsOpenedBy (before : Trace) (r : Record) (s q fd : ℕ) (x : Descriptor) : Type 0 where
   pub call : CallId
-  pub opens : r ≡ says.Answer s q call (reply.Opened fd)
-  pub opening : opening_of before call ≡ Some x
+  pub reply : Reply
+  pub opens : r ≡ says.Answer s q call reply
+  pub numbers : Numbers before call reply fd
+  pub opening : Descriptor
+  pub opened : opening_of before call ≡ Some opening
+  pub epoch_is : opening.epoch ≡ x.epoch
+  pub inst_is : opening.inst ≡ x.inst
 
 closed_left : (words : Call) (fd : ℕ) (old : Option Descriptor) (x : Descriptor) → closed_by words fd old ≡ Some x → old ≡ Some x
 closed_left (call.Close n) fd old x h = over (n == fd) h
@@ -55,13 +69,28 @@ closed_left (call.Close n) fd old x h = over (n == fd) h
     over false k = k
 closed_left _ fd old x h = h
 
-opened_left : (r : Reply) (fd : ℕ) (opening old : Option Descriptor) (x : Descriptor) (P : Type 0) → (r ≡ reply.Opened fd → opening ≡ Some x → P) → (old ≡ Some x → P) → opened_by r fd opening old ≡ Some x → P
-opened_left (reply.Opened n) fd opening old x P new was h = over (n == fd) refl h
+-- what was granted to the call, with another version that is kept
+steady_left : (before : Trace) (d : CallId) (x : Descriptor) (P : Type 0) (kept : Option OneVersion) → ((o : Descriptor) → opening_of before d ≡ Some o → o.epoch ≡ x.epoch → o.inst ≡ x.inst → P) → (o : Option Descriptor) → opening_of before d ≡ o → option_map (λ (y : Descriptor). record y { steady = kept }) o ≡ Some x → P
+steady_left before d x P kept new None e h = none_some x h
+steady_left before d x P kept new (Some o) e h = (let same : ◌≡◌ {A = Descriptor} (record o { steady = kept }) x = some_same (record o { steady = kept }) x h in new o e (ap (λ (y : Descriptor). y.epoch) same) (ap (λ (y : Descriptor). y.inst) same))
+
+again_left : (before : Trace) (d : CallId) (x : Descriptor) (P : Type 0) → ((o : Descriptor) → opening_of before d ≡ Some o → o.epoch ≡ x.epoch → o.inst ≡ x.inst → P) → (old : Option Descriptor) → (old ≡ Some x → P) → (o : Option Descriptor) → opening_of before d ≡ o → held_again o old ≡ Some x → P
+again_left before d x P new old was None e h = was h
+again_left before d x P new None was (Some o) e h = none_some x h
+again_left before d x P new (Some y) was (Some o) e h = (let same : ◌≡◌ {A = Descriptor} (record o { steady = y.steady }) x = some_same (record o { steady = y.steady }) x h in new o e (ap (λ (z : Descriptor). z.epoch) same) (ap (λ (z : Descriptor). z.inst) same))
+
+opened_left : (before : Trace) (d : CallId) (r : Reply) (fd : ℕ) (old : Option Descriptor) (x : Descriptor) (P : Type 0) → (Numbers before d r fd → (o : Descriptor) → opening_of before d ≡ Some o → o.epoch ≡ x.epoch → o.inst ≡ x.inst → P) → (old ≡ Some x → P) → opened_by r before d fd old ≡ Some x → P
+opened_left before d (reply.Opened n) fd old x P new was h = over (n == fd) refl h
   where
-    over : (b : Bool) → (n == fd) ≡ b → cond b opening old ≡ Some x → P
-    over true e k = new (ap reply.Opened (number_eq n fd e)) k
+    over : (b : Bool) → (n == fd) ≡ b → cond b (opened_as before d) old ≡ Some x → P
+    over true e k = steady_left before d x P (kept_by (call_named before d) (version_of before d)) (new (number_eq n fd e)) (opening_of before d) refl k
     over false e k = was k
-opened_left _ fd opening old x P new was h = was h
+opened_left before d (reply.Data bytes) fd old x P new was h = over (reads_by (call_named before d) fd) refl h
+  where
+    over : (b : Bool) → reads_by (call_named before d) fd ≡ b → cond b (held_again (opening_of before d) old) old ≡ Some x → P
+    over true e k = again_left before d x P (new e) old was (opening_of before d) refl k
+    over false e k = was k
+opened_left before d _ fd old x P new was h = was h
 
 same_answer : (s t q r : ℕ) (d : CallId) (a b : Reply) → s ≡ t → q ≡ r → a ≡ b → says.Answer s q d a ≡ says.Answer t r d b
 same_answer s t q r d a b e f g = λ i. says.Answer (e i) (f i) d (g i)
@@ -79,9 +108,9 @@ described n (says.Stopped s cause) before site user fd x h = inl (over (s == sit
     over false o = o
 described n (says.Answer s process d r) before site user fd x h = over (s == site) (process == user) refl refl h
   where
-    over : (a b : Bool) → (s == site) ≡ a → (process == user) ≡ b → cond (a && b) (opened_by r fd (opening_of before d) (descriptor before site user fd)) (descriptor before site user fd) ≡ Some x → (descriptor before site user fd ≡ Some x) ⊎ IsOpenedBy before (says.Answer s process d r) site user fd x
-    over true true p q o = opened_left r fd (opening_of before d) (descriptor before site user fd) x ((descriptor before site user fd ≡ Some x) ⊎ IsOpenedBy before (says.Answer s process d r) site user fd x)
-        (λ e k. inr (record { call = d; opens = same_answer s site process user d r (reply.Opened fd) (number_eq s site p) (number_eq process user q) e; opening = k })) (λ k. inl k) o
+    over : (a b : Bool) → (s == site) ≡ a → (process == user) ≡ b → cond (a && b) (opened_by r before d fd (descriptor before site user fd)) (descriptor before site user fd) ≡ Some x → (descriptor before site user fd ≡ Some x) ⊎ IsOpenedBy before (says.Answer s process d r) site user fd x
+    over true true p q o = opened_left before d r fd (descriptor before site user fd) x ((descriptor before site user fd ≡ Some x) ⊎ IsOpenedBy before (says.Answer s process d r) site user fd x)
+        (λ g y k e f. inr (record { call = d; reply = r; opens = same_answer s site process user d r r (number_eq s site p) (number_eq process user q) refl; numbers = g; opening = y; opened = k; epoch_is = e; inst_is = f })) (λ k. inl k) o
     over true false p q o = inl o
     over false b p q o = inl o
 described n _ before site user fd x h = inl h
@@ -100,20 +129,26 @@ closed_none n s process new _ before site user fd m x close number e f g h = fal
 
 -- ---- what it stands for ----
 
--- the call is answered by a descriptor
-opens_named : (n s q fd : ℕ) (d : CallId) (before : Trace) → has_named (With n (says.Answer s q d (reply.Opened fd)) before) d ≡ true
-opens_named n s q fd d before = ap (λ (b : Bool). b && true || has_named before d) (call_own d)
+-- the call is answered by a descriptor, or by what one read that it holds again
+named_it : (n s q fd : ℕ) (d : CallId) (r : Reply) (before : Trace) → Numbers before d r fd → has_named (With n (says.Answer s q d r) before) d ≡ true
+named_it n s q fd d (reply.Opened m) before h = ap (λ (b : Bool). b && true || has_named before d) (call_own d)
+named_it n s q fd d (reply.Data bytes) before h = ap (λ (b : Bool). b && true || has_named before d) (call_own d)
+named_it n s q fd d _ before h = absurd h
+
+-- what it stands for was granted to the call
+opened_granted : (before : Trace) (r : Record) → UsersStand before → (s q fd : ℕ) (x : Descriptor) → (o : IsOpenedBy before r s q fd x) → granted_to before x.epoch x.inst ≡ Some o.call
+opened_granted before r u s q fd x o = ap (λ (z : EpochId). granted_to before z x.inst) (sym o.epoch_is) ∙ (ap (granted_to before o.opening.epoch) (sym o.inst_is) ∙ u.opening o.call o.opening o.opened)
 
 -- a new descriptor stands for what was granted to the call last, which none has named
 new_stands : (c : Config) (n : ℕ) (r : Record) (before : Trace) → MayCome c before r → UsersStand before → (s q fd : ℕ) (x : Descriptor) → IsOpenedBy before r s q fd x → StandsFor (With n r before) x
 new_stands c n r before may u s q fd x o = subst (λ (y : Record). StandsFor (With n y before) x) (sym o.opens) (at (subst (MayCome c before) o.opens may))
   where
-    at : MayCome c before (says.Answer s q o.call (reply.Opened fd)) → StandsFor (With n (says.Answer s q o.call (reply.Opened fd)) before) x
-    at k = (let granted : granted_to before x.epoch x.inst ≡ Some o.call = u.opening o.call x o.opening in
-        let a = answers c before s q o.call (reply.Opened fd) k u in record {
+    at : MayCome c before (says.Answer s q o.call o.reply) → StandsFor (With n (says.Answer s q o.call o.reply) before) x
+    at k = (let granted : granted_to before x.epoch x.inst ≡ Some o.call = opened_granted before r u s q fd x o in
+        let a = answers c before s q o.call o.reply k u in record {
           call = o.call;
           granted = granted;
-          named = opens_named n s q fd o.call before;
+          named = named_it n s q fd o.call o.reply before o.numbers;
           unclosed = (u.untouched x.epoch x.inst (λ d e. ap (has_named before) (some_same d o.call (sym e ∙ granted)) ∙ a.unnamed)).unclosed;
         })
 
@@ -144,8 +179,8 @@ stands_step c n r before may u site process fd x h = over (described n r before 
 -- a call that is answered now was answered by no descriptor before
 new_old : {A : Type 0} (c : Config) (r : Record) (before : Trace) → MayCome c before r → UsersStand before → (s q n t o m : ℕ) (x y : Descriptor) → IsOpenedBy before r s q n x → descriptor before t o m ≡ Some y → x.epoch ≡ y.epoch → x.inst ≡ y.inst → A
 new_old c r before may u s q n t o m x y new was e f = (let k = u.stands t o m y was in
-    let granted : granted_to before x.epoch x.inst ≡ Some new.call = u.opening new.call x new.opening in
-    let a = answers c before s q new.call (reply.Opened n) (subst (MayCome c before) new.opens may) u in
+    let granted : granted_to before x.epoch x.inst ≡ Some new.call = opened_granted before r u s q n x new in
+    let a = answers c before s q new.call new.reply (subst (MayCome c before) new.opens may) u in
     false_true (sym a.unnamed ∙ (ap (has_named before) (some_same new.call k.call (sym granted ∙ (ap (λ (z : EpochId). granted_to before z x.inst) e ∙ (ap (granted_to before y.epoch) f ∙ k.granted)))) ∙ k.named)))
 
 pub answer_call : (s t q r : ℕ) (d g : CallId) (a b : Reply) → says.Answer s q d a ≡ says.Answer t r g b → d ≡ g
@@ -160,8 +195,19 @@ answer_site s t q r d g a b e = cc
 answer_process : (s t q r : ℕ) (d g : CallId) (a b : Reply) → says.Answer s q d a ≡ says.Answer t r g b → q ≡ r
 answer_process s t q r d g a b e = cc
 
-answer_number : (s t q r n m : ℕ) (d g : CallId) → says.Answer s q d (reply.Opened n) ≡ says.Answer t r g (reply.Opened m) → n ≡ m
-answer_number s t q r n m d g e = cc
+-- a reply has one number
+one_number : (before : Trace) (d : CallId) (a : Reply) (n m : ℕ) → Numbers before d a n → Numbers before d a m → n ≡ m
+one_number before d (reply.Opened k) n m h g = sym h ∙ g
+one_number before d (reply.Data bytes) n m h g = by_call (call_named before d) h g
+  where
+    by_words : (w : Call) → is_read_of w n ≡ true → is_read_of w m ≡ true → n ≡ m
+    by_words (call.Read k at len) h g = sym (number_eq k n h) ∙ number_eq k m g
+    by_words _ h g = false_true h
+
+    by_call : (o : Option Waiting) → reads_by o n ≡ true → reads_by o m ≡ true → n ≡ m
+    by_call None h g = false_true h
+    by_call (Some w) h g = by_words w.words h g
+one_number before d _ n m h g = absurd h
 
 single_step : (c : Config) (number : ℕ) (rec : Record) (before : Trace) → MayCome c before rec → UsersStand before → (s q n t r m : ℕ) (x y : Descriptor) → descriptor (With number rec before) s q n ≡ Some x → descriptor (With number rec before) t r m ≡ Some y → x.epoch ≡ y.epoch → x.inst ≡ y.inst
     → (s ≡ t) × (q ≡ r) × (n ≡ m)
@@ -171,13 +217,29 @@ single_step c number rec before may u s q n t r m x y h k e f = over (described 
     over (inl a) (inl b) = u.single s q n t r m x y a b e f
     over (inl a) (inr b) = new_old c rec before may u t r m s q n y x b a (sym e) (sym f)
     over (inr a) (inl b) = new_old c rec before may u s q n t r m x y a b e f
-    over (inr a) (inr b) = (let same : says.Answer s q a.call (reply.Opened n) ≡ says.Answer t r b.call (reply.Opened m) = sym a.opens ∙ b.opens in
-        (answer_site s t q r a.call b.call (reply.Opened n) (reply.Opened m) same, answer_process s t q r a.call b.call (reply.Opened n) (reply.Opened m) same, answer_number s t q r n m a.call b.call same))
+    over (inr a) (inr b) = (let same : says.Answer s q a.call a.reply ≡ says.Answer t r b.call b.reply = sym a.opens ∙ b.opens in (
+      answer_site s t q r a.call b.call a.reply b.reply same,
+      answer_process s t q r a.call b.call a.reply b.reply same,
+      one_number before a.call a.reply n m a.numbers
+          (subst (λ (z : Reply). Numbers before a.call z m) (sym (answer_reply s t q r a.call b.call a.reply b.reply same))
+          (subst (λ (z : CallId). Numbers before z b.reply m) (sym (answer_call s t q r a.call b.call a.reply b.reply same)) b.numbers)),
+    ))
 
 -- ---- who isn't named isn't used ----
 
+-- what was granted last is this instance
+pub record IsOpening (o : Option Descriptor) (e : EpochId) (i : Serial) : Type 0 where
+  pub opening : Descriptor
+  pub found : o ≡ Some opening
+  pub epoch_is : opening.epoch ≡ e
+  pub inst_is : opening.inst ≡ i
+
+pub opening_is : (o : Option Descriptor) (e : EpochId) (i : Serial) → is_opening o e i ≡ true → IsOpening o e i
+opening_is None e i h = false_true h
+opening_is (Some x) e i h = (let both = both_parts (same_epoch x.epoch e) (same_serial x.inst i) h in record { opening = x; found = refl; epoch_is = epoch_eq x.epoch e both.0; inst_is = serial_eq x.inst i both.1 })
+
 untouched_step : (c : Config) (n : ℕ) (r : Record) (before : Trace) → MayCome c before r → UsersStand before → (e : EpochId) (i : Serial) → ((d : CallId) → granted_to (With n r before) e i ≡ Some d → has_named (With n r before) d ≡ false) → IsUntouched (With n r before) e i
-untouched_step c n r before may u e i h = more r may old
+untouched_step c n r before may u e i h = more r may h old
   where
     unnamed : (d : CallId) → granted_to before e i ≡ Some d → has_named before d ≡ false
     unnamed d g = unnamed_before n r before d (h d (granted_stays c n r before e i d may g))
@@ -190,8 +252,8 @@ untouched_step c n r before may u e i h = more r may old
         let k = u.stands s process f.fd f.stands f.found in
         false_true (sym (unnamed k.call (ap (λ (z : EpochId). granted_to before z i) (sym f.epoch_is) ∙ (ap (granted_to before f.stands.epoch) (sym f.serial_is) ∙ k.granted))) ∙ k.named))
 
-    more : (y : Record) → MayCome c before y → IsUntouched before e i → IsUntouched (With n y before) e i
-    more (says.Accept s process new words) may k = record { unused = unused (not (is_close words)) (uses_by (begins_now before s process new words) e i) refl; unclosed = unclosed (is_close words) (uses_by (begins_now before s process new words) e i) refl }
+    more : (y : Record) → MayCome c before y → ((d : CallId) → granted_to (With n y before) e i ≡ Some d → has_named (With n y before) d ≡ false) → IsUntouched before e i → IsUntouched (With n y before) e i
+    more (says.Accept s process new words) may h k = record { unused = unused (not (is_close words)) (uses_by (begins_now before s process new words) e i) refl; unclosed = unclosed (is_close words) (uses_by (begins_now before s process new words) e i) refl }
       where
         unused : (a b : Bool) → uses_by (begins_now before s process new words) e i ≡ b → cond (a && b) (new ∷ uses_of before e i) (uses_of before e i) ≡ []
         unused true true q = clash s process new words q
@@ -202,7 +264,19 @@ untouched_step c n r before may u e i h = more r may old
         unclosed true true q = clash s process new words q
         unclosed true false q = k.unclosed
         unclosed false b q = k.unclosed
-    more _ may k = record { unused = k.unused; unclosed = k.unclosed }
+    more (says.Answer s process d (reply.Data bytes)) may h k = record { unused = unused (is_opening (opening_of before d) e i) refl; unclosed = k.unclosed }
+      where
+        named : has_named (With n (says.Answer s process d (reply.Data bytes)) before) d ≡ true
+        named = ap (λ (b : Bool). b && true || has_named before d) (call_own d)
+
+        clashes : {A : Type 0} → is_opening (opening_of before d) e i ≡ true → A
+        clashes q = (let o = opening_is (opening_of before d) e i q in
+            false_true (sym (h d (ap (λ (z : EpochId). granted_to before z i) (sym o.epoch_is) ∙ (ap (granted_to before o.opening.epoch) (sym o.inst_is) ∙ u.opening d o.opening o.found))) ∙ named))
+
+        unused : (b : Bool) → is_opening (opening_of before d) e i ≡ b → cond b (d ∷ uses_of before e i) (uses_of before e i) ≡ []
+        unused true q = clashes q
+        unused false q = k.unused
+    more _ may h k = record { unused = k.unused; unclosed = k.unclosed }
 
 -- ---- all of it ----
 

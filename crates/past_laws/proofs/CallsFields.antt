@@ -11,12 +11,15 @@ use Rattle.trace_book.specs.Same.{same_call}
 use Rattle.trace_book.specs.declared.call.Call.{Call}
 use Rattle.trace_book.specs.declared.descriptor.Beginning.{Beginning}
 use Rattle.trace_book.specs.declared.descriptor.Descriptor.{Descriptor}
+use Rattle.trace_book.specs.declared.descriptor.OneVersion.{OneVersion}
 use Rattle.trace_book.specs.declared.record.Record.{Record}
 use Rattle.trace_book.specs.declared.record.Record.TheVariants as says
 use Rattle.trace_book.specs.declared.reply.Reply.{Reply}
+use Rattle.trace_book.specs.declared.reply.Reply.TheVariants as reply
 use Rattle.call_rules.specs.Descriptors.{beginning}
+use Rattle.call_rules.specs.Opening.{is_steady}
 use Rattle.tree_model.specs.declared.accepted.Waiting.{Waiting}
-use Rattle.tree_model.specs.Calls.{call_named, accepted_as, waiting, opening_of}
+use Rattle.tree_model.specs.Calls.{call_named, accepted_as, waiting, opening_of, version_at, version_of}
 use Rattle.tree_model.specs.Epochs.{epoch_of}
 use Rattle.tree_model.specs.Folds.{Trace}
 use Rattle.lawful_trace.specs.CallRows.{next_call, is_this}
@@ -24,7 +27,7 @@ use Rattle.lawful_trace.specs.Lawful.{MayCome}
 use Rattle.tree_model.specs.State.{instance_in}
 use Rattle.tree_model.specs.Tree.{tree_of}
 use Rattle.lawful_trace.specs.Progress.{answers, granted_answer, outcome_answer, close_answer}
-use Rattle.lawful_trace.specs.Tables.{begins_now, begun, descriptor, uses_by, uses_of, close_of, is_call, call_of_act, call_of_release}
+use Rattle.lawful_trace.specs.Tables.{begins_now, begun, descriptor, is_opening, kept_by, opened_as, uses_by, uses_of, close_of, is_call, call_of_act, call_of_release}
 use Rattle.promises.specs.Past.{Past, CallSoFar, is_on, is_close, site_at, epoch_at, kept_in, table}
 use Rattle.promises.specs.After.{is_id, told_by, change, begun_call, replied_to}
 use Rattle.past_laws.specs.Agreement.{Agrees, waiting_as}
@@ -138,24 +141,31 @@ unheard_step c n _ before may old d h = old d h
 
 -- ---- what was granted to them ----
 
-pub granted_step : (c : Config) (n : ℕ) (w : Record) (before : Trace) (p : Past) → MayCome c before w → Agrees c before p → (k : CallSoFar) → find (is_id k.id) (told_by c w p).calls ≡ Some k → k.granted ≡ opening_of (With n w before) k.id
+pub granted_step : (c : Config) (n : ℕ) (w : Record) (before : Trace) (p : Past) → MayCome c before w → Agrees c before p → (k : CallSoFar) → find (is_id k.id) (told_by c w p).calls ≡ Some k → k.granted ≡ opened_as (With n w before) k.id
 granted_step c n (says.Accept s process new words) before p may a k h = over (same_call new k.id) refl h
   where
     none : same_call new k.id ≡ true → opening_of before k.id ≡ None
     none e = ap (opening_of before) (sym (call_eq new k.id e)) ∙ (a.calls.unheard new (new_none before s new a.calls.users (numbered c before s process new words may))).0
 
-    over : (b : Bool) → same_call new k.id ≡ b → cond b (Some (accepted_call p s process new words)) (find (is_id k.id) p.calls) ≡ Some k → k.granted ≡ opening_of before k.id
-    over true e q = ap (λ (x : CallSoFar). x.granted) (sym (some_same (accepted_call p s process new words) k q)) ∙ sym (none e)
+    as_now : Option Waiting → Option Descriptor → Option Descriptor
+    as_now w = option_map (λ (d : Descriptor). record d { steady = kept_by w (version_of before k.id) })
+
+    over : (b : Bool) → same_call new k.id ≡ b → cond b (Some (accepted_call p s process new words)) (find (is_id k.id) p.calls) ≡ Some k → k.granted ≡ as_now (cond b (Some (accepted_as before s process new words)) (call_named before k.id)) (opening_of before k.id)
+    over true e q = ap (λ (x : CallSoFar). x.granted) (sym (some_same (accepted_call p s process new words) k q)) ∙ ap (as_now (Some (accepted_as before s process new words))) (sym (none e))
     over false e q = a.calls.granted k q
 granted_step c n (says.Grant e id request i m f stamp ss) before p may a k h = at (was_found (is_id k.id) (is_id id) grants (λ x. refl) p.calls k h)
   where
-    it : Descriptor
-    it = record { mode = m; epoch = e; inst = i }
+    it : Option OneVersion → Descriptor
+    it kept = record { mode = m; epoch = e; inst = i; steady = kept }
 
     grants : CallSoFar → CallSoFar
-    grants x = record x { granted = Some it; answers = x.answers ++ granted_answer m i f (kept_in p (epoch_at p e) f) ∷ [] }
+    grants x = record x { granted = Some (it (cond (is_steady x.words) (version_at f stamp) None)); answers = x.answers ++ granted_answer m i f stamp (kept_in p (epoch_at p e) f) ∷ [] }
 
-    at : WasFound (is_id k.id) (is_id id) grants p.calls k → k.granted ≡ cond (same_call id k.id) (Some it) (opening_of before k.id)
+    -- by whether it is this call that is granted it
+    as_now : Bool → Option Descriptor
+    as_now b = option_map (λ (d : Descriptor). record d { steady = kept_by (call_named before k.id) (cond b (version_at f stamp) (version_of before k.id)) }) (cond b (Some (it None)) (opening_of before k.id))
+
+    at : WasFound (is_id k.id) (is_id id) grants p.calls k → k.granted ≡ as_now (same_call id k.id)
     at y = over (same_call y.was.id id) refl y.is
       where
         same : y.was.id ≡ k.id
@@ -164,14 +174,17 @@ granted_step c n (says.Grant e id request i m f stamp ss) before p may a k h = a
         turned : same_call y.was.id id ≡ same_call id k.id
         turned = call_turned y.was.id id ∙ ap (same_call id) same
 
-        over : (b : Bool) → same_call y.was.id id ≡ b → cond b (grants y.was) y.was ≡ k → k.granted ≡ cond (same_call id k.id) (Some it) (opening_of before k.id)
-        over true q r = ap (λ (x : CallSoFar). x.granted) (sym r) ∙ ap (λ (b : Bool). cond b (Some it) (opening_of before k.id)) (sym q ∙ turned)
-        over false q r = ap (λ (x : CallSoFar). x.granted) (sym r) ∙ (a.calls.granted y.was (ap (λ (x : CallId). find (is_id x) p.calls) same ∙ y.found) ∙ (ap (opening_of before) same ∙ ap (λ (b : Bool). cond b (Some it) (opening_of before k.id)) (sym q ∙ turned)))
+        named : call_named before k.id ≡ Some (waiting_as y.was)
+        named = sym (a.calls.named k.id) ∙ ap (option_map waiting_as) y.found
+
+        over : (b : Bool) → same_call y.was.id id ≡ b → cond b (grants y.was) y.was ≡ k → k.granted ≡ as_now (same_call id k.id)
+        over true q r = ap (λ (x : CallSoFar). x.granted) (sym r) ∙ (ap (λ (w : Option Waiting). Some (it (kept_by w (version_at f stamp)))) (sym named) ∙ ap as_now (sym q ∙ turned))
+        over false q r = ap (λ (x : CallSoFar). x.granted) (sym r) ∙ (a.calls.granted y.was (ap (λ (x : CallId). find (is_id x) p.calls) same ∙ y.found) ∙ (ap (opened_as before) same ∙ ap as_now (sym q ∙ turned)))
 granted_step c n w before p may a k h = at (was_there with_granted (λ d x. refl) p.calls (told_by c w p).calls (sym (granted_same c w p tt)) k h)
   where
-    at : Was with_granted p.calls k → k.granted ≡ opening_of before k.id
+    at : Was with_granted p.calls k → k.granted ≡ opened_as before k.id
     at it = (let same : it.was.id ≡ k.id = ap (λ (x : CallSoFar). x.id) it.same in
-        ap (λ (x : CallSoFar). x.granted) (sym it.same) ∙ (a.calls.granted it.was (ap (λ (x : CallId). find (is_id x) p.calls) same ∙ it.found) ∙ ap (opening_of before) same))
+        ap (λ (x : CallSoFar). x.granted) (sym it.same) ∙ (a.calls.granted it.was (ap (λ (x : CallId). find (is_id x) p.calls) same ∙ it.found) ∙ ap (opened_as before) same))
 
 -- ---- who waits ----
 
@@ -358,6 +371,11 @@ stand_old c n s process new words before p may a k st = record {
 stand_same : (c : Config) (n : ℕ) (w : Record) (before : Trace) (k : CallSoFar) → IsNoAccept w → MayCome c before w → CallStands before k → CallStands (With n w before) k
 stand_same c n (says.Accept s process new words) before k left may st = absurd left
 stand_same c n (says.Up s boot) before k left may st = record { low = low_stays c n (says.Up s boot) before k.id may st.low; closes = st.closes; used = st.used; well = st.well; within = st.within }
+stand_same c n (says.Answer s process id (reply.Data bytes)) before k left may st = record { low = st.low; closes = st.closes; used = λ e i h r. st.used e i h (emptied (is_opening (opening_of before id) e i) r); well = st.well; within = st.within }
+  where
+    emptied : {xs : List CallId} → (b : Bool) → cond b (id ∷ xs) xs ≡ [] → xs ≡ []
+    emptied true r = absurd (cc)
+    emptied false r = r
 stand_same c n _ before k left may st = record { low = st.low; closes = st.closes; used = st.used; well = st.well; within = st.within }
 
 stand_alike : (before : Trace) (a b : CallSoFar) → a.id ≡ b.id → a.begins ≡ b.begins → a.words ≡ b.words → a.epoch ≡ b.epoch → CallStands before a → CallStands before b

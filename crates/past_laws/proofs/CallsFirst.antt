@@ -1,6 +1,7 @@
 -- A script that gives its reply before any request doesn't say that the epoch has changed.
 use Rattle.std.proofs.Common.{◌≡◌, ℕ, Bool, true, false, cond, List, [], ◌∷◌, Option, Some, None, refl, sym, subst}
 use Rattle.locus_ids.specs.declared.ids.CallId.{CallId}
+use Rattle.locus_ids.specs.declared.ids.EpochId.{EpochId}
 use Rattle.locus_ids.specs.declared.config.Mount.{Mount}
 use Rattle.locus_ids.specs.declared.ids.FileId.{FileId}
 use Rattle.locus_ids.specs.declared.ids.Kind.{Kind}
@@ -11,7 +12,8 @@ use Rattle.trace_book.specs.Names.{components, last_of, but_last}
 use Rattle.trace_book.specs.declared.call.Call.{Call}
 use Rattle.trace_book.specs.declared.call.Call.TheVariants as call
 use Rattle.trace_book.specs.declared.descriptor.Beginning.{Beginning}
-use Rattle.trace_book.specs.declared.descriptor.Beginning.TheVariants.{Denied, Uses, Walks}
+use Rattle.trace_book.specs.declared.descriptor.OneVersion.{OneVersion}
+use Rattle.trace_book.specs.declared.descriptor.Beginning.TheVariants.{Denied, Uses, Walks, Reopens, Frees}
 use Rattle.trace_book.specs.declared.reply.Reply.TheVariants as reply
 use Rattle.call_rules.specs.declared.answer.Answer.{Answer}
 use Rattle.call_rules.specs.declared.want.Want.{Want}
@@ -19,6 +21,7 @@ use Rattle.call_rules.specs.declared.want.Want.TheVariants as want
 use Rattle.call_rules.specs.Mailing.{shown_messages}
 use Rattle.call_rules.specs.Making.{opens_dir, changes_dir}
 use Rattle.call_rules.specs.Opening.{opens_file, uses_wants, lists, describes, shown_in, Shows}
+use Rattle.call_rules.specs.Reopening.{reopen_wants}
 use Rattle.call_rules.specs.Scripts.{wants, where_packed, named_wants, begun_wants, path_wants}
 use Rattle.call_rules.specs.Walks.{Walked, Asks, Fails, There, Strays, walk, passes, walked, root_of, mounted_in}
 use Rattle.call_rules.specs.Words.{is_badly_named}
@@ -90,10 +93,16 @@ uses_first : (words : Call) (i : Serial) → IsOther (uses_wants words i [])
 uses_first (call.Read fd at len) i = tt
 uses_first _ i = tt
 
+reopen_first : (words : Call) (kept : OneVersion) (last : EpochId) → IsOther (reopen_wants words kept last [])
+reopen_first (call.Read fd at len) kept last = tt
+reopen_first _ kept last = tt
+
 begun_first : (mounts : List Mount) (free : Option ℕ) (words : Call) (b : Beginning) → BeginsWell b → IsOther (begun_wants mounts free words b [])
 begun_first mounts free words (Denied why) h = h
 begun_first mounts free words (Uses epoch inst) h = uses_first words inst
 begun_first mounts free words (Walks id) h = path_first mounts free id words
+begun_first mounts free words (Reopens kept last) h = reopen_first words kept last
+begun_first mounts free words Frees h = tt
 
 packed_first : (q : ℕ → Bool) (w : Want) → IsOther w → IsOther (where_packed q w)
 packed_first q (want.Look file what) h = over (q file.group)

@@ -1,6 +1,8 @@
 -- The number that a waiting open would take stays the lowest free one of its process.
-use Rattle.std.proofs.Common.{◌≡◌, ℕ, suc, ◌≤◌, ◌==◌, Bool, true, false, not, cond, ◌&&◌, List, [], ◌∷◌, length, map, filter, Option, Some, None, refl, sym, ◌∙◌, ap, subst}
+use Rattle.std.proofs.Common.{◌≡◌, ℕ, suc, ◌≤◌, ◌==◌, Bool, true, false, not, cond, ◌&&◌, List, [], ◌∷◌, length, map, filter, Option, Some, None, refl, sym, ◌∙◌, ap, subst, zero, ◌+◌}
 use Rattle.std.specs.List.{find, AllByRecursion}
+use Rattle.std.specs.Option.{is_some}
+use Rattle.locus_ids.specs.Sizes.{descriptors_max}
 use Rattle.locus_ids.specs.declared.config.Config.{Config}
 use Rattle.locus_ids.specs.declared.config.Mount.{Mount}
 use Rattle.locus_ids.specs.declared.ids.CallId.{CallId}
@@ -18,20 +20,20 @@ use Rattle.trace_book.specs.declared.reply.Reply.TheVariants as reply
 use Rattle.call_rules.specs.declared.answer.Answer.{Answer}
 use Rattle.call_rules.specs.declared.want.Want.{Want}
 use Rattle.call_rules.specs.declared.want.Want.TheVariants as want
-use Rattle.call_rules.specs.Descriptors.{lowest_free}
+use Rattle.call_rules.specs.Descriptors.{lowest_free, free_or, lowest_free_from}
 use Rattle.call_rules.specs.Scripts.{wants}
 use Rattle.tree_model.specs.declared.accepted.Waiting.{Waiting}
-use Rattle.tree_model.specs.Calls.{waiting_of, is_of, opening_of}
+use Rattle.tree_model.specs.Calls.{call_named, waiting_of, is_of, opening_of}
 use Rattle.tree_model.specs.Folds.{Trace}
 use Rattle.lawful_trace.specs.Lawful.{MayCome}
 use Rattle.lawful_trace.specs.Progress.{answers, is_packed_in, left_epoch, unless_left, wants_next}
-use Rattle.lawful_trace.specs.Tables.{descriptor, closed_by, opened_by}
+use Rattle.lawful_trace.specs.Tables.{descriptor, closed_by, held_again, names_instance, opened_by, reads_by}
 use Rattle.promises.specs.Past.{Past, CallSoFar, table}
 use Rattle.promises.specs.After.{is_id, told_by}
 use Rattle.past_laws.specs.Agreement.{Agrees, SaysGiven, waiting_as}
 use Rattle.past_laws.specs.Standing.{is_open, is_mend, is_alone}
 use Rattle.past_laws.proofs.Names.{false_true, none_some, some_same, number_eq, number_own, call_own}
-use Rattle.past_laws.proofs.SitesFree.{FreeWant, wants_free}
+use Rattle.past_laws.proofs.SitesFree.{FreeWant, wants_free, with_bytes}
 use Rattle.past_laws.proofs.CallsLists.{each_found, WasFound, was_found, one_passes}
 use Rattle.past_laws.proofs.CallsGranted.{With}
 use Rattle.past_laws.proofs.CallsUsers.{numbered, idle}
@@ -55,6 +57,20 @@ closed_mend _ fd old h = refl
 
 lowest_same : (f g : ℕ → Option Descriptor) → ((fd : ℕ) → f fd ≡ g fd) → lowest_free f ≡ lowest_free g
 lowest_same f g same = ap lowest_free (λ i fd. same fd i)
+
+-- the lowest free number hangs on which numbers are taken alone
+free_alike : (n : ℕ) (later : Option ℕ) (a b : Option Descriptor) → is_some a ≡ is_some b → free_or n later a ≡ free_or n later b
+free_alike n later None None h = refl
+free_alike n later (Some x) (Some y) h = refl
+free_alike n later None (Some y) h = false_true h
+free_alike n later (Some x) None h = false_true (sym h)
+
+from_alike : (f g : ℕ → Option Descriptor) → ((fd : ℕ) → is_some (f fd) ≡ is_some (g fd)) → (left n : ℕ) → lowest_free_from f n left ≡ lowest_free_from g n left
+from_alike f g same zero n = refl
+from_alike f g same (suc left) n = ap (λ (later : Option ℕ). free_or n later (f n)) (from_alike f g same left (n + 1)) ∙ free_alike n (lowest_free_from g (n + 1) left) (f n) (g n) (same n)
+
+lowest_alike : (f g : ℕ → Option Descriptor) → ((fd : ℕ) → is_some (f fd) ≡ is_some (g fd)) → lowest_free f ≡ lowest_free g
+lowest_alike f g same = from_alike f g same descriptors_max 0
 
 open_no_mend : (words : Call) → is_open words ≡ true → is_mend words ≡ false
 open_no_mend (call.Mend f) h = false_true h
@@ -109,16 +125,18 @@ opened_open mounts q free words b xs fd h = over (is_open words) refl
   where
     over : (v : Bool) → is_open words ≡ v → v ≡ true
     over true e = refl
-    over false e = none_some fd (subst (FreeWant None) (sym (other_same mounts q free None words b xs e) ∙ h) (wants_free None mounts q words b xs))
+    over false e = none_some fd (subst (FreeWant (with_bytes None)) (sym (other_same mounts q free None words b xs e) ∙ h) (wants_free (with_bytes None) mounts q words b (λ k. refl) xs))
 
 -- it isn't answered so because its site has left
-pub scripted : (o : Option EpochId) (w : Want) (fd : ℕ) → unless_left o w ≡ want.Give (reply.Opened fd) → w ≡ want.Give (reply.Opened fd)
-scripted None w fd h = h
-scripted (Some e) w fd h = absurd (cc)
+pub scripted : (o : Option EpochId) (w : Want) (r : Reply) → names_instance r ≡ true → unless_left o w ≡ want.Give r → w ≡ want.Give r
+scripted None w r names h = h
+scripted (Some e) w (reply.Opened fd) names h = absurd (cc)
+scripted (Some e) w (reply.Data bytes) names h = absurd (cc)
+scripted (Some e) w _ names h = false_true names
 
 answered_open : (c : Config) (before : Trace) (p : Past) (s process : ℕ) (id : CallId) (fd : ℕ) → Agrees c before p → SaysGiven c before (says.Answer s process id (reply.Opened fd)) → (k : IsAnswered before p s process id) → is_open k.one.words ≡ true
 answered_open c before p s process id fd a given k = opened_open c.mounts (is_packed_in c before k.one.epoch) (lowest_free (descriptor before k.one.id.site k.one.process)) k.one.words k.one.begins (answers c before k.one.id) fd
-    (sym (wants_by c before p a k.one (ap (λ (d : CallId). find (is_id d) p.calls) k.id_is ∙ k.found) (answers c before k.one.id)) ∙ scripted (left_epoch before (waiting_as k.one)) (wants_next c before k.one.id) fd (given (waiting_as k.one) k.caller))
+    (sym (wants_by c before p a k.one (ap (λ (d : CallId). find (is_id d) p.calls) k.id_is ∙ k.found) (answers c before k.one.id)) ∙ scripted (left_epoch before (waiting_as k.one)) (wants_next c before k.one.id) (reply.Opened fd) refl (given (waiting_as k.one) k.caller))
 
 -- ---- each record ----
 
@@ -166,7 +184,7 @@ free_answer c n s process id r before p may given a k found waits opens = at (an
         from y = over (is_id it.one.id y.was) refl y.is
           where
             here : (x : CallSoFar) → find (is_id x.id) p.calls ≡ Some x → x.waits ≡ true → is_open x.words ≡ true → is_id it.one.id x ≡ false → x.free ≡ lowest_free (descriptor (With n (says.Answer s process id r) before) x.id.site x.process)
-            here x there w o apart = a.calls.free x there w o ∙ lowest_same (descriptor before x.id.site x.process) (descriptor (With n (says.Answer s process id r) before) x.id.site x.process) (λ fd. on fd (s == x.id.site) (process == x.process) refl refl)
+            here x there w o apart = a.calls.free x there w o ∙ lowest_alike (descriptor before x.id.site x.process) (descriptor (With n (says.Answer s process id r) before) x.id.site x.process) (λ fd. on fd (s == x.id.site) (process == x.process) refl refl)
               where
                 -- an open of the same process is the same call
                 clash : {A : Type 0} (fd : ℕ) → r ≡ reply.Opened fd → (s == x.id.site) ≡ true → (process == x.process) ≡ true → A
@@ -186,12 +204,23 @@ free_answer c n s process id r before p may given a k found waits opens = at (an
                         (passes x w (turned s x.id.site p_s) (turned process x.process p_q) o)
                         (passes it.one it.waits (is_own it.one.id.site s it.site_is) (is_own it.one.process process it.process_is) (answered_open c before p s process id fd a (subst (λ (z : Reply). SaysGiven c before (says.Answer s process id z)) e given) it))
 
-                opened_none : (z : Reply) (fd : ℕ) (opening old : Option Descriptor) → ((m : ℕ) → z ≡ reply.Opened m → ⊥) → old ≡ opened_by z fd opening old
-                opened_none (reply.Opened m) fd opening old none = absurd (none m refl)
-                opened_none _ fd opening old none = refl
+                -- a descriptor that is held again was there
+                again_there : (opening old : Option Descriptor) → is_some old ≡ is_some (held_again opening old)
+                again_there None old = refl
+                again_there (Some o) None = refl
+                again_there (Some o) (Some y) = refl
 
-                on : (fd : ℕ) (b d : Bool) → (s == x.id.site) ≡ b → (process == x.process) ≡ d → descriptor before x.id.site x.process fd ≡ cond (b && d) (opened_by r fd (opening_of before id) (descriptor before x.id.site x.process fd)) (descriptor before x.id.site x.process fd)
-                on fd true true e f = opened_none r fd (opening_of before id) (descriptor before x.id.site x.process fd) (λ m h. clash m h e f)
+                opened_none : (z : Reply) (fd : ℕ) (old : Option Descriptor) → ((m : ℕ) → z ≡ reply.Opened m → ⊥) → is_some old ≡ is_some (opened_by z before id fd old)
+                opened_none (reply.Opened m) fd old none = absurd (none m refl)
+                opened_none (reply.Data bytes) fd old none = by (reads_by (call_named before id) fd)
+                  where
+                    by : (b : Bool) → is_some old ≡ is_some (cond b (held_again (opening_of before id) old) old)
+                    by true = again_there (opening_of before id) old
+                    by false = refl
+                opened_none _ fd old none = refl
+
+                on : (fd : ℕ) (b d : Bool) → (s == x.id.site) ≡ b → (process == x.process) ≡ d → is_some (descriptor before x.id.site x.process fd) ≡ is_some (cond (b && d) (opened_by r before id fd (descriptor before x.id.site x.process fd)) (descriptor before x.id.site x.process fd))
+                on fd true true e f = opened_none r fd (descriptor before x.id.site x.process fd) (λ m h. clash m h e f)
                 on fd true false e f = refl
                 on fd false d e f = refl
 

@@ -24,7 +24,7 @@ use Rattle.lawful_trace.specs.TreeRows.{granted_group}
 use Rattle.promises.specs.Past.{Past, Epoch, CallSoFar, Instance, acts, ends, first_or, epoch_at, unformed, is_on, is_close, is_named}
 use Rattle.promises.specs.After.{is_id, is_epoch, is_actor, is_ender}
 use Rattle.past_laws.specs.Agreement.{Agrees, instance_of}
-use Rattle.past_laws.specs.Standing.{CallStands, HasTurn, InstanceStands, EpochStands}
+use Rattle.past_laws.specs.Standing.{CallStands, HasTurn, InstanceStands, EpochStands, is_use}
 use Rattle.past_laws.proofs.Names.{number_eq, false_true, none_some, both_parts, call_turned, epoch_eq, serial_eq}
 use Rattle.past_laws.proofs.Changing.{found_any}
 use Rattle.past_laws.proofs.CallsLists.{each_more, each_found, any_value, FoundMapped, found_mapped, one_passes}
@@ -64,6 +64,15 @@ owner_same trace calls e x st user d k used owned same unused = over x.named (ha
     over false true f g h = none_some d (sym (unused f) ∙ (rw g at h))
     over false false f g h = rw g (call_turned k.id x.grant.call)
 
+-- who carries an operation out: the user, where a descriptor has named the instance
+pub acts_as : (e : EpochId) (x : Instance) (n : ℕ) (k : CallSoFar) → acts e x n k ≡ cond x.named (is_use e x n k) (same_call k.id x.grant.call)
+acts_as e x n k = turned x.named (x.again && (n == 1))
+  where
+    turned : (a b : Bool) → cond (a && not b) (is_on k.begins e x.grant.inst && (not (is_close k.words) && (k.turn == n))) (same_call k.id x.grant.call) ≡ cond a (cond b (same_call k.id x.grant.call) (is_on k.begins e x.grant.inst && (not (is_close k.words) && (k.turn == n)))) (same_call k.id x.grant.call)
+    turned true true = refl
+    turned true false = refl
+    turned false b = refl
+
 actor_same : (trace : Trace) (calls : List CallSoFar) (e : EpochId) (i : Serial) (n : ℕ) (d : CallId) (t : Epoch) (k : CallSoFar) → EpochAt trace calls e t → find (is_id k.id) calls ≡ Some k → list_any (is_named i) t.opened ≡ true → call_of_act trace e i n ≡ Some d
     → is_actor t i n k ≡ is_call (call_of_act trace e i n) k.id
 actor_same trace calls e i n d t k at found there owned = any_value (is_named i) (λ (x : Instance). acts t.id x n k) (is_call (call_of_act trace e i n) k.id) t.opened (each_more (InstanceStands trace calls t.id) (λ (x : Instance). is_named i x ≡ true → acts t.id x n k ≡ is_call (call_of_act trace e i n) k.id) one t.opened at.stands.instances)
@@ -76,7 +85,7 @@ actor_same trace calls e i n d t k at found there owned = any_value (is_named i)
     moved x h = ap (λ (z : EpochId). call_of_act trace z x.grant.inst n) at.id_is ∙ ap (λ (j : Serial). call_of_act trace e j n) (serial_eq x.grant.inst i h)
 
     one : (x : Instance) → InstanceStands trace calls t.id x → is_named i x ≡ true → acts t.id x n k ≡ is_call (call_of_act trace e i n) k.id
-    one x st h = owner_same trace calls t.id x st (use_number (uses_of trace t.id x.grant.inst) n) d k (is_on k.begins t.id x.grant.inst && (not (is_close k.words) && (k.turn == n))) (moved x h ∙ owned) ((each_found (HasTurn trace t.id x.grant.inst) (is_id k.id) calls k found st.turns).0 n) (unused x st) ∙ ap (λ (o : Option CallId). is_call o k.id) (moved x h)
+    one x st h = acts_as t.id x n k ∙ owner_same trace calls t.id x st (use_number (uses_of trace t.id x.grant.inst) n) d k (is_use t.id x n k) (moved x h ∙ owned) ((each_found (HasTurn trace t.id x) (is_id k.id) calls k found st.turns).0 n) (unused x st) ∙ ap (λ (o : Option CallId). is_call o k.id) (moved x h)
 
 ender_same : (trace : Trace) (calls : List CallSoFar) (e : EpochId) (i : Serial) (d : CallId) (t : Epoch) (k : CallSoFar) → EpochAt trace calls e t → CallStands trace k → list_any (is_named i) t.opened ≡ true → call_of_release trace e i ≡ Some d
     → is_ender t i k ≡ is_call (call_of_release trace e i) k.id

@@ -1,5 +1,5 @@
 -- What each record leaves of the calls.
-use Rattle.std.proofs.Common.{◌≡◌, Bool, true, false, cond, List, [], ◌∷◌, ◌++◌, map, filter, Some, refl}
+use Rattle.std.proofs.Common.{◌≡◌, Bool, true, false, cond, List, [], ◌∷◌, ◌++◌, map, filter, Some, None, refl}
 use Rattle.std.specs.Prelude.{take, ◌-◌}
 use Rattle.std.specs.List.{list_any}
 use Rattle.locus_ids.specs.declared.config.Config.{Config}
@@ -7,7 +7,9 @@ use Rattle.locus_ids.specs.declared.sites.Members.{Members}
 use Rattle.locus_ids.specs.declared.ids.EpochId.{EpochId}
 use Rattle.trace_book.specs.declared.record.Record.{Record}
 use Rattle.trace_book.specs.declared.record.Record.TheVariants as says
+use Rattle.call_rules.specs.Opening.{is_steady}
 use Rattle.call_rules.specs.declared.answer.Answer.{Answer}
+use Rattle.tree_model.specs.Calls.{version_at}
 use Rattle.promises.specs.Past.{Past, CallSoFar, Instance, epoch_at, is_named}
 use Rattle.promises.specs.After.{is_id, is_epoch, answered, told_by, with_epoch, is_ender, close_answer, replied_to}
 use Rattle.past_laws.proofs.Changing.{map_changed}
@@ -56,7 +58,7 @@ heads c (says.Accept s process id words) p left = absurd left
 heads c (says.Stopped s cause) p left = map_changed head _ (λ (k : CallSoFar). record k { waits = false }) (λ k e. refl) p.calls
 heads c (says.Join s e members) p left = joined_calls head e members p
 heads c (says.Look e id request f w result) p left = map_changed head (is_id id) (λ (k : CallSoFar). record k { answers = take (request - 1) k.answers ++ _ ∷ [] }) (λ k e. refl) p.calls
-heads c (says.Grant e id request i m f stamp ss) p left = map_changed head (is_id id) (λ (k : CallSoFar). record k { granted = Some (record { mode = m; epoch = e; inst = i }); answers = k.answers ++ _ ∷ [] }) (λ k e. refl) p.calls
+heads c (says.Grant e id request i m f stamp ss) p left = map_changed head (is_id id) (λ (k : CallSoFar). record k { granted = Some (record { mode = m; epoch = e; inst = i; steady = cond (is_steady k.words) (version_at f stamp) None }); answers = k.answers ++ _ ∷ [] }) (λ k e. refl) p.calls
 heads c (says.Refuse e id request i m f why) p left = answered_calls head (λ k as_now. refl) (is_id id) _ p
 heads c (says.Act e i n o result) p left = answered_calls head (λ k as_now. refl) _ _ p
 heads c (says.Release e i f stamp) p left = fold_keeps head (λ (old : Past) (x : Instance). answered (is_ender (epoch_at p e) i) (close_answer stamp x) old) (λ q x. answered_calls head (λ k as_now. refl) (is_ender (epoch_at p e) i) (close_answer stamp x) q) (filter (is_named i) (epoch_at p e).opened) p
@@ -69,7 +71,7 @@ waits_same c (says.Answer s process id r) p left = absurd left
 waits_same c (says.Stopped s cause) p left = absurd left
 waits_same c (says.Join s e members) p left = joined_calls with_waits e members p
 waits_same c (says.Look e id request f w result) p left = map_changed with_waits (is_id id) (λ (k : CallSoFar). record k { answers = take (request - 1) k.answers ++ _ ∷ [] }) (λ k e. refl) p.calls
-waits_same c (says.Grant e id request i m f stamp ss) p left = map_changed with_waits (is_id id) (λ (k : CallSoFar). record k { granted = Some (record { mode = m; epoch = e; inst = i }); answers = k.answers ++ _ ∷ [] }) (λ k e. refl) p.calls
+waits_same c (says.Grant e id request i m f stamp ss) p left = map_changed with_waits (is_id id) (λ (k : CallSoFar). record k { granted = Some (record { mode = m; epoch = e; inst = i; steady = cond (is_steady k.words) (version_at f stamp) None }); answers = k.answers ++ _ ∷ [] }) (λ k e. refl) p.calls
 waits_same c (says.Refuse e id request i m f why) p left = answered_calls with_waits (λ k as_now. refl) (is_id id) _ p
 waits_same c (says.Act e i n o result) p left = answered_calls with_waits (λ k as_now. refl) _ _ p
 waits_same c (says.Release e i f stamp) p left = fold_keeps with_waits (λ (old : Past) (x : Instance). answered (is_ender (epoch_at p e) i) (close_answer stamp x) old) (λ q x. answered_calls with_waits (λ k as_now. refl) (is_ender (epoch_at p e) i) (close_answer stamp x) q) (filter (is_named i) (epoch_at p e).opened) p

@@ -148,6 +148,10 @@ turns_in p (begins.Denied why) words trace calls once st = each_more (EpochStand
     (λ t s. each_more (InstanceStands trace calls t.id) (λ (x : Instance). uses (begins.Denied why) words t.id x ≡ true → turn_of p (begins.Denied why) words ≡ x.uses + 1) (λ x k h. false_true h) t.opened s.instances) p.epochs st
 turns_in p (begins.Walks id) words trace calls once st = each_more (EpochStands trace calls) (λ (t : Epoch). AllByRecursion (λ (x : Instance). uses (begins.Walks id) words t.id x ≡ true → turn_of p (begins.Walks id) words ≡ x.uses + 1) t.opened)
     (λ t s. each_more (InstanceStands trace calls t.id) (λ (x : Instance). uses (begins.Walks id) words t.id x ≡ true → turn_of p (begins.Walks id) words ≡ x.uses + 1) (λ x k h. false_true h) t.opened s.instances) p.epochs st
+turns_in p (begins.Reopens kept last) words trace calls once st = each_more (EpochStands trace calls) (λ (t : Epoch). AllByRecursion (λ (x : Instance). uses (begins.Reopens kept last) words t.id x ≡ true → turn_of p (begins.Reopens kept last) words ≡ x.uses + 1) t.opened)
+    (λ t s. each_more (InstanceStands trace calls t.id) (λ (x : Instance). uses (begins.Reopens kept last) words t.id x ≡ true → turn_of p (begins.Reopens kept last) words ≡ x.uses + 1) (λ x k h. false_true h) t.opened s.instances) p.epochs st
+turns_in p begins.Frees words trace calls once st = each_more (EpochStands trace calls) (λ (t : Epoch). AllByRecursion (λ (x : Instance). uses begins.Frees words t.id x ≡ true → turn_of p begins.Frees words ≡ x.uses + 1) t.opened)
+    (λ t s. each_more (InstanceStands trace calls t.id) (λ (x : Instance). uses begins.Frees words t.id x ≡ true → turn_of p begins.Frees words ≡ x.uses + 1) (λ x k h. false_true h) t.opened s.instances) p.epochs st
 
 -- ---- an instance when a call is accepted ----
 
@@ -197,16 +201,24 @@ new_apart c before p s process new words k d low = over (same_call d new) refl
     over true h = next_is_new before s d low (call_eq d new h ∙ k.is_next)
     over false h = refl
 
+-- what has a first use has one
+pub first_low : (xs : List CallId) (d : CallId) → is_call (use_number xs 1) d ≡ true → 1 ≤ length xs
+first_low xs d e = number_low xs 1 d e
+
 -- the new call's turn where it uses the instance, or another
-pub turn_new : (c : Config) (before : Trace) (p : Past) (s process : ℕ) (new : CallId) (words : Call) (n : ℕ) → (k : Accepts c before p s process new words) → (e : EpochId) (x : Instance) → x.uses ≡ length (uses_of before e x.grant.inst)
-    → (uses (accepted_call p s process new words).begins words e x ≡ true → (accepted_call p s process new words).turn ≡ x.uses + 1) → HasTurn (With n (says.Accept s process new words) before) e x.grant.inst (accepted_call p s process new words)
-turn_new c before p s process new words n k e x uses_are turn m = over (is_close words) (is_on (accepted_call p s process new words).begins e x.grant.inst) refl refl
+pub turn_new : (c : Config) (before : Trace) (p : Past) (s process : ℕ) (new : CallId) (words : Call) (n : ℕ) → (k : Accepts c before p s process new words) → (e : EpochId) (x : Instance) → InstanceStands before p.calls e x
+    → (uses (accepted_call p s process new words).begins words e x ≡ true → (accepted_call p s process new words).turn ≡ x.uses + 1) → HasTurn (With n (says.Accept s process new words) before) e x (accepted_call p s process new words)
+turn_new c before p s process new words n k e x st turn m = by_again x.again (m == 1) refl refl ∙ over (is_close words) (is_on (accepted_call p s process new words).begins e x.grant.inst) refl refl
   where
     us : List CallId
     us = uses_of before e x.grant.inst
 
-    other : is_call (use_number (uses_of before e x.grant.inst) m) new ≡ false
-    other = number_new (uses_of before e x.grant.inst) m new (each_more (IsLow before) (λ (d : CallId). same_call d new ≡ false) (new_apart c before p s process new words k) (uses_of before e x.grant.inst) (k.agree.calls.users.low_uses e x.grant.inst))
+    -- it is number m by its descriptor
+    used : ℕ → Bool
+    used m = is_on (accepted_call p s process new words).begins e x.grant.inst && (not (is_close words) && ((accepted_call p s process new words).turn == m))
+
+    other : (m : ℕ) → is_call (use_number (uses_of before e x.grant.inst) m) new ≡ false
+    other m = number_new (uses_of before e x.grant.inst) m new (each_more (IsLow before) (λ (d : CallId). same_call d new ≡ false) (new_apart c before p s process new words k) (uses_of before e x.grant.inst) (k.agree.calls.users.low_uses e x.grant.inst))
 
     by : (b : Bool) → is_on (accepted_call p s process new words).begins e x.grant.inst ≡ b → uses_by (begins_now before s process new words) e x.grant.inst ≡ b
     by b h = sym (on_same c before p s process new words k e x.grant.inst) ∙ h
@@ -219,11 +231,40 @@ turn_new c before p s process new words n k e x uses_are turn m = over (is_close
 
     last : (b : Bool) → b ≡ is_call (cond b (Some new) (use_number (uses_of before e x.grant.inst) m)) new
     last true = sym (call_own new)
-    last false = sym other
+    last false = sym (other m)
 
     over : (y z : Bool) → is_close words ≡ y → is_on (accepted_call p s process new words).begins e x.grant.inst ≡ z
-        → (is_on (accepted_call p s process new words).begins e x.grant.inst && (not (is_close words) && ((accepted_call p s process new words).turn == m))) ≡ is_call (use_number (cond (not (is_close words) && uses_by (begins_now before s process new words) e x.grant.inst) (new ∷ uses_of before e x.grant.inst) (uses_of before e x.grant.inst)) m) new
-    over false true g h = rw (h, g, by true h) (test (accepted_call p s process new words).turn (turn (rw (h, g) refl) ∙ ap (λ (l : ℕ). l + 1) uses_are) ∙ last (m == suc (length (uses_of before e x.grant.inst))))
-    over false false g h = rw (h, g, by false h) (sym other)
-    over true true g h = rw (h, g) (sym other)
-    over true false g h = rw (h, g) (sym other)
+        → used m ≡ is_call (use_number (cond (not (is_close words) && uses_by (begins_now before s process new words) e x.grant.inst) (new ∷ uses_of before e x.grant.inst) (uses_of before e x.grant.inst)) m) new
+    over false true g h = rw (h, g, by true h) (test (accepted_call p s process new words).turn (turn (rw (h, g) refl) ∙ ap (λ (l : ℕ). l + 1) st.uses) ∙ last (m == suc (length (uses_of before e x.grant.inst))))
+    over false false g h = rw (h, g, by false h) (sym (other m))
+    over true true g h = rw (h, g) (sym (other m))
+    over true false g h = rw (h, g) (sym (other m))
+
+    -- the call that has opened it again is an older one
+    is_older : x.again ≡ true → same_call new x.grant.call ≡ false
+    is_older h = at (same_call new x.grant.call) refl
+      where
+        at : (b : Bool) → same_call new x.grant.call ≡ b → b ≡ false
+        at true q = false_true (sym (other 1) ∙ (ap (is_call (use_number (uses_of before e x.grant.inst) 1)) (call_eq new x.grant.call q) ∙ st.first h))
+        at false q = refl
+
+    -- and has used it, so the new one isn't the first
+    is_later : x.again ≡ true → (m == 1) ≡ true → used m ≡ false
+    is_later h one = at (used m) (is_on (accepted_call p s process new words).begins e x.grant.inst) (is_close words) refl refl refl
+      where
+        more : x.uses ≡ length (uses_of before e x.grant.inst)
+        more = st.uses
+
+        apart : (t l : ℕ) → t ≡ l + 1 → 1 ≤ l → (t == m) ≡ true → ⊥
+        apart t l q r w = grind (arith, nat_tests, one)
+
+        at : (v a b : Bool) → used m ≡ v → is_on (accepted_call p s process new words).begins e x.grant.inst ≡ a → is_close words ≡ b → v ≡ false
+        at false a b q f g = refl
+        at true false b q f g = sym q ∙ rw f refl
+        at true true true q f g = sym q ∙ rw (f, g) refl
+        at true true false q f g = absurd (apart (accepted_call p s process new words).turn (length (uses_of before e x.grant.inst)) (turn (rw (f, g) refl) ∙ ap (λ (l : ℕ). l + 1) more) (first_low (uses_of before e x.grant.inst) x.grant.call (st.first h)) (rw (f, g) at q))
+
+    by_again : (a b : Bool) → x.again ≡ a → (m == 1) ≡ b → cond (x.again && (m == 1)) (same_call new x.grant.call) (used m) ≡ used m
+    by_again true true f g = rw (f, g) (is_older f ∙ sym (is_later f g))
+    by_again true false f g = rw (f, g) refl
+    by_again false b f g = rw f refl

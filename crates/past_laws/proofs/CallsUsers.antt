@@ -13,13 +13,14 @@ use Rattle.trace_book.specs.declared.call.Call.TheVariants as call
 use Rattle.trace_book.specs.declared.record.Record.{Record}
 use Rattle.trace_book.specs.declared.record.Record.TheVariants as says
 use Rattle.trace_book.specs.declared.reply.Reply.{Reply}
+use Rattle.trace_book.specs.declared.reply.Reply.TheVariants as reply
 use Rattle.tree_model.specs.declared.accepted.Waiting.{Waiting}
-use Rattle.tree_model.specs.Calls.{call_named, accepted_as, waiting, waiting_of, is_of}
+use Rattle.tree_model.specs.Calls.{call_named, accepted_as, waiting, waiting_of, is_of, opening_of}
 use Rattle.tree_model.specs.Epochs.{boot_of, calls_accepted}
 use Rattle.tree_model.specs.Folds.{Trace}
 use Rattle.lawful_trace.specs.CallRows.{CallRow, next_call, is_this}
 use Rattle.lawful_trace.specs.Lawful.{MayCome}
-use Rattle.lawful_trace.specs.Tables.{begins_now, is_close, uses_by, uses_of, close_of, is_opened, has_named}
+use Rattle.lawful_trace.specs.Tables.{begins_now, is_close, uses_by, uses_of, close_of, names_instance, has_named, is_opening}
 use Rattle.past_laws.specs.Standing.{IsLow, is_mend, is_alone, UsersStand}
 use Rattle.past_laws.proofs.Names.{false_true, none_some, some_same, number_eq, number_own, call_eq, call_turned}
 use Rattle.past_laws.proofs.CallsLists.{each_more, each_filter, each_both, each_passing, each_found, many_left}
@@ -77,7 +78,7 @@ low_stays c n _ before d may low = low
 -- ---- who is named ----
 
 pub named_more : (n : ℕ) (r : Record) (before : Trace) (d : CallId) → has_named before d ≡ true → has_named (With n r before) d ≡ true
-named_more n (says.Answer s process other r) before d h = over (same_call other d && is_opened r)
+named_more n (says.Answer s process other r) before d h = over (same_call other d && names_instance r)
   where
     over : (a : Bool) → (a || has_named before d) ≡ true
     over true = refl
@@ -139,7 +140,7 @@ low_step c n (says.Up s boot) before may u d w h = low_stays c n (says.Up s boot
 low_step c n _ before may u d w h = u.low d w h
 
 pub low_named_step : (c : Config) (n : ℕ) (r : Record) (before : Trace) → MayCome c before r → UsersStand before → (d : CallId) → has_named (With n r before) d ≡ true → IsLow (With n r before) d
-low_named_step c n (says.Answer s process other r) before may u d h = over (same_call other d) (is_opened r) refl h
+low_named_step c n (says.Answer s process other r) before may u d h = over (same_call other d) (names_instance r) refl h
   where
     over : (a b : Bool) → same_call other d ≡ a → ((a && b) || has_named before d) ≡ true → IsLow before d
     over true b e k = subst (IsLow before) (call_eq other d e) ((answers c before s process other r may u).low)
@@ -157,6 +158,11 @@ low_uses_step c n (says.Accept s process new words) before may u e i = over (not
     over : (b : Bool) → AllByRecursion (IsLow (With n (says.Accept s process new words) before)) (cond b (new ∷ uses_of before e i) (uses_of before e i))
     over true = (low_new n s process new words before (numbered c before s process new words may), old)
     over false = old
+low_uses_step c n (says.Answer s process d (reply.Data bytes)) before may u e i = over (is_opening (opening_of before d) e i)
+  where
+    over : (b : Bool) → AllByRecursion (IsLow before) (cond b (d ∷ uses_of before e i) (uses_of before e i))
+    over true = ((answers c before s process d (reply.Data bytes) may u).low, u.low_uses e i)
+    over false = u.low_uses e i
 low_uses_step c n (says.Up s boot) before may u e i = each_more (IsLow before) (IsLow (With n (says.Up s boot) before)) (λ d. low_stays c n (says.Up s boot) before d may) (uses_of before e i) (u.low_uses e i)
 low_uses_step c n _ before may u e i = u.low_uses e i
 
@@ -195,12 +201,12 @@ waits_step c n (says.Answer s process other r) before may u = each_both (Waits b
     kept : Waiting → Bool
     kept w = not (same_call w.call other)
 
-    turned : (w : Waiting) (b : Bool) → same_call w.call other ≡ b → not b ≡ true → has_named before w.call ≡ false → ((b && is_opened r) || has_named before w.call) ≡ false
+    turned : (w : Waiting) (b : Bool) → same_call w.call other ≡ b → not b ≡ true → has_named before w.call ≡ false → ((b && names_instance r) || has_named before w.call) ≡ false
     turned w true e k h = false_true k
     turned w false e k h = h
 
     left : (w : Waiting) → Waits before w → not (same_call w.call other) ≡ true → Waits (With n (says.Answer s process other r) before) w
-    left w k h = (k.0, ap (λ (b : Bool). (b && is_opened r) || has_named before w.call) (call_turned other w.call) ∙ turned w (same_call w.call other) refl h k.1)
+    left w k h = (k.0, ap (λ (b : Bool). (b && names_instance r) || has_named before w.call) (call_turned other w.call) ∙ turned w (same_call w.call other) refl h k.1)
 waits_step c n _ before may u = u.waits
 
 -- a call that is no mend is accepted of an idle process

@@ -12,7 +12,8 @@ use Rattle.trace_book.specs.declared.call.Call.TheVariants as call
 use Rattle.trace_book.specs.declared.descriptor.Beginning.{Beginning}
 use Rattle.trace_book.specs.declared.descriptor.Beginning.TheVariants as begins
 use Rattle.trace_book.specs.declared.descriptor.Descriptor.{Descriptor}
-use Rattle.call_rules.specs.Descriptors.{is_in, begins_on, begins_walk, begins_open, beginning, lowest_free}
+use Rattle.trace_book.specs.declared.descriptor.OneVersion.{OneVersion}
+use Rattle.call_rules.specs.Descriptors.{is_in, begins_again, begins_change, begins_close, begins_read, begins_walk, begins_open, beginning, held_or, lowest_free, stale_or}
 use Rattle.call_rules.specs.Words.{is_too_long}
 use Rattle.lawful_trace.specs.Tables.{uses_by}
 use Rattle.past_laws.specs.Standing.{BeginsWell}
@@ -53,31 +54,66 @@ in_now : (now : Option EpochId) (e : EpochId) → is_in now e ≡ true → now �
 in_now None e t = false_true t
 in_now (Some at) e t = ap Some (epoch_eq at e t)
 
-on_uses : (changes : Bool) (table : ℕ → Option Descriptor) (now : Option EpochId) (fd : ℕ) (words : Call) (e : EpochId) (i : Serial) → ClosesNumber words fd → (o : Option Descriptor) → table fd ≡ o → begins_on changes now o ≡ begins.Uses e i → FromDescriptor table now words e i
-on_uses changes table now fd words e i number None is k = denied_uses _ e i k
-on_uses changes table now fd words e i number (Some x) is k = at changes (is_in now x.epoch) (is_read x.mode) refl refl k
-  where
-    from : is_in now x.epoch ≡ true → begins.Uses x.epoch x.inst ≡ begins.Uses e i → FromDescriptor table now words e i
-    from t u = record { fd = fd; stands = x; found = is; epoch_is = uses_epoch x.epoch e x.inst i u; serial_is = uses_serial x.epoch e x.inst i u; inside = in_now now x.epoch t ∙ ap Some (uses_epoch x.epoch e x.inst i u); closes = number }
+again_uses : {A : Type 0} (now : Option EpochId) (last : EpochId) (version : OneVersion) (e : EpochId) (i : Serial) → begins_again now last version ≡ begins.Uses e i → A
+again_uses None last version e i k = absurd (cc)
+again_uses (Some at) last version e i k = absurd (cc)
 
-    at : (c a b : Bool) → is_in now x.epoch ≡ a → is_read x.mode ≡ b → begins_on c now (Some x) ≡ begins.Uses e i → FromDescriptor table now words e i
-    at true true true p q k = denied_uses _ e i (rw q at (rw p at k))
-    at true true false p q k = from p (rw q at (rw p at k))
-    at false true b p q k = from p (rw p at k)
-    at c false b p q k = denied_uses _ e i (rw p at k)
+module _ (table : ℕ → Option Descriptor) (now : Option EpochId) (fd : ℕ) (words : Call) (e : EpochId) (i : Serial) (number : ClosesNumber words fd) where
+  held_from : (x : Descriptor) → table fd ≡ Some x → is_in now x.epoch ≡ true → begins.Uses x.epoch x.inst ≡ begins.Uses e i → FromDescriptor table now words e i
+  held_from x is t u = record { fd = fd; stands = x; found = is; epoch_is = uses_epoch x.epoch e x.inst i u; serial_is = uses_serial x.epoch e x.inst i u; inside = in_now now x.epoch t ∙ ap Some (uses_epoch x.epoch e x.inst i u); closes = number }
+
+  -- where it isn't held it begins at no instance
+  held_uses : (x : Descriptor) → table fd ≡ Some x → (other : Beginning) → (other ≡ begins.Uses e i → ⊥) → held_or now x other ≡ begins.Uses e i → FromDescriptor table now words e i
+  held_uses x is other none k = over (is_in now x.epoch) refl k
+    where
+      over : (b : Bool) → is_in now x.epoch ≡ b → cond b (begins.Uses x.epoch x.inst) other ≡ begins.Uses e i → FromDescriptor table now words e i
+      over true p m = held_from x is p m
+      over false p m = absurd (none m)
+
+  read_uses : (o : Option Descriptor) → table fd ≡ o → begins_read now o ≡ begins.Uses e i → FromDescriptor table now words e i
+  read_uses None is k = denied_uses _ e i k
+  read_uses (Some x) is k = held_uses x is (stale_or (begins_again now x.epoch) x.epoch x.steady) (unheld x.steady) k
+    where
+      unheld : (v : Option OneVersion) → stale_or (begins_again now x.epoch) x.epoch v ≡ begins.Uses e i → ⊥
+      unheld None m = denied_uses _ e i m
+      unheld (Some version) m = again_uses now x.epoch version e i m
+
+  close_uses : (o : Option Descriptor) → table fd ≡ o → begins_close now o ≡ begins.Uses e i → FromDescriptor table now words e i
+  close_uses None is k = denied_uses _ e i k
+  close_uses (Some x) is k = held_uses x is (stale_or (λ version. begins.Frees) x.epoch x.steady) (unheld x.steady) k
+    where
+      unheld : (v : Option OneVersion) → stale_or (λ version. begins.Frees) x.epoch v ≡ begins.Uses e i → ⊥
+      unheld None m = denied_uses _ e i m
+      unheld (Some version) m = cc
+
+  change_uses : (o : Option Descriptor) → table fd ≡ o → begins_change now o ≡ begins.Uses e i → FromDescriptor table now words e i
+  change_uses None is k = denied_uses _ e i k
+  change_uses (Some x) is k = by_version x.steady refl
+    where
+      plain : x.steady ≡ None → FromDescriptor table now words e i
+      plain v = at (is_in now x.epoch) (is_read x.mode) refl (rw v at k)
+        where
+          at : (a b : Bool) → is_in now x.epoch ≡ a → cond a (cond b (begins.Denied refusal.ReadOnly) (begins.Uses x.epoch x.inst)) (begins.Denied (refusal.Stale x.epoch)) ≡ begins.Uses e i → FromDescriptor table now words e i
+          at true true p m = denied_uses _ e i m
+          at true false p m = held_from x is p m
+          at false b p m = denied_uses _ e i m
+
+      by_version : (v : Option OneVersion) → x.steady ≡ v → FromDescriptor table now words e i
+      by_version None v = plain v
+      by_version (Some version) v = denied_uses _ e i (rw v at k)
 
 pub uses_from : (table : ℕ → Option Descriptor) (now : Option EpochId) (id : CallId) (words : Call) (e : EpochId) (i : Serial) → beginning table now id words ≡ begins.Uses e i → FromDescriptor table now words e i
 uses_from table now id (call.Open path mode) e i k = open_uses id now (lowest_free table) e i k
-uses_from table now id (call.Read fd at len) e i k = on_uses false table now fd (call.Read fd at len) e i tt (table fd) refl k
+uses_from table now id (call.Read fd at len) e i k = read_uses table now fd (call.Read fd at len) e i tt (table fd) refl k
 uses_from table now id (call.Write fd at bytes) e i k = over (is_too_long (call.Write fd at bytes)) k
   where
-    over : (b : Bool) → cond b (begins.Denied refusal.TooLong) (begins_on true now (table fd)) ≡ begins.Uses e i → FromDescriptor table now (call.Write fd at bytes) e i
+    over : (b : Bool) → cond b (begins.Denied refusal.TooLong) (begins_change now (table fd)) ≡ begins.Uses e i → FromDescriptor table now (call.Write fd at bytes) e i
     over true m = denied_uses _ e i m
-    over false m = on_uses true table now fd (call.Write fd at bytes) e i tt (table fd) refl m
-uses_from table now id (call.Cut fd len) e i k = on_uses true table now fd (call.Cut fd len) e i tt (table fd) refl k
-uses_from table now id (call.Commit fd) e i k = on_uses true table now fd (call.Commit fd) e i tt (table fd) refl k
-uses_from table now id (call.Abort fd) e i k = on_uses true table now fd (call.Abort fd) e i tt (table fd) refl k
-uses_from table now id (call.Close fd) e i k = on_uses false table now fd (call.Close fd) e i refl (table fd) refl k
+    over false m = change_uses table now fd (call.Write fd at bytes) e i tt (table fd) refl m
+uses_from table now id (call.Cut fd len) e i k = change_uses table now fd (call.Cut fd len) e i tt (table fd) refl k
+uses_from table now id (call.Commit fd) e i k = change_uses table now fd (call.Commit fd) e i tt (table fd) refl k
+uses_from table now id (call.Abort fd) e i k = change_uses table now fd (call.Abort fd) e i tt (table fd) refl k
+uses_from table now id (call.Close fd) e i k = close_uses table now fd (call.Close fd) e i refl (table fd) refl k
 uses_from table now id (call.Create path sites) e i k = walk_uses id now e i k
 uses_from table now id (call.MakeDir path) e i k = walk_uses id now e i k
 uses_from table now id (call.Unlink path) e i k = walk_uses id now e i k
@@ -98,18 +134,50 @@ uses_is (begins.Uses at inst) e i t = over (same_epoch at e) (same_serial inst i
     over false b p q u = false_true u
 uses_is (begins.Denied why) e i t = false_true t
 uses_is (begins.Walks id) e i t = false_true t
+uses_is (begins.Reopens version last) e i t = false_true t
+uses_is begins.Frees e i t = false_true t
 
 -- ---- nothing is denied since the epoch has changed ----
 
-on_well : (changes : Bool) (now : Option EpochId) (o : Option Descriptor) → BeginsWell (begins_on changes now o)
-on_well changes now None = tt
-on_well changes now (Some x) = at changes (is_in now x.epoch) (is_read x.mode) refl refl
+again_well : (now : Option EpochId) (last : EpochId) (version : OneVersion) → BeginsWell (begins_again now last version)
+again_well None last version = tt
+again_well (Some e) last version = tt
+
+held_well : (now : Option EpochId) (x : Descriptor) (other : Beginning) → BeginsWell other → BeginsWell (held_or now x other)
+held_well now x other h = over (is_in now x.epoch)
   where
-    at : (c a b : Bool) → is_in now x.epoch ≡ a → is_read x.mode ≡ b → BeginsWell (begins_on c now (Some x))
-    at true true true p q = rw p (rw q tt)
-    at true true false p q = rw p (rw q tt)
-    at false true b p q = rw p tt
-    at c false b p q = rw p tt
+    over : (b : Bool) → BeginsWell (cond b (begins.Uses x.epoch x.inst) other)
+    over true = tt
+    over false = h
+
+read_well : (now : Option EpochId) (o : Option Descriptor) → BeginsWell (begins_read now o)
+read_well now None = tt
+read_well now (Some x) = held_well now x (stale_or (begins_again now x.epoch) x.epoch x.steady) (unheld x.steady)
+  where
+    unheld : (v : Option OneVersion) → BeginsWell (stale_or (begins_again now x.epoch) x.epoch v)
+    unheld None = tt
+    unheld (Some version) = again_well now x.epoch version
+
+close_well : (now : Option EpochId) (o : Option Descriptor) → BeginsWell (begins_close now o)
+close_well now None = tt
+close_well now (Some x) = held_well now x (stale_or (λ version. begins.Frees) x.epoch x.steady) (unheld x.steady)
+  where
+    unheld : (v : Option OneVersion) → BeginsWell (stale_or (λ version. begins.Frees) x.epoch v)
+    unheld None = tt
+    unheld (Some version) = tt
+
+change_well : (now : Option EpochId) (o : Option Descriptor) → BeginsWell (begins_change now o)
+change_well now None = tt
+change_well now (Some x) = by_version x.steady refl
+  where
+    at : (a b : Bool) → BeginsWell (cond a (cond b (begins.Denied refusal.ReadOnly) (begins.Uses x.epoch x.inst)) (begins.Denied (refusal.Stale x.epoch)))
+    at true true = tt
+    at true false = tt
+    at false b = tt
+
+    by_version : (v : Option OneVersion) → x.steady ≡ v → BeginsWell (begins_change now (Some x))
+    by_version None v = rw v (at (is_in now x.epoch) (is_read x.mode))
+    by_version (Some version) v = rw v tt
 
 walk_well : (id : CallId) (now : Option EpochId) → BeginsWell (begins_walk now id)
 walk_well id None = tt
@@ -121,14 +189,14 @@ open_well id now (Some fd) = walk_well id now
 
 pub beginning_well : (table : ℕ → Option Descriptor) (now : Option EpochId) (id : CallId) (words : Call) → BeginsWell (beginning table now id words)
 beginning_well table now id (call.Open path mode) = open_well id now (lowest_free table)
-beginning_well table now id (call.Read fd at len) = on_well false now (table fd)
+beginning_well table now id (call.Read fd at len) = read_well now (table fd)
 beginning_well table now id (call.Write fd at bytes) = over (is_too_long (call.Write fd at bytes))
   where
-    over : (b : Bool) → BeginsWell (cond b (begins.Denied refusal.TooLong) (begins_on true now (table fd)))
+    over : (b : Bool) → BeginsWell (cond b (begins.Denied refusal.TooLong) (begins_change now (table fd)))
     over true = tt
-    over false = on_well true now (table fd)
-beginning_well table now id (call.Cut fd len) = on_well true now (table fd)
-beginning_well table now id (call.Commit fd) = on_well true now (table fd)
-beginning_well table now id (call.Abort fd) = on_well true now (table fd)
-beginning_well table now id (call.Close fd) = on_well false now (table fd)
+    over false = change_well now (table fd)
+beginning_well table now id (call.Cut fd len) = change_well now (table fd)
+beginning_well table now id (call.Commit fd) = change_well now (table fd)
+beginning_well table now id (call.Abort fd) = change_well now (table fd)
+beginning_well table now id (call.Close fd) = close_well now (table fd)
 beginning_well table now id _ = walk_well id now

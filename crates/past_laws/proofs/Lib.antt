@@ -45,7 +45,9 @@ pub mod CallsDescribed
 pub mod CallsAlike
 pub mod CallsSame
 pub mod CallsFields
+pub mod CallsUngranted
 pub mod CallsInstances
+pub mod CallsReplies
 pub mod CallsOpened
 pub mod CallsTurns
 pub mod CallsAccepts
@@ -88,4 +90,5 @@ pub mod BackMends
 pub mod BackAnswers
 pub mod Converse
 pub mod BackSilent
+pub mod BackRead
 pub mod BackOver

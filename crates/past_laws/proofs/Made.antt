@@ -35,9 +35,11 @@ use Rattle.commit_graph.specs.Versions.{same_file}
 use Rattle.past_laws.proofs.Names.{both, both_parts, epoch_own, file_eq, number_own}
 use Rattle.tree_model.specs.Folds.{Trace}
 use Rattle.lawful_trace.specs.Lawful.{MayCome}
-use Rattle.promises.specs.Past.{CallSoFar, Copy, Epoch, Instance, Making, Named, Past, Site, epoch_at, first_site, groups, is_named, is_writer, no_site, nothing_yet, site_at, table}
-use Rattle.promises.specs.After.{acted, after, answered, begun_call, change, close_answer, is_actor, is_ender, is_epoch, is_home_of, is_id, left_unmended, opened_as, process_of, released, replied_to, taken_by, uses, with_all_known, with_epoch, with_making}
+use Rattle.promises.specs.Past.{CallSoFar, Copy, Epoch, Instance, Making, Past, Site, epoch_at, first_site, groups, is_named, is_writer, no_site, nothing_yet, site_at, table}
+use Rattle.promises.specs.After.{acted, after, answered, begun_call, change, close_answer, is_actor, is_ender, is_epoch, is_home_of, is_id, left_unmended, opened_as, process_of, released, replied_to, uses, with_all_known, with_epoch, with_making, named_by, once_named}
 use Rattle.promises.specs.Tree.{work_after}
+use Rattle.trace_book.specs.declared.descriptor.Descriptor.{Descriptor}
+use Rattle.trace_book.specs.declared.reply.Reply.TheVariants as reply
 use Rattle.past_laws.specs.Agreement.{Agrees, SaysGiven}
 use Rattle.past_laws.specs.Made.{AreMade, are_made, is_called, is_made, is_sound}
 use Rattle.past_laws.proofs.Changing.{any_changed}
@@ -174,10 +176,19 @@ once_committed f site stamp t = record t { opened = change (is_writer f site) (�
 
 -- a descriptor that the answered call takes names the instance
 abbrev is_taken : Reply → CallSoFar → Epoch → Instance → Bool
-is_taken r k t x = list_any (λ (d : Named). is_in (Some d.names.epoch) t.id && is_named d.names.inst x) (taken_by r k)
+is_taken r k t x = list_any (λ (d : Descriptor). is_in (Some d.epoch) t.id && is_named d.inst x) (named_by r k)
+
+-- what a reply makes of an instance keeps whose it is, and its work
+pub once_grant : (r : Reply) (x : Instance) → (once_named r x).grant ≡ x.grant
+once_grant (reply.Data bytes) x = refl
+once_grant _ x = refl
+
+once_kept : (r : Reply) (x : Instance) → (once_named r x).work.committed ≡ x.work.committed
+once_kept (reply.Data bytes) x = refl
+once_kept _ x = refl
 
 abbrev once_replied : Reply → CallSoFar → Epoch → Epoch
-once_replied r k t = record t { opened = change (is_taken r k t) (λ (x : Instance). record x { named = true }) t.opened; unmended = cond (is_in k.epoch t.id) (left_unmended r k.words) [] ++ t.unmended }
+once_replied r k t = record t { opened = change (is_taken r k t) (once_named r) t.opened; unmended = cond (is_in k.epoch t.id) (left_unmended r k.words) [] ++ t.unmended }
 
 -- Other parts of what becomes of the past.
 
@@ -283,8 +294,8 @@ made_step c (rec.Answer site process id r) before p may given a = made_as_said (
         (sites_kept p.files _ _ p.sites (has_number by.k.id.site) _ (λ s. refl)
         (epochs_opened p.files p.sites _ p.epochs (λ t. true) (once_replied r by.k)
         (λ t h k. k)
-        (λ t h k. instances_sound p.files (is_taken r by.k t) (λ x. record x { named = true }) (λ x. refl) (λ x. refl) t.opened k)
-        (λ t h k. instances_called (change (is_id by.k.id) (λ (x : CallSoFar). record x { waits = false }) p.calls) (is_taken r by.k t) (λ x. record x { named = true }) (λ x. refl) t.opened k)
+        (λ t h k. instances_sound p.files (is_taken r by.k t) (once_named r) (once_grant r) (once_kept r) t.opened k)
+        (λ t h k. instances_called (change (is_id by.k.id) (λ (x : CallSoFar). record x { waits = false }) p.calls) (is_taken r by.k t) (once_named r) (once_grant r) t.opened k)
         (calls_kept p.files p.sites p.epochs p.calls (is_id by.k.id) (λ (x : CallSoFar). record x { waits = false }) (λ k. refl) (made_of_past p a.made))))
 made_step c what before p may given a = made_as_said (after c what p) (made_of_past p a.made)
 

@@ -28,9 +28,11 @@ use Rattle.tree_model.specs.State.{has_stamp}
 use Rattle.lawful_trace.specs.Lawful.{MayCome}
 use Rattle.lawful_trace.specs.Progress.{outcome_answer}
 use Rattle.lawful_trace.specs.TreeRows.{MayAdopt}
-use Rattle.promises.specs.Past.{CallSoFar, Copy, Epoch, Instance, Left, Making, Named, Past, Site, epoch_at, is_named, is_writer, making_of, site_at, table}
-use Rattle.promises.specs.After.{acted, after, answered, begun_call, change, close_answer, is_actor, is_ender, is_epoch, is_home_of, is_id, left_unmended, opened_as, process_of, released, replied_to, taken_by, uses, with_all_known, with_epoch, with_making}
+use Rattle.past_laws.proofs.Made.{once_grant}
+use Rattle.promises.specs.Past.{CallSoFar, Copy, Epoch, Instance, Left, Making, Past, Site, epoch_at, is_named, is_writer, making_of, site_at, table}
+use Rattle.promises.specs.After.{acted, after, answered, begun_call, change, close_answer, is_actor, is_ender, is_epoch, is_home_of, is_id, left_unmended, opened_as, process_of, released, replied_to, uses, with_all_known, with_epoch, with_making, named_by, once_named}
 use Rattle.promises.specs.Tree.{work_after}
+use Rattle.trace_book.specs.declared.descriptor.Descriptor.{Descriptor}
 use Rattle.past_laws.specs.Agreement.{Agrees, speaks_of_sites}
 use Rattle.past_laws.specs.Made.{is_made}
 use Rattle.past_laws.specs.Packed.{ArePacked, is_fit, is_of, is_seated, makes_fit, packs_all}
@@ -87,10 +89,10 @@ abbrev once_committed : FileId → ℕ → Stamp → Epoch → Epoch
 once_committed f site stamp t = record t { opened = change (is_writer f site) (λ (x : Instance). record x { work = committed stamp x.work }) t.opened }
 
 abbrev is_taken : Reply → CallSoFar → Epoch → Instance → Bool
-is_taken r k t x = list_any (λ (d : Named). is_in (Some d.names.epoch) t.id && is_named d.names.inst x) (taken_by r k)
+is_taken r k t x = list_any (λ (d : Descriptor). is_in (Some d.epoch) t.id && is_named d.inst x) (named_by r k)
 
 abbrev once_replied : Reply → CallSoFar → Epoch → Epoch
-once_replied r k t = record t { opened = change (is_taken r k t) (λ (x : Instance). record x { named = true }) t.opened; unmended = cond (is_in k.epoch t.id) (left_unmended r k.words) [] ++ t.unmended }
+once_replied r k t = record t { opened = change (is_taken r k t) (once_named r) t.opened; unmended = cond (is_in k.epoch t.id) (left_unmended r k.words) [] ++ t.unmended }
 
 answered_packed : {X : Type 0} (c : Config) (which : X → CallSoFar → Bool) (b : X → Answer) (xs : List X) (p : Past) → ArePacked c p → ArePacked c (fold (λ old x. answered (which x) (b x) old) p xs)
 answered_packed c which b [] p a = a
@@ -209,6 +211,6 @@ packed_step c (rec.Answer site process id r) before p few may ours a = packed_as
         (sites_kept c p.files _ _ p.sites (has_number by.k.id.site) _ (λ s. refl) (λ s. refl)
         (epochs_again c p.files p.sites _ p.epochs (λ t. true) (once_replied r by.k)
         (λ t h k. k) (λ t h k. k)
-        (λ t h k. instances_seated c (change (is_id by.k.id) (λ (x : CallSoFar). record x { waits = false }) p.calls) p.files (is_taken r by.k t) (λ x. record x { named = true }) (λ x. refl) t.opened k)
+        (λ t h k. instances_seated c (change (is_id by.k.id) (λ (x : CallSoFar). record x { waits = false }) p.calls) p.files (is_taken r by.k t) (once_named r) (once_grant r) t.opened k)
         (calls_kept c p.files p.sites p.epochs p.calls (is_id by.k.id) (λ (x : CallSoFar). record x { waits = false }) (λ k. refl) (λ k. refl) (packed_of_past c p a.packed))))
 packed_step c what before p few may ours a = packed_as_said c (after c what p) (packed_of_past c p a.packed)

@@ -17,14 +17,15 @@ use Rattle.call_rules.specs.declared.answer.Answer.{Answer}
 use Rattle.call_rules.specs.declared.want.Want.{Want}
 use Rattle.call_rules.specs.declared.want.Want.TheVariants.{Give}
 use Rattle.locus_ids.specs.Sizes.{descriptors_max}
+use Rattle.trace_book.specs.declared.descriptor.Descriptor.{Descriptor}
 use Rattle.call_rules.specs.Descriptors.{lowest_free}
 use Rattle.tree_model.specs.declared.accepted.Waiting.{Waiting}
-use Rattle.tree_model.specs.Calls.{call_named, opening_of, waiting}
+use Rattle.tree_model.specs.Calls.{call_named, waiting}
 use Rattle.tree_model.specs.Folds.{Trace}
 use Rattle.lawful_trace.specs.CallRows.{is_this}
 use Rattle.lawful_trace.specs.Lawful.{MayCome}
 use Rattle.lawful_trace.specs.Progress.{Answers, answers, left_epoch, unless_left, wants_as, wants_next, now_wants}
-use Rattle.lawful_trace.specs.Tables.{begun, descriptor}
+use Rattle.lawful_trace.specs.Tables.{begun, descriptor, opened_as}
 use Rattle.promises.specs.Past.{Past, Site, CallSoFar, epoch_at}
 use Rattle.promises.specs.After.{after, change, with_epoch, is_epoch, is_id, is_ender, answered, close_answer, replied_to}
 use Rattle.promises.specs.Past.{is_named}
@@ -35,7 +36,7 @@ use Rattle.past_laws.proofs.Finding.{IsImage, found_image, find_both, found_only
 use Rattle.past_laws.proofs.SitesSay.{SitesSay, said_of_past, past_as_said, has_number, is_there_in, change_twice}
 use Rattle.past_laws.proofs.SitesSteps.{entry, sites_up, sites_stopped, sites_left, sites_joined, sites_committed, sites_adopted, outside, within}
 use Rattle.past_laws.proofs.SitesCalls.{sites_accepted, sites_answered, sites_still, taking, TakesFree}
-use Rattle.past_laws.proofs.SitesFree.{FreeWant, FreeReply, wants_free, free_stands}
+use Rattle.past_laws.proofs.SitesFree.{FreeWant, FreeReply, MayGive, wants_free, with_bytes, free_stands}
 
 -- Sites of the cluster.
 
@@ -110,11 +111,14 @@ caller_named c before p site process id w calls by = sym (calls.named id) ∙ (a
 -- an open that is answered takes a number that stands for nothing
 takes_free : (c : Config) (before : Trace) (p : Past) (site process : ℕ) (id : CallId) (r : Reply) (w : Waiting) → CallsAgree c before p → Caller before p site process id w → now_wants c before w ≡ Give r → TakesFree r before site process
 takes_free c before p site process id r w calls by gives = λ fd e. free_stands (descriptor before site process) 0 descriptors_max fd
-    (subst (FreeReply (lowest_free (descriptor before site process))) e (subst (FreeWant (lowest_free (descriptor before site process))) gives (now (left_epoch before w) (wants_next c before w.call) (next (begun before w.call) (answers c before w.call)))))
+    (subst (FreeReply (may (descriptor before site process))) e (subst (FreeWant (may (descriptor before site process))) gives (now (left_epoch before w) (wants_next c before w.call) (next (begun before w.call) (answers c before w.call)))))
   where
-    script : (begins : Option Beginning) (so_far : Answers) → FreeWant (lowest_free (descriptor before w.site w.process)) (wants_as c before (Some w) begins so_far)
+    may : (ℕ → Option Descriptor) → MayGive
+    may t = with_bytes (lowest_free t)
+
+    script : (begins : Option Beginning) (so_far : Answers) → FreeWant (may (descriptor before w.site w.process)) (wants_as c before (Some w) begins so_far)
     script None so_far = tt
-    script (Some begins) so_far = wants_free (lowest_free (descriptor before w.site w.process)) c.mounts _ w.words begins so_far
+    script (Some begins) so_far = wants_free (may (descriptor before w.site w.process)) c.mounts _ w.words begins (λ k. refl) so_far
 
     call : w.call ≡ id
     call = ap (λ (v : Waiting). v.call) (sym by.is) ∙ by.own
@@ -122,12 +126,12 @@ takes_free c before p site process id r w calls by gives = λ fd e. free_stands 
     named : call_named before w.call ≡ Some w
     named = ap (call_named before) call ∙ caller_named c before p site process id w calls by
 
-    next : (begins : Option Beginning) (so_far : Answers) → FreeWant (lowest_free (descriptor before site process)) (wants_as c before (call_named before w.call) begins so_far)
-    next begins so_far = subst (λ (o : Option Waiting). FreeWant (lowest_free (descriptor before site process)) (wants_as c before o begins so_far)) (sym named)
-        (subst (λ n. FreeWant (lowest_free (descriptor before n process)) (wants_as c before (Some w) begins so_far)) (ap (λ (v : Waiting). v.site) (sym by.is) ∙ by.at)
-        (subst (λ n. FreeWant (lowest_free (descriptor before w.site n)) (wants_as c before (Some w) begins so_far)) (ap (λ (v : Waiting). v.process) (sym by.is) ∙ by.of) (script begins so_far)))
+    next : (begins : Option Beginning) (so_far : Answers) → FreeWant (may (descriptor before site process)) (wants_as c before (call_named before w.call) begins so_far)
+    next begins so_far = subst (λ (o : Option Waiting). FreeWant (may (descriptor before site process)) (wants_as c before o begins so_far)) (sym named)
+        (subst (λ n. FreeWant (may (descriptor before n process)) (wants_as c before (Some w) begins so_far)) (ap (λ (v : Waiting). v.site) (sym by.is) ∙ by.at)
+        (subst (λ n. FreeWant (may (descriptor before w.site n)) (wants_as c before (Some w) begins so_far)) (ap (λ (v : Waiting). v.process) (sym by.is) ∙ by.of) (script begins so_far)))
 
-    now : (o : Option EpochId) (want : Want) → FreeWant (lowest_free (descriptor before site process)) want → FreeWant (lowest_free (descriptor before site process)) (unless_left o want)
+    now : (o : Option EpochId) (want : Want) → FreeWant (may (descriptor before site process)) want → FreeWant (may (descriptor before site process)) (unless_left o want)
     now None want h = h
     now (Some e) want h = tt
 
@@ -170,7 +174,8 @@ sites_step c line (rec.Answer site process id r) before p may ours given a = pas
     over by = subst (λ (ks : List CallSoFar). SitesSay c (entry line (rec.Answer site process id r) ∷ before) (fold (λ old k. replied_to r k old) p ks).sites) (sym by.only)
         (subst (λ n. SitesSay c (entry line (rec.Answer site process id r) ∷ before) (change (has_number n) (taking r by.k) p.sites)) (sym by.at)
         (sites_answered c line site process id r by.k before p.sites by.of
-        (a.calls.granted by.k (subst (λ (i : CallId). find (is_id i) p.calls ≡ Some by.k) (sym by.own) by.found) ∙ ap (opening_of before) by.own)
+        (a.calls.granted by.k (subst (λ (i : CallId). find (is_id i) p.calls ≡ Some by.k) (sym by.own) by.found) ∙ ap (opened_as before) by.own)
+        (caller_named c before p site process id may.caller a.calls by ∙ ap (λ (w : Waiting). Some w) (sym by.is))
         (takes_free c before p site process id r may.caller a.calls by (given may.caller may.waits))
         (said_of_past c before p a.sites) (of_cluster_there c p.sites site a.sites.numbers ours)))
 sites_step c line (rec.Release e i f stamp) before p may ours given a = past_as_said c _ (after c (rec.Release e i f stamp) p)

@@ -7,20 +7,24 @@ use Rattle.locus_ids.specs.declared.ids.CallId.{CallId}
 use Rattle.trace_book.specs.declared.call.Call.{Call}
 use Rattle.trace_book.specs.declared.call.Call.TheVariants as call
 use Rattle.trace_book.specs.declared.descriptor.Descriptor.{Descriptor}
+use Rattle.trace_book.specs.declared.descriptor.OneVersion.{OneVersion}
 use Rattle.trace_book.specs.declared.reply.Reply.{Reply}
 use Rattle.trace_book.specs.declared.reply.Reply.TheVariants as reply
 use Rattle.trace_book.specs.declared.record.Record.{Record}
 use Rattle.trace_book.specs.declared.record.Record.TheVariants.{Up, Stopped, Leave, Join, Accept, Commit, Adopt, Answer}
-use Rattle.tree_model.specs.Calls.{opening_of}
+use Rattle.tree_model.specs.declared.accepted.Waiting.{Waiting}
+use Rattle.tree_model.specs.Calls.{call_named, opening_of, version_of}
 use Rattle.tree_model.specs.Epochs.{calls_accepted}
 use Rattle.tree_model.specs.Folds.{Trace}
-use Rattle.lawful_trace.specs.Tables.{descriptor, closed_by, opened_by}
+use Rattle.lawful_trace.specs.Tables.{descriptor, closed_by, held_again as held_as, is_read_of, kept_by, opened_as, opened_by, reads_by}
 use Rattle.promises.specs.Past.{Site, Named, CallSoFar, stamp_in}
-use Rattle.promises.specs.After.{change, is_freed, taken_by}
+use Rattle.promises.specs.After.{change, held_again, held_by, is_freed, is_read_by, taken_by}
+use Rattle.past_laws.specs.Agreement.{waiting_as}
 use Rattle.past_laws.proofs.Names.{number_eq, number_own, false_true, both, both_parts}
 use Rattle.past_laws.proofs.Changing.{find_filtered, find_filtered_out}
 use Rattle.past_laws.proofs.SitesSay.{SitesSay, has_number, is_there_in, table_in, same_there, part_step, part_still, numbers_still}
 use Rattle.past_laws.proofs.SitesSteps.{entry}
+use Rattle.past_laws.proofs.TreesCopies.{turned}
 
 -- A call is accepted.
 
@@ -105,43 +109,99 @@ sites_accepted c line s process id words before sites say there = record {
 -- A call is answered.
 
 abbrev pub taking : Reply → CallSoFar → Site → Site
-taking r k x = record x { descriptors = taken_by r k ++ x.descriptors }
+taking r k x = record x { descriptors = taken_by r k ++ held_again r k x.descriptors }
 
 -- an open takes a number that stands for nothing
 abbrev pub TakesFree : Reply → Trace → ℕ → ℕ → Type 0
 TakesFree r before s process = (fd : ℕ) → r ≡ reply.Opened fd → descriptor before s process fd ≡ None
 
--- what a process has at a number once an open took one
-abbrev taken : Reply → ℕ → ℕ → ℕ → Option Descriptor → Option Descriptor → Option Descriptor
-taken (reply.Opened n) process at fd (Some d) old = cond ((process == at) && (n == fd)) (Some d) old
-taken _ process at fd opening old = old
+-- what a process has at a number once an open took one, or a read has opened a version again
+abbrev taken : Reply → Call → ℕ → ℕ → ℕ → Option Descriptor → Option Descriptor → Option Descriptor
+taken (reply.Opened n) words process at fd (Some d) old = cond ((process == at) && (n == fd)) (Some d) old
+taken (reply.Data bytes) words process at fd opening old = cond ((process == at) && is_read_of words fd) (held_as opening old) old
+taken _ words process at fd opening old = old
 
-slots_taken : (r : Reply) (k : CallSoFar) (at fd : ℕ) (x : Site) (o : Option Descriptor) → k.granted ≡ o → table_in (taking r k x) at fd ≡ taken r k.process at fd o (table_in x at fd)
+-- a number is read by where its descriptor is
+read_slot : (words : Call) (process at fd : ℕ) (d : Named) → is_slot at fd d ≡ true → is_read_by words process d ≡ ((process == at) && is_read_of words fd)
+read_slot (call.Read n at_byte len) process at fd d h =
+    let its = both_parts (d.process == at) (d.fd == fd) h in
+    ap (λ m. (m == process) && (d.fd == n)) (number_eq d.process at its.0) ∙ (ap (λ m. (at == process) && (m == n)) (number_eq d.fd fd its.1)
+    ∙ (ap (λ b. b && (fd == n)) (turned at process) ∙ ap (λ b. (process == at) && b) (turned fd n)))
+read_slot _ process at fd d h = never (process == at)
+  where
+    never : (b : Bool) → false ≡ (b && false)
+    never true = refl
+    never false = refl
+
+still_slot : (opening : Option Descriptor) (at fd : ℕ) (b : Bool) (d : Named) → is_slot at fd (cond b (held_by opening d) d) ≡ is_slot at fd d
+still_slot None at fd true d = refl
+still_slot (Some o) at fd true d = refl
+still_slot opening at fd false d = refl
+
+held_name : (opening : Option Descriptor) (b : Bool) (d : Named) → Some (cond b (held_by opening d) d).names ≡ cond b (held_as opening (Some d.names)) (Some d.names)
+held_name None true d = refl
+held_name (Some o) true d = refl
+held_name opening false d = refl
+
+held_slots : (words : Call) (process at fd : ℕ) (opening : Option Descriptor) (ds : List Named)
+    → option_map (λ (d : Named). d.names) (find (is_slot at fd) (change (is_read_by words process) (held_by opening) ds)) ≡ cond ((process == at) && is_read_of words fd) (held_as opening (option_map (λ (d : Named). d.names) (find (is_slot at fd) ds))) (option_map (λ (d : Named). d.names) (find (is_slot at fd) ds))
+held_slots words process at fd opening [] = none opening ((process == at) && is_read_of words fd)
+  where
+    none : (o : Option Descriptor) (b : Bool) → None ≡ cond b (held_as o None) None
+    none None true = refl
+    none (Some d) true = refl
+    none o false = refl
+held_slots words process at fd opening (d ∷ ds) = over (is_slot at fd d) refl (held_slots words process at fd opening ds)
+  where
+    now : Bool → Named
+    now b = cond b (held_by opening d) d
+
+    over : (b : Bool) → is_slot at fd d ≡ b
+        → option_map (λ (d : Named). d.names) (find (is_slot at fd) (change (is_read_by words process) (held_by opening) ds)) ≡ cond ((process == at) && is_read_of words fd) (held_as opening (option_map (λ (d : Named). d.names) (find (is_slot at fd) ds))) (option_map (λ (d : Named). d.names) (find (is_slot at fd) ds))
+        → option_map (λ (d : Named). d.names) (cond (is_slot at fd (now (is_read_by words process d))) (Some (now (is_read_by words process d))) (find (is_slot at fd) (change (is_read_by words process) (held_by opening) ds)))
+        ≡ cond ((process == at) && is_read_of words fd) (held_as opening (option_map (λ (d : Named). d.names) (cond b (Some d) (find (is_slot at fd) ds)))) (option_map (λ (d : Named). d.names) (cond b (Some d) (find (is_slot at fd) ds)))
+    over true h later = rw (still_slot opening at fd (is_read_by words process d) d, h) (held_name opening (is_read_by words process d) d ∙ ap (λ b. cond b (held_as opening (Some d.names)) (Some d.names)) (read_slot words process at fd d h))
+    over false h later = rw (still_slot opening at fd (is_read_by words process d) d, h) later
+
+slots_taken : (r : Reply) (k : CallSoFar) (at fd : ℕ) (x : Site) (o : Option Descriptor) → k.granted ≡ o → table_in (taking r k x) at fd ≡ taken r k.words k.process at fd o (table_in x at fd)
 slots_taken (reply.Opened n) k at fd x None e = rw e refl
 slots_taken (reply.Opened n) k at fd x (Some d) e = rw e (choice ((k.process == at) && (n == fd)) (find (is_slot at fd) x.descriptors))
   where
     choice : (b : Bool) (old : Option Named) → option_map (λ (m : Named). m.names) (cond b (Some (record { process = k.process; fd = n; names = d })) old) ≡ cond b (Some d) (option_map (λ (m : Named). m.names) old)
     choice true old = refl
     choice false old = refl
+slots_taken (reply.Data bytes) k at fd x o e = rw e (held_slots k.words k.process at fd o x.descriptors)
 slots_taken r k at fd x o e = refl
 
+-- the version that is kept doesn't hang on the opening's
+held_alike : (version : Option OneVersion) (opening old : Option Descriptor) → held_as (option_map (λ (d : Descriptor). record d { steady = version }) opening) old ≡ held_as opening old
+held_alike version None old = refl
+held_alike version (Some o) None = refl
+held_alike version (Some o) (Some d) = refl
+
 -- as the fold has it
-taken_so : (r : Reply) (s z process at fd : ℕ) (o old : Option Descriptor) → ((n : ℕ) → r ≡ reply.Opened n → ((s == z) && (process == at)) ≡ true → n ≡ fd → old ≡ None)
-    → cond (s == z) (taken r process at fd o old) old ≡ cond ((s == z) && (process == at)) (opened_by r fd o old) old
-taken_so (reply.Opened n) s z process at fd o old free = by (s == z) (process == at) (n == fd) o refl refl refl
+taken_so : (r : Reply) (words : Call) (before : Trace) (id : CallId) (s z process at fd : ℕ) (old : Option Descriptor) → reads_by (call_named before id) fd ≡ is_read_of words fd → ((n : ℕ) → r ≡ reply.Opened n → ((s == z) && (process == at)) ≡ true → n ≡ fd → old ≡ None)
+    → cond (s == z) (taken r words process at fd (opened_as before id) old) old ≡ cond ((s == z) && (process == at)) (opened_by r before id fd old) old
+taken_so (reply.Opened n) words before id s z process at fd old reads free = by (s == z) (process == at) (n == fd) (opened_as before id) refl refl refl
   where
-    by : (a b e : Bool) (o' : Option Descriptor) → (s == z) ≡ a → (process == at) ≡ b → (n == fd) ≡ e → cond a (taken (reply.Opened n) process at fd o' old) old ≡ cond (a && b) (cond e o' old) old
-    by false b e o' f g h = refl
+    by : (a b e : Bool) (o : Option Descriptor) → (s == z) ≡ a → (process == at) ≡ b → (n == fd) ≡ e → cond a (taken (reply.Opened n) words process at fd o old) old ≡ cond (a && b) (cond e o old) old
+    by false b e o f g h = refl
     by true false e None f g h = refl
     by true false e (Some d) f g h = rw g refl
     by true true false None f g h = refl
     by true true true None f g h = free n refl (both (s == z) (process == at) f g) (number_eq n fd h)
     by true true e (Some d) f g h = rw (g, h) refl
-taken_so r s z process at fd o old free = sym (same_choice (s == z) old) ∙ same_choice ((s == z) && (process == at)) old
+taken_so (reply.Data bytes) words before id s z process at fd old reads free = by (s == z) (process == at) ∙ ap (λ (b : Bool). cond ((s == z) && (process == at)) (cond b (held_as (opening_of before id) old) old) old) (sym reads)
+  where
+    by : (a b : Bool) → cond a (cond (b && is_read_of words fd) (held_as (opened_as before id) old) old) old ≡ cond (a && b) (cond (is_read_of words fd) (held_as (opening_of before id) old) old) old
+    by false b = refl
+    by true false = refl
+    by true true = ap (λ (o : Option Descriptor). cond (is_read_of words fd) o old) (held_alike (kept_by (call_named before id) (version_of before id)) (opening_of before id) old)
+taken_so r words before id s z process at fd old reads free = sym (same_choice (s == z) old) ∙ same_choice ((s == z) && (process == at)) old
 
-pub sites_answered : (c : Config) (line s process : ℕ) (id : CallId) (r : Reply) (k : CallSoFar) (before : Trace) (sites : List Site) → k.process ≡ process → k.granted ≡ opening_of before id → TakesFree r before s process → SitesSay c before sites → is_there_in sites s ≡ true
+pub sites_answered : (c : Config) (line s process : ℕ) (id : CallId) (r : Reply) (k : CallSoFar) (before : Trace) (sites : List Site) → k.process ≡ process → k.granted ≡ opened_as before id → call_named before id ≡ Some (waiting_as k) → TakesFree r before s process → SitesSay c before sites → is_there_in sites s ≡ true
     → SitesSay c (entry line (Answer s process id r) ∷ before) (change (has_number s) (taking r k) sites)
-sites_answered c line s process id r k before sites of granted free say there = record {
+sites_answered c line s process id r k before sites of granted named free say there = record {
   numbers = numbers_still s (taking r k) (λ x. refl) sites ∙ say.numbers;
   up = λ z h. part_still (λ (x : Site). x.up) s z (taking r k) (λ x. refl) (λ x. refl) sites ∙ say.up z (was z h);
   boot = λ z h. part_still (λ (x : Site). x.boot) s z (taking r k) (λ x. refl) (λ x. refl) sites ∙ say.boot z (was z h);
@@ -149,9 +209,9 @@ sites_answered c line s process id r k before sites of granted free say there = 
   joined = λ z. part_still (λ (x : Site). x.joined) s z (taking r k) (λ x. refl) (λ x. refl) sites ∙ say.joined z;
   accepted = λ z. part_still (λ (x : Site). x.accepted) s z (taking r k) (λ x. refl) (λ x. refl) sites ∙ say.accepted z;
   held = λ z h f. part_still (λ (x : Site). stamp_in x.held f) s z (taking r k) (λ x. refl) (λ x. refl) sites ∙ say.held z (was z h) f;
-  table = λ z at fd. part_step (λ (x : Site). table_in x at fd) (taken r k.process at fd (opening_of before id)) s z (taking r k) (λ x. refl) (λ x. slots_taken r k at fd x (opening_of before id) granted) sites there (descriptor before z at fd) (say.table z at fd)
-      ∙ (ap (λ q. cond (s == z) (taken r q at fd (opening_of before id) (descriptor before z at fd)) (descriptor before z at fd)) of
-      ∙ taken_so r s z process at fd (opening_of before id) (descriptor before z at fd) (frees z at fd));
+  table = λ z at fd. part_step (λ (x : Site). table_in x at fd) (taken r k.words k.process at fd (opened_as before id)) s z (taking r k) (λ x. refl) (λ x. slots_taken r k at fd x (opened_as before id) granted) sites there (descriptor before z at fd) (say.table z at fd)
+      ∙ (ap (λ q. cond (s == z) (taken r k.words q at fd (opened_as before id) (descriptor before z at fd)) (descriptor before z at fd)) of
+      ∙ taken_so r k.words before id s z process at fd (descriptor before z at fd) (ap (λ (w : Option Waiting). reads_by w fd) named) (frees z at fd));
   down = say.down;
 }
   where

@@ -8,8 +8,9 @@ use Rattle.trace_book.specs.Same.{same_epoch}
 use Rattle.call_rules.specs.declared.answer.Answer.{Answer}
 use Rattle.trace_book.specs.declared.reply.Reply.{Reply}
 use Rattle.tree_model.specs.Epochs.{is_in}
-use Rattle.promises.specs.Past.{Past, Epoch, Instance, CallSoFar, Left, Copy, first_or, epoch_at, unformed, site_at, Named, is_named}
-use Rattle.promises.specs.After.{with_all_known, uses, taken_by, left_unmended, change, change_epoch, is_epoch, is_home_of, departed, with_epoch, joined, accepted, answered, replied_to}
+use Rattle.promises.specs.Past.{Past, Epoch, Instance, CallSoFar, Left, Copy, first_or, epoch_at, unformed, site_at, is_named}
+use Rattle.promises.specs.After.{with_all_known, uses, left_unmended, change, change_epoch, is_epoch, is_home_of, departed, with_epoch, joined, accepted, answered, replied_to, named_by, once_named}
+use Rattle.trace_book.specs.declared.descriptor.Descriptor.{Descriptor}
 use Rattle.past_laws.proofs.Names.{false_true, epoch_eq, epoch_own}
 use Rattle.past_laws.proofs.Changing.{changed, changed_so, changed_not, part_kept}
 
@@ -105,12 +106,12 @@ joined_kept g listed keep site a m p e = at_kept g (is_epoch a) (λ (t : Epoch).
 pub accepted_kept : {Y : Type 0} (g : Epoch → Y) → ((t : Epoch) (which : Instance → Bool) → g (record t { opened = change which (λ (x : Instance). record x { uses = x.uses + 1 }) t.opened }) ≡ g t) → (site : ℕ) (k : CallSoFar) (p : Past) (e : EpochId) → g (epoch_at (accepted site k p) e) ≡ g (epoch_at p e)
 accepted_kept g keep site k p e = at_kept g (λ (t : Epoch). is_in k.epoch t.id) (λ (t : Epoch). record t { opened = change (uses k.begins k.words t.id) (λ (x : Instance). record x { uses = x.uses + 1 }) t.opened }) (λ t. refl) (λ t. keep t _) (record p { calls = k ∷ p.calls }) e
 
-pub replied_kept : {Y : Type 0} (g : Epoch → Y) → ((t : Epoch) (which : Instance → Bool) (fs : List FileId) → g (record t { opened = change which (λ (x : Instance). record x { named = true }) t.opened; unmended = fs }) ≡ g t) → (r : Reply) (k : CallSoFar) (p : Past) (e : EpochId) → g (epoch_at (replied_to r k p) e) ≡ g (epoch_at p e)
-replied_kept {Y} g keep r k p e = each p.epochs
+pub replied_kept : {Y : Type 0} (g : Epoch → Y) → (r : Reply) → ((t : Epoch) (which : Instance → Bool) (fs : List FileId) → g (record t { opened = change which (once_named r) t.opened; unmended = fs }) ≡ g t) → (k : CallSoFar) (p : Past) (e : EpochId) → g (epoch_at (replied_to r k p) e) ≡ g (epoch_at p e)
+replied_kept {Y} g r keep k p e = each p.epochs
   where
     once : Epoch → Epoch
     once t = record t {
-      opened = change (λ (x : Instance). list_any (λ (d : Named). is_in (Some d.names.epoch) t.id && is_named d.names.inst x) (taken_by r k)) (λ (x : Instance). record x { named = true }) t.opened;
+      opened = change (λ (x : Instance). list_any (λ (d : Descriptor). is_in (Some d.epoch) t.id && is_named d.inst x) (named_by r k)) (once_named r) t.opened;
       unmended = cond (is_in k.epoch t.id) (left_unmended r k.words) [] ++ t.unmended;
     }
 
@@ -122,9 +123,9 @@ replied_kept {Y} g keep r k p e = each p.epochs
     each [] = refl
     each (t ∷ ts) = at (is_epoch e t) t (first_or (unformed e) (is_epoch e) (map once ts)) (first_or (unformed e) (is_epoch e) ts) (each ts)
 
-pub answered_kept : {Y : Type 0} (g : Epoch → Y) → ((t : Epoch) (which : Instance → Bool) (fs : List FileId) → g (record t { opened = change which (λ (x : Instance). record x { named = true }) t.opened; unmended = fs }) ≡ g t) → (r : Reply) (ks : List CallSoFar) (p : Past) (e : EpochId) → g (epoch_at (fold (λ old k. replied_to r k old) p ks) e) ≡ g (epoch_at p e)
-answered_kept g keep r [] p e = refl
-answered_kept g keep r (k ∷ ks) p e = answered_kept g keep r ks (replied_to r k p) e ∙ replied_kept g keep r k p e
+pub answered_kept : {Y : Type 0} (g : Epoch → Y) → (r : Reply) → ((t : Epoch) (which : Instance → Bool) (fs : List FileId) → g (record t { opened = change which (once_named r) t.opened; unmended = fs }) ≡ g t) → (ks : List CallSoFar) (p : Past) (e : EpochId) → g (epoch_at (fold (λ old k. replied_to r k old) p ks) e) ≡ g (epoch_at p e)
+answered_kept g r keep [] p e = refl
+answered_kept g r keep (k ∷ ks) p e = answered_kept g r keep ks (replied_to r k p) e ∙ replied_kept g r keep k p e
 
 -- what is answered to calls leaves all epochs, sites and versions
 pub record SaveCalls (old new : Past) : Type 0 where

@@ -1,5 +1,5 @@
 -- Calls are of sites of the cluster.
-use Rattle.std.proofs.Common.{◌≡◌, ℕ, ◌-◌, ◌==◌, Bool, true, false, cond, ◌++◌, List, [], ◌∷◌, filter, take, fold, Some, refl, ap, ◌∙◌}
+use Rattle.std.proofs.Common.{◌≡◌, ℕ, ◌-◌, ◌==◌, Bool, true, false, cond, ◌++◌, List, [], ◌∷◌, filter, take, fold, Some, None, refl, ap, ◌∙◌}
 use Rattle.std.specs.List.{list_any, list_all}
 use Rattle.locus_ids.specs.declared.config.Config.{Config}
 use Rattle.locus_ids.specs.declared.ids.CallId.{CallId}
@@ -7,7 +7,9 @@ use Rattle.trace_book.specs.declared.call.Call.{Call}
 use Rattle.trace_book.specs.declared.call.Call.TheVariants as call
 use Rattle.trace_book.specs.declared.record.Record.{Record}
 use Rattle.trace_book.specs.declared.record.Record.TheVariants as says
+use Rattle.call_rules.specs.Opening.{is_steady}
 use Rattle.call_rules.specs.declared.answer.Answer.TheVariants.{Refused}
+use Rattle.tree_model.specs.Calls.{version_at}
 use Rattle.tree_model.specs.Folds.{Trace}
 use Rattle.lawful_trace.specs.CallRows.{CallRow, next_call}
 use Rattle.lawful_trace.specs.Lawful.{MayCome}
@@ -38,7 +40,7 @@ pub callers_step : (c : Config) (r : Record) (before : Trace) (p : Past) → May
 callers_step c (says.Stopped s w) before p may speaks a = same c (λ (k : CallSoFar). k.id.site == s) (λ (k : CallSoFar). record k { waits = false }) (λ k. refl) p.calls ∙ a.trees.callers
 callers_step c (says.Accept s q id words) before p may speaks a = both (is_of_cluster c id.site) (are_callers c p.calls) (ap (λ (d : CallId). is_of_cluster c d.site) (named_for c before s q id words may) ∙ speaks) a.trees.callers
 callers_step c (says.Look e id n f w result) before p may speaks a = same c (is_id id) (λ (k : CallSoFar). record k { answers = take (n - 1) k.answers ++ look_answer p f w result ∷ [] }) (λ k. refl) p.calls ∙ a.trees.callers
-callers_step c (says.Grant e id n i m f stamp ss) before p may speaks a = same c (is_id id) (λ (k : CallSoFar). record k { granted = Some (record { mode = m; epoch = e; inst = i }); answers = k.answers ++ granted_answer m i f (kept_in p (epoch_at p e) f) ∷ [] }) (λ k. refl) p.calls ∙ a.trees.callers
+callers_step c (says.Grant e id n i m f stamp ss) before p may speaks a = same c (is_id id) (λ (k : CallSoFar). record k { granted = Some (record { mode = m; epoch = e; inst = i; steady = cond (is_steady k.words) (version_at f stamp) None }); answers = k.answers ++ granted_answer m i f stamp (kept_in p (epoch_at p e) f) ∷ [] }) (λ k. refl) p.calls ∙ a.trees.callers
 callers_step c (says.Refuse e id n i m f why) before p may speaks a = same c (is_id id) (λ (k : CallSoFar). record k { answers = k.answers ++ Refused why ∷ [] }) (λ k. refl) p.calls ∙ a.trees.callers
 callers_step c (says.Act e i n o result) before p may speaks a = same c (is_actor (epoch_at p e) i n) (λ (k : CallSoFar). record k { answers = k.answers ++ outcome_answer result ∷ [] }) (λ k. refl) p.calls ∙ a.trees.callers
 callers_step c (says.Release e i f stamp) before p may speaks a = each c (λ old x. answered (is_ender (epoch_at p e) i) (close_answer stamp x) old) (λ q x. same c (is_ender (epoch_at p e) i) (λ (k : CallSoFar). record k { answers = k.answers ++ close_answer stamp x ∷ [] }) (λ k. refl) q.calls) (filter (is_named i) (epoch_at p e).opened) p ∙ a.trees.callers

@@ -22,7 +22,7 @@ use Rattle.tree_model.specs.Tree.{next, tree_of}
 use Rattle.tree_model.specs.State.{TreeState, is_make, is_granted_here}
 use Rattle.trace_book.specs.Same.{same_call, same_epoch}
 use Rattle.promises.specs.Past.{Past, Epoch, Instance, Left, Make, Copy, first_or, epoch_at, unformed, site_at, table, is_writer, is_named}
-use Rattle.promises.specs.After.{change, is_epoch, is_home_of, is_id, acted, answered, is_actor, is_ender, close_answer, released, opened_as, process_of, has_now, with_making, begun_call, after}
+use Rattle.promises.specs.After.{change, is_epoch, is_home_of, is_id, acted, answered, is_actor, is_ender, close_answer, released, opened_as, process_of, has_now, with_making, begun_call, after, once_named}
 use Rattle.lawful_trace.specs.Progress.{outcome_answer}
 use Rattle.past_laws.proofs.TreesAt.{at_kept, left_kept, joined_kept, accepted_kept, answered_kept, answers_kept}
 
@@ -38,7 +38,7 @@ IsBlind g (says.Refuse e id request i m f why) = (t : Epoch) (ms : List Make) �
 IsBlind g (says.Act e i n o result) = (t : Epoch) (xs : List Instance) (ms : List Make) → g (record t { opened = xs; makes = ms }) ≡ g t
 IsBlind g (says.Commit f site stamp parents content) = (t : Epoch) (xs : List Instance) → g (record t { opened = xs }) ≡ g t
 IsBlind g (says.Release e i f stamp) = (t : Epoch) (vs : List Copy) (xs : List Instance) (ms : List Make) → g (record t { known = vs; opened = xs; makes = ms }) ≡ g t
-IsBlind g (says.Answer site process id r) = (t : Epoch) (which : Instance → Bool) (fs : List FileId) → g (record t { opened = change which (λ (x : Instance). record x { named = true }) t.opened; unmended = fs }) ≡ g t
+IsBlind g (says.Answer site process id r) = (t : Epoch) (which : Instance → Bool) (fs : List FileId) → g (record t { opened = change which (once_named r) t.opened; unmended = fs }) ≡ g t
 IsBlind g _ = Unit {0}
 
 pub told_kept : {Y : Type 0} (g : Epoch → Y) (c : Config) (r : Record) (p : Past) → IsBlind g r → (e : EpochId) → g (epoch_at (after c r p) e) ≡ g (epoch_at p e)
@@ -60,7 +60,7 @@ told_kept g c (says.Commit f site stamp parents content) p k e = at_kept g (is_h
 told_kept g c (says.Release a i f stamp) p k e = at_kept g (is_epoch a) (released i f stamp) (λ t. refl) (λ t. k t _ _ _) (fold (λ old x. answered (is_ender (epoch_at p a) i) (close_answer stamp x) old) p (filter (is_named i) (epoch_at p a).opened)) e
     ∙ ap (λ es. g (first_or (unformed e) (is_epoch e) es)) (answers_kept (is_ender (epoch_at p a) i) (close_answer stamp) (filter (is_named i) (epoch_at p a).opened) p).epochs
 told_kept g c (says.Adopt f site stamp) p k e = refl
-told_kept g c (says.Answer site process id r) p k e = answered_kept g k r (filter (is_id id) p.calls) p e
+told_kept g c (says.Answer site process id r) p k e = answered_kept g r k (filter (is_id id) p.calls) p e
 told_kept g c (says.Packet number from to kind) p k e = refl
 told_kept g c says.Void p k e = refl
 told_kept g c says.Budget p k e = refl

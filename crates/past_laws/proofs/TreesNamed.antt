@@ -16,7 +16,10 @@ use Rattle.trace_book.specs.declared.operation.Op.{Op}
 use Rattle.trace_book.specs.declared.operation.Outcome.{Outcome}
 use Rattle.trace_book.specs.declared.record.Record.{Record}
 use Rattle.trace_book.specs.declared.record.Record.TheVariants as says
+use Rattle.call_rules.specs.Opening.{is_steady}
+use Rattle.tree_model.specs.Calls.{version_at}
 use Rattle.tree_model.specs.declared.instance.Granted.{Granted}
+use Rattle.tree_model.specs.declared.instance.Instance.{Instance}
 use Rattle.tree_model.specs.Folds.{Trace}
 use Rattle.tree_model.specs.Histories.{history}
 use Rattle.tree_model.specs.State.{TreeState}
@@ -25,7 +28,7 @@ use Rattle.tree_model.specs.Tree.{tree_of}
 use Rattle.lawful_trace.specs.Lawful.{MayCome}
 use Rattle.lawful_trace.specs.Progress.{outcome_answer}
 use Rattle.promises.specs.Past.{Past, Epoch, Instance as OpenInstance, epoch_at, is_named, is_writer, first_or, unformed}
-use Rattle.promises.specs.After.{after, change, opened_as, acted, answered, is_actor, is_ender, close_answer, released, has_now, with_making, is_home_of, is_epoch}
+use Rattle.promises.specs.After.{after, change, opened_as, acted, answered, is_actor, is_ender, close_answer, released, has_now, with_making, is_home_of, is_epoch, once_named}
 use Rattle.promises.specs.Tree.{work_after}
 use Rattle.past_laws.specs.Agreement.{Agrees}
 use Rattle.past_laws.proofs.Names.{false_true, both, both_parts}
@@ -52,7 +55,7 @@ use Rattle.promises.specs.Past.{CallSoFar, kept_in}
 use Rattle.promises.specs.After.{is_id, look_answer, replied_to}
 use Rattle.past_laws.proofs.TreesAt.{at_kept}
 use Rattle.past_laws.proofs.TreesKept.{told_kept}
-use Rattle.past_laws.proofs.TreesOpenedSteps.{ends_some}
+use Rattle.past_laws.proofs.TreesOpenedSteps.{ends_some, once_same}
 use Rattle.past_laws.proofs.TreesFormed.{named_any}
 use Rattle.past_laws.proofs.TreesLists.{missed, all_filter, all_more}
 use Rattle.past_laws.proofs.Changing.{any_changed, map_changed}
@@ -158,7 +161,7 @@ grows c (says.Act a i n o result) before p may k e = Still (keeps_act c p a i n 
 grows c (says.Commit f s stamp ps content) before p may k e = Still (keeps_commit c p f s stamp ps content e) (told_kept (λ (t : Epoch). t.granted) c (says.Commit f s stamp ps content) p (λ t xs. refl) e)
 grows c (says.Release a i f stamp) before p may k e = grows_release c before p a i f stamp may k e
 grows c (says.Adopt f s stamp) before p may k e = still c (says.Adopt f s stamp) before p e tt tt
-grows c (says.Answer s q id r) before p may k e = still c (says.Answer s q id r) before p e (λ t w fs. same_grants w (λ (x : OpenInstance). record x { named = true }) (λ x. refl) t.opened) (λ t w fs. refl)
+grows c (says.Answer s q id r) before p may k e = still c (says.Answer s q id r) before p e (λ t w fs. same_grants w (once_named r) (λ x. ap (λ (y : Instance). y.grant) (once_same r x)) t.opened) (λ t w fs. refl)
 grows c (says.Packet n from to kind) before p may k e = still c (says.Packet n from to kind) before p e tt tt
 grows c says.Void before p may k e = still c says.Void before p e tt tt
 grows c says.Budget before p may k e = still c says.Budget before p e tt tt
@@ -180,7 +183,7 @@ calls_grow c (says.Accept s q id words) p d h = at (same_call id d) h
     at true j = refl
     at false j = j
 calls_grow c (says.Look a id n f w result) p d h = changed_calls d (is_id id) (λ (k : CallSoFar). record k { answers = take (n - 1) k.answers ++ look_answer p f w result ∷ [] }) (λ k. refl) p.calls ∙ h
-calls_grow c (says.Grant a id n i m f stamp ss) p d h = changed_calls d (is_id id) (λ (k : CallSoFar). record k { granted = Some (record { mode = m; epoch = a; inst = i }); answers = k.answers ++ granted_answer m i f (kept_in p (epoch_at p a) f) ∷ [] }) (λ k. refl) p.calls ∙ h
+calls_grow c (says.Grant a id n i m f stamp ss) p d h = changed_calls d (is_id id) (λ (k : CallSoFar). record k { granted = Some (record { mode = m; epoch = a; inst = i; steady = cond (is_steady k.words) (version_at f stamp) None }); answers = k.answers ++ granted_answer m i f stamp (kept_in p (epoch_at p a) f) ∷ [] }) (λ k. refl) p.calls ∙ h
 calls_grow c (says.Refuse a id n i m f why) p d h = changed_calls d (is_id id) (λ (k : CallSoFar). record k { answers = k.answers ++ Refused why ∷ [] }) (λ k. refl) p.calls ∙ h
 calls_grow c (says.Act a i n o result) p d h = changed_calls d (is_actor (epoch_at p a) i n) (λ (k : CallSoFar). record k { answers = k.answers ++ outcome_answer result ∷ [] }) (λ k. refl) p.calls ∙ h
 calls_grow c (says.Release a i f stamp) p d h = calls_fold d (λ old x. answered (is_ender (epoch_at p a) i) (close_answer stamp x) old) (λ q x. changed_calls d (is_ender (epoch_at p a) i) (λ (k : CallSoFar). record k { answers = k.answers ++ close_answer stamp x ∷ [] }) (λ k. refl) q.calls) (filter (is_named i) (epoch_at p a).opened) p ∙ h

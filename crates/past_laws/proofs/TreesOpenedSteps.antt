@@ -19,6 +19,8 @@ use Rattle.trace_book.specs.declared.operation.Op.{Op}
 use Rattle.trace_book.specs.declared.operation.Outcome.{Outcome}
 use Rattle.trace_book.specs.declared.record.Record.{Record}
 use Rattle.trace_book.specs.declared.record.Record.TheVariants as says
+use Rattle.trace_book.specs.declared.reply.Reply.{Reply}
+use Rattle.trace_book.specs.declared.reply.Reply.TheVariants as reply
 use Rattle.tree_model.specs.declared.instance.Granted.{Granted}
 use Rattle.tree_model.specs.declared.instance.Instance.{Instance}
 use Rattle.tree_model.specs.Epochs.{epoch_of, is_in}
@@ -33,7 +35,7 @@ use Rattle.lawful_trace.specs.Lawful.{MayCome}
 use Rattle.lawful_trace.specs.TreeRows.{granted_group, is_writing, MayCommit}
 use Rattle.lawful_trace.specs.Progress.{outcome_answer}
 use Rattle.promises.specs.Past.{Past, Epoch, Instance as OpenInstance, epoch_at, is_named, is_writer, first_or, unformed}
-use Rattle.promises.specs.After.{after, change, opened_as, acted, answered, is_actor, is_ender, close_answer, released, has_now, with_making, is_home_of, is_epoch, change_epoch}
+use Rattle.promises.specs.After.{after, change, opened_as, acted, answered, is_actor, is_ender, close_answer, released, has_now, with_making, is_home_of, is_epoch, change_epoch, once_named}
 use Rattle.promises.specs.Tree.{work_after}
 use Rattle.past_laws.specs.Agreement.{Agrees, opened_in, instance_of}
 use Rattle.past_laws.proofs.Names.{false_true, epoch_eq, number_eq, both, both_parts}
@@ -259,8 +261,13 @@ opened_commit c before p f s stamp ps content may k e group = at (is_in (epoch_o
 accepts : (group : ℕ) (which : OpenInstance → Bool) (t : Epoch) → opened_in (record t { opened = change which (λ (x : OpenInstance). record x { uses = x.uses + 1 }) t.opened }) group ≡ opened_in t group
 accepts group which t = seen_kept group which (λ (x : OpenInstance). record x { uses = x.uses + 1 }) (λ x. refl) t.opened
 
-names : (group : ℕ) (which : OpenInstance → Bool) (t : Epoch) → seen group (change which (λ (x : OpenInstance). record x { named = true }) t.opened) ≡ opened_in t group
-names group which t = seen_kept group which (λ (x : OpenInstance). record x { named = true }) (λ x. refl) t.opened
+-- what a reply makes of an instance keeps whose it is, and its work
+pub once_same : (r : Reply) (x : OpenInstance) → instance_of (once_named r x) ≡ instance_of x
+once_same (reply.Data bytes) x = refl
+once_same _ x = refl
+
+names : (r : Reply) (group : ℕ) (which : OpenInstance → Bool) (t : Epoch) → seen group (change which (once_named r) t.opened) ≡ opened_in t group
+names r group which t = seen_kept group which (once_named r) (once_same r) t.opened
 
 pub opened_step : (c : Config) (r : Record) (before : Trace) (p : Past) → MayCome c before r → Agrees c before p → (e : EpochId) (group : ℕ) → OpenedAfter c r before p e group
 opened_step c (says.Up s b) before p may k e group = still c (says.Up s b) before p k e group tt (λ t ns. refl)
@@ -276,7 +283,7 @@ opened_step c (says.Act a i n o result) before p may k e group = opened_act c be
 opened_step c (says.Commit f s stamp ps content) before p may k e group = opened_commit c before p f s stamp ps content may k e group
 opened_step c (says.Release a i f stamp) before p may k e group = opened_release c before p a i f stamp may k e group
 opened_step c (says.Adopt f s stamp) before p may k e group = still c (says.Adopt f s stamp) before p k e group tt (λ t cs. refl)
-opened_step c (says.Answer s q id r) before p may k e group = still c (says.Answer s q id r) before p k e group (λ t w fs. names group w t) tt
+opened_step c (says.Answer s q id r) before p may k e group = still c (says.Answer s q id r) before p k e group (λ t w fs. names r group w t) tt
 opened_step c (says.Packet n from to kind) before p may k e group = still c (says.Packet n from to kind) before p k e group tt tt
 opened_step c says.Void before p may k e group = still c says.Void before p k e group tt tt
 opened_step c says.Budget before p may k e group = still c says.Budget before p k e group tt tt

@@ -17,7 +17,7 @@ use Rattle.tree_model.specs.Tree.{next, tree_of}
 use Rattle.lawful_trace.specs.Lawful.{MayCome}
 use Rattle.promises.specs.Past.{Past, Site, Epoch, Copy, Left, CallSoFar, is_named, first_or, no_site, site_at, epoch_at, unformed, copies_in, held_in, stamp_in}
 use Rattle.promises.specs.Rows.{is_there}
-use Rattle.promises.specs.After.{change, change_epoch, departed, is_home_of, is_freed, is_id, is_epoch, is_ender, close_answer, replied_to, taken_by, after, has_now}
+use Rattle.promises.specs.After.{change, change_epoch, departed, is_home_of, is_freed, is_id, is_epoch, is_ender, close_answer, replied_to, taken_by, after, has_now, held_again}
 use Rattle.past_laws.specs.Agreement.{Agrees, SitesAgree}
 use Rattle.past_laws.proofs.Names.{false_true, number_eq, file_eq}
 use Rattle.past_laws.proofs.Changing.{changed_so, changed_not}
@@ -43,7 +43,7 @@ versions s = s.held
 
 replies_stay : (r : Reply) (ks : List CallSoFar) (p : Past) (site : ℕ) → (site_at (fold (λ old k. replied_to r k old) p ks) site).held ≡ (site_at p site).held
 replies_stay r [] p site = refl
-replies_stay r (k ∷ ks) p site = replies_stay r ks (replied_to r k p) site ∙ site_kept versions k.id.site (λ (s : Site). record s { descriptors = taken_by r k ++ s.descriptors }) (λ s. refl) (λ s. refl) p.sites site
+replies_stay r (k ∷ ks) p site = replies_stay r ks (replied_to r k p) site ∙ site_kept versions k.id.site (λ (s : Site). record s { descriptors = taken_by r k ++ held_again r k s.descriptors }) (λ s. refl) (λ s. refl) p.sites site
 
 pub versions_stay : (c : Config) (r : Record) (p : Past) (site : ℕ) → VersionsStay c r p site
 versions_stay c (says.Up z b) p site = site_kept versions z (λ (s : Site). record s { up = true; boot = b; joined = None; accepted = 0 }) (λ s. refl) (λ s. refl) p.sites site

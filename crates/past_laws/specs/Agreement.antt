@@ -9,6 +9,7 @@ use Rattle.locus_ids.specs.declared.ids.CallId.{CallId}
 use Rattle.locus_ids.specs.declared.ids.Serial.{Serial}
 use Rattle.commit_graph.specs.Vectors.{numbers_from}
 use Rattle.commit_graph.specs.Versions.{same_file}
+use Rattle.trace_book.specs.declared.descriptor.Beginning.TheVariants.{Uses}
 use Rattle.trace_book.specs.declared.record.Record.{Record}
 use Rattle.trace_book.specs.declared.record.Record.TheVariants.{Up, Stopped, Leave, Join, Accept, Answer, Commit, Adopt}
 use Rattle.call_rules.specs.Descriptors.{lowest_free}
@@ -24,7 +25,7 @@ use Rattle.tree_model.specs.Tree.{tree_of}
 use Rattle.call_rules.specs.declared.want.Want.TheVariants.{Give}
 use Rattle.lawful_trace.specs.CallRows.{has_lost_mend, is_this}
 use Rattle.lawful_trace.specs.Progress.{answers, now_wants}
-use Rattle.lawful_trace.specs.Tables.{begun, descriptor}
+use Rattle.lawful_trace.specs.Tables.{begun, descriptor, opened_as}
 use Rattle.promises.specs.Past.{Past, Site, Epoch, CallSoFar, Instance as OpenInstance, Make, Making, Copy, copies_in, is_named, site_at, epoch_at, making_of, is_number, held, held_in, table}
 use Rattle.tree_model.specs.Packs.{has_pack}
 use Rattle.promises.specs.After.{is_copy_below, is_epoch, is_id, after}
@@ -148,10 +149,12 @@ pub record CallsAgree (c : Config) (trace : Trace) (p : Past) : Type 0 where
   pub named : (id : CallId) → option_map waiting_as (find (is_id id) p.calls) ≡ call_named trace id
   -- a name is given to one call
   pub once : (id : CallId) → length (filter (is_id id) p.calls) ≤ 1
+  -- a call that uses or closes an instance was granted none
+  pub ungranted : (id : CallId) (e : EpochId) (i : Serial) → begun trace id ≡ Some (Uses e i) → opening_of trace id ≡ None
   pub begun : (id : CallId) → option_map (λ (k : CallSoFar). k.begins) (find (is_id id) p.calls) ≡ begun trace id
   -- a name that none has was granted and answered nothing
   pub unheard : (id : CallId) → call_named trace id ≡ None → (opening_of trace id ≡ None) × (answers c trace id ≡ [])
-  pub granted : (k : CallSoFar) → find (is_id k.id) p.calls ≡ Some k → k.granted ≡ opening_of trace k.id
+  pub granted : (k : CallSoFar) → find (is_id k.id) p.calls ≡ Some k → k.granted ≡ opened_as trace k.id
   pub answers : (k : CallSoFar) → find (is_id k.id) p.calls ≡ Some k → k.answers ≡ answers c trace k.id
   pub waits : map waiting_as (filter (λ (k : CallSoFar). k.waits) p.calls) ≡ waiting trace
   -- the number that an open would take, while it waits; the script of no other call asks for it, and a close frees one

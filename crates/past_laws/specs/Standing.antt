@@ -1,12 +1,13 @@
 -- What stands along a lawful trace of calls, of who uses which instance, and of open instances: what the proof that both
 -- formulations agree carries from record to record.
-use Rattle.std.specs.Prelude.{ℕ, ◌≡◌, ◌==◌, ◌≤◌, ◌<◌, ◌⊎◌, Bool, true, false, not, ◌&&◌, List, [], length, filter, None, Some}
+use Rattle.std.specs.Prelude.{ℕ, ◌≡◌, ◌==◌, ◌≤◌, ◌<◌, ◌⊎◌, Bool, true, false, not, cond, ◌&&◌, List, [], length, filter, None, Some}
 use Rattle.std.specs.List.{AllByRecursion}
 use Rattle.locus_ids.specs.declared.ids.CallId.{CallId}
 use Rattle.locus_ids.specs.declared.ids.EpochId.{EpochId}
 use Rattle.locus_ids.specs.declared.ids.Serial.{Serial}
 use Rattle.locus_ids.specs.declared.refusal.Refusal.{Refusal}
 use Rattle.locus_ids.specs.declared.refusal.Refusal.TheVariants.{Changed}
+use Rattle.trace_book.specs.Same.{same_call}
 use Rattle.trace_book.specs.declared.call.Call.{Call}
 use Rattle.trace_book.specs.declared.call.Call.TheVariants as call
 use Rattle.trace_book.specs.declared.descriptor.Beginning.{Beginning}
@@ -74,18 +75,24 @@ pub record UsersStand (trace : Trace) : Type 0 where
 
 -- Open instances.
 
--- the call is use number n of the instance by the value where it is by the folds
-abbrev pub HasTurn : Trace → EpochId → Serial → CallSoFar → Type 0
-HasTurn trace e i k = (n : ℕ) → (is_on k.begins e i && (not (is_close k.words) && (k.turn == n))) ≡ is_call (use_number (uses_of trace e i) n) k.id
+-- the call is use number n of the instance by the value: the read that has opened it is the first, and others use its descriptor
+abbrev pub is_use : EpochId → Instance → ℕ → CallSoFar → Bool
+is_use e x n k = cond (x.again && (n == 1)) (same_call k.id x.grant.call) (is_on k.begins e x.grant.inst && (not (is_close k.words) && (k.turn == n)))
+
+-- it is so where it is by the folds
+abbrev pub HasTurn : Trace → EpochId → Instance → CallSoFar → Type 0
+HasTurn trace e x k = (n : ℕ) → is_use e x n k ≡ is_call (use_number (uses_of trace e x.grant.inst) n) k.id
 
 pub record InstanceStands (trace : Trace) (calls : List CallSoFar) (e : EpochId) (x : Instance) : Type 0 where
   pub granted : granted_to trace e x.grant.inst ≡ Some x.grant.call
   pub uses : x.uses ≡ length (uses_of trace e x.grant.inst)
+  -- the call that has opened it again is its first use
+  pub first : x.again ≡ true → is_call (use_number (uses_of trace e x.grant.inst) 1) x.grant.call ≡ true
   pub named : x.named ≡ true → has_named trace x.grant.call ≡ true
   pub unnamed : x.named ≡ false → IsUntouched trace e x.grant.inst
   -- and no descriptor names it
   pub undescribed : x.named ≡ false → (site process fd : ℕ) (y : Descriptor) → descriptor trace site process fd ≡ Some y → y.epoch ≡ e → y.inst ≡ x.grant.inst → ⊥
-  pub turns : AllByRecursion (HasTurn trace e x.grant.inst) calls
+  pub turns : AllByRecursion (HasTurn trace e x) calls
 
 pub record EpochStands (trace : Trace) (calls : List CallSoFar) (t : Epoch) : Type 0 where
   pub instances : AllByRecursion (InstanceStands trace calls t.id) t.opened

@@ -122,6 +122,10 @@ module _ (c : Config) (t : Trace) (d : CallId) (s : Stamp) where
   by_script mounts packed free (call.Close fd) k (begins.Denied why) xs h e = absurd (none_some s e)
   by_script mounts packed free (call.Commit fd) k (begins.Walks id) xs h e = absurd (none_some s e)
   by_script mounts packed free (call.Close fd) k (begins.Walks id) xs h e = absurd (none_some s e)
+  by_script mounts packed free (call.Commit fd) k (begins.Reopens kept last) xs h e = absurd (none_some s e)
+  by_script mounts packed free (call.Close fd) k (begins.Reopens kept last) xs h e = absurd (none_some s e)
+  by_script mounts packed free (call.Commit fd) k begins.Frees xs h e = absurd (none_some s e)
+  by_script mounts packed free (call.Close fd) k begins.Frees xs h e = absurd (none_some s e)
   by_script mounts packed free _ k b xs h e = absurd (false_true k)
 
   record FromBegun : Type 0 where

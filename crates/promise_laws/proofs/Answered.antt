@@ -283,12 +283,13 @@ module _ (c : Config) (older : List Line) (h : IsFollowed c older) (short : IsSh
       asked : is_open_of m f (wants_next c (entries older) d) ≡ true
       asked = ap (λ (x : CallId). is_open_of m f (wants_next c (entries older) x)) (sym is) ∙ may.row.opens.asked
 
-  granted_none : (m : Mode) (inst : Serial) (f : FileId) (kept : List Stamp) (e : EpochId) (i : Serial) → Brings c (entries older) e i (granted_answer m inst f kept)
-  granted_none mode.Mend inst f kept e i = tt
-  granted_none mode.Read inst f kept e i = tt
-  granted_none mode.Write inst f kept e i = tt
-  granted_none mode.Resolve inst f kept e i = tt
-  granted_none mode.Make inst f kept e i = tt
+  granted_none : (m : Mode) (inst : Serial) (f : FileId) (stamp : Option Stamp) (kept : List Stamp) (e : EpochId) (i : Serial) → Brings c (entries older) e i (granted_answer m inst f stamp kept)
+  granted_none mode.Mend inst f stamp kept e i = tt
+  granted_none mode.Read inst f (Some stamp) kept e i = tt
+  granted_none mode.Read inst f None kept e i = tt
+  granted_none mode.Write inst f stamp kept e i = tt
+  granted_none mode.Resolve inst f stamp kept e i = tt
+  granted_none mode.Make inst f stamp kept e i = tt
 
   every_take : (d : CallId) (n : ℕ) (xs : List Answer) → AllBring d xs → AllBring d (take n xs)
   every_take d zero xs k = tt
@@ -305,7 +306,7 @@ module _ (c : Config) (older : List Line) (h : IsFollowed c older) (short : IsSh
 
   record_brings : (d : CallId) (r : Record) → MayTell c older (Shown r) → (old : List Answer) → AllBring d old → AllBring d (answers_after r c (entries older) d old)
   record_brings d (says.Look e it request f w result) may old k = with_last d it (take (request - 1) old) old (look_answer c (entries older) f w result) (same_call it d) refl (every_take d (request - 1) old k) k (look_brings e d it request f w result (look_answer c (entries older) f w result) may)
-  record_brings d (says.Grant e it request i m f stamp ss) may old k = with_last d it old old (granted_answer m i f (kept_in c (entries older) e f)) (same_call it d) refl k k (plain_brings e d it _ (granted_none m i f (kept_in c (entries older) e f)) may.row.opens.step)
+  record_brings d (says.Grant e it request i m f stamp ss) may old k = with_last d it old old (granted_answer m i f stamp (kept_in c (entries older) e f)) (same_call it d) refl k k (plain_brings e d it _ (granted_none m i f stamp (kept_in c (entries older) e f)) may.row.opens.step)
   record_brings d (says.Refuse e it request i m f why) may old k = with_last d it old old (answer.Refused why) (same_call it d) refl k k (refuse_brings e d it request i m f why (answer.Refused why) may)
   record_brings d (says.Act e i n o result) may old k = with_owned d (call_of_act (entries older) e i n) old (outcome_answer result) k (act_brings e i n o result d may)
   record_brings d (says.Release e i f stamp) may old k = with_owned d (call_of_release (entries older) e i) old (close_answer stamp (instance_in (tree_of c e f.group (entries older)) i)) k (release_brings e i f stamp d may)

@@ -9,6 +9,7 @@ use Rattle.locus_ids.specs.declared.ids.FileId.{FileId}
 use Rattle.locus_ids.specs.declared.ids.Kind.{Kind}
 use Rattle.locus_ids.specs.declared.ids.Kind.TheVariants as kind
 use Rattle.locus_ids.specs.declared.ids.Serial.{Serial}
+use Rattle.locus_ids.specs.declared.ids.EpochId.{EpochId}
 use Rattle.locus_ids.specs.declared.refusal.Refusal.TheVariants as refusal
 use Rattle.trace_book.specs.declared.reply.Reply.TheVariants as reply
 use Rattle.trace_book.specs.Names.{components, last_of}
@@ -17,6 +18,7 @@ use Rattle.trace_book.specs.declared.call.Call.TheVariants as call
 use Rattle.trace_book.specs.declared.call.OpenMode.{OpenMode}
 use Rattle.trace_book.specs.declared.descriptor.Beginning.{Beginning}
 use Rattle.trace_book.specs.declared.descriptor.Beginning.TheVariants as begins
+use Rattle.trace_book.specs.declared.descriptor.OneVersion.{OneVersion}
 use Rattle.trace_book.specs.declared.operation.Op.{Op}
 use Rattle.trace_book.specs.declared.operation.Op.TheVariants as op
 use Rattle.call_rules.specs.Mailing.{shown_messages}
@@ -88,6 +90,7 @@ opens_none : (how : OpenMode) (free : Option ℕ) (at : FileId) (k : Kind) (xs :
 opens_none how free at kind.Dir xs = tt
 opens_none how free at kind.File [] = tt
 opens_none how (Some fd) at kind.File (answer.Opened i ino ∷ []) = tt
+opens_none how (Some fd) at kind.File (answer.Reading i version ∷ []) = tt
 opens_none how free at kind.File (answer.Refused why ∷ []) = tt
 opens_none how free at kind.File (_ ∷ rest) = tt
 
@@ -114,31 +117,57 @@ uses_none (call.Mails path) i xs e = tt
 uses_none (call.Open path how) i xs e = tt
 uses_none _ i xs e = absurd (true_false e)
 
-begun_none : (mounts : List Mount) (free : Option ℕ) (words : Call) (b : Beginning) (xs : List Answer) → commits words ≡ false → EndsNone (begun_wants mounts free words b xs)
-begun_none mounts free words (begins.Denied why) xs e = tt
-begun_none mounts free words (begins.Uses epoch inst) xs e = uses_none words inst xs e
-begun_none mounts free words (begins.Walks id) xs e = path_none mounts free id words xs e
+-- the call opens a version again
+abbrev pub OpensAgain : Option Beginning → Type 0
+OpensAgain o = (kept : OneVersion) × (last : EpochId) × (o ≡ Some (begins.Reopens kept last))
 
-wants_none : (mounts : List Mount) (packed : ℕ → Bool) (free : Option ℕ) (words : Call) (b : Beginning) (xs : List Answer) → commits words ≡ false → EndsNone (wants mounts packed free words b xs)
-wants_none mounts packed free words b xs e =
+abbrev NotAgain : Beginning → Type 0
+NotAgain (begins.Reopens kept last) = ⊥
+NotAgain _ = Unit {0}
+
+begun_none : (mounts : List Mount) (free : Option ℕ) (words : Call) (b : Beginning) (xs : List Answer) → NotAgain b → commits words ≡ false → EndsNone (begun_wants mounts free words b xs)
+begun_none mounts free words (begins.Denied why) xs other e = tt
+begun_none mounts free words (begins.Uses epoch inst) xs other e = uses_none words inst xs e
+begun_none mounts free words (begins.Walks id) xs other e = path_none mounts free id words xs e
+begun_none mounts free words begins.Frees xs other e = tt
+begun_none mounts free words (begins.Reopens kept last) xs other e = absurd other
+
+wants_none : (mounts : List Mount) (packed : ℕ → Bool) (free : Option ℕ) (words : Call) (b : Beginning) (xs : List Answer) → NotAgain b → commits words ≡ false → EndsNone (wants mounts packed free words b xs)
+wants_none mounts packed free words b xs other e =
     elim (is_badly_named mounts words) as (λ t. EndsNone (where_packed packed (cond t (want.Give (reply.No refusal.BadName)) (begun_wants mounts free words b xs)))) [
       | true ↦ tt
-      | false ↦ where_none packed (begun_wants mounts free words b xs) (begun_none mounts free words b xs e)
+      | false ↦ where_none packed (begun_wants mounts free words b xs) (begun_none mounts free words b xs other e)
     ]
 
--- a call that asks so next is of such a kind
-pub asked_kind : (c : Config) (before : Trace) (d : CallId) (i : Serial) (accepted : Waiting) → call_named before d ≡ Some accepted → (wants_next c before d ≡ want.Do i op.Commit) ⊎ (wants_next c before d ≡ want.Close i) → commits accepted.words ≡ true
+-- a call that asks so next is of such a kind, or opens a version again
+pub asked_kind : (c : Config) (before : Trace) (d : CallId) (i : Serial) (accepted : Waiting) → call_named before d ≡ Some accepted → (wants_next c before d ≡ want.Do i op.Commit) ⊎ (wants_next c before d ≡ want.Close i) → (commits accepted.words ≡ true) ⊎ OpensAgain (begun before d)
 asked_kind c before d i accepted named asked = by_kind (commits accepted.words) refl
   where
-    as_named : (o : Option Waiting) (b : Option Beginning) (xs : Answers) → o ≡ Some accepted → commits accepted.words ≡ false → EndsNone (wants_as c before o b xs)
-    as_named None b xs e k = absurd (none_some accepted e)
-    as_named (Some w) None xs e k = tt
-    as_named (Some w) (Some b) xs e k = wants_none c.mounts _ _ w.words b xs (subst (λ (x : Waiting). commits x.words ≡ false) (sym (some_same w accepted e)) k)
+    Other : Option Beginning → Type 0
+    Other None = Unit {0}
+    Other (Some b) = NotAgain b
+
+    as_named : (o : Option Waiting) (b : Option Beginning) (xs : Answers) → o ≡ Some accepted → Other b → commits accepted.words ≡ false → EndsNone (wants_as c before o b xs)
+    as_named None b xs e other k = absurd (none_some accepted e)
+    as_named (Some w) None xs e other k = tt
+    as_named (Some w) (Some b) xs e other k = wants_none c.mounts _ _ w.words b xs other (subst (λ (x : Waiting). commits x.words ≡ false) (sym (some_same w accepted e)) k)
 
     ends : EndsNone (wants_next c before d) → (wants_next c before d ≡ want.Do i op.Commit) ⊎ (wants_next c before d ≡ want.Close i) → ⊥
     ends k (inl e) = subst EndsNone e k
     ends k (inr e) = subst EndsNone e k
 
-    by_kind : (b : Bool) → commits accepted.words ≡ b → commits accepted.words ≡ true
-    by_kind true e = e
-    by_kind false e = absurd (ends (as_named (call_named before d) (begun before d) (answers c before d) named e) asked)
+    again_or : (o : Option Beginning) → OpensAgain o ⊎ Other o
+    again_or None = inr tt
+    again_or (Some (begins.Reopens kept last)) = inl (kept, last, refl)
+    again_or (Some (begins.Denied why)) = inr tt
+    again_or (Some (begins.Uses epoch inst)) = inr tt
+    again_or (Some (begins.Walks id)) = inr tt
+    again_or (Some begins.Frees) = inr tt
+
+    by_kind : (b : Bool) → commits accepted.words ≡ b → (commits accepted.words ≡ true) ⊎ OpensAgain (begun before d)
+    by_kind true e = inl e
+    by_kind false e = over (again_or (begun before d))
+      where
+        over : OpensAgain (begun before d) ⊎ Other (begun before d) → (commits accepted.words ≡ true) ⊎ OpensAgain (begun before d)
+        over (inl again) = inr again
+        over (inr other) = absurd (ends (as_named (call_named before d) (begun before d) (answers c before d) named other e) asked)

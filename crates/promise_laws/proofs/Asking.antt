@@ -2,7 +2,7 @@
 use Rattle.std.proofs.Common.{◌≡◌, ◌≤◌, ℕ, ◌+◌, ◌⊎◌, Bool, true, false, cond, not, List, [], ◌∷◌, Some, refl, sym, ◌∙◌, ap, subst, inl, inr, arith}
 use Rattle.std.specs.List.{find}
 use Rattle.role_steps.proofs.of_plain_facts.Options.{none_some, some_same}
-use Rattle.role_steps.proofs.of_plain_facts.Tests.{and_true}
+use Rattle.role_steps.proofs.of_plain_facts.Tests.{and_true, true_false}
 use Rattle.locus_ids.specs.declared.config.Config.{Config}
 use Rattle.locus_ids.specs.declared.ids.CallId.{CallId}
 use Rattle.locus_ids.specs.declared.ids.EpochId.{EpochId}
@@ -28,11 +28,13 @@ use Rattle.tree_model.specs.Folds.{Trace}
 use Rattle.tree_model.specs.Tree.{tree_of}
 use Rattle.lawful_trace.specs.Progress.{wants_next}
 use Rattle.lawful_trace.specs.TreeRows.{IsCallIn, is_writing}
+use Rattle.lawful_trace.specs.Tables.{begun}
 use Rattle.tree_laws.specs.Calls.{Asks}
 use Rattle.tree_laws.specs.Doing.{FrameFact, StoreHeld}
 use Rattle.tree_laws.specs.Packets.{CloseFact, OpFact}
 use Rattle.tree_laws.specs.Printed.{entries}
 use Rattle.tree_laws.specs.Stores.{InstanceFact, RunsAs, StageFact, WorksAs}
+use Rattle.tree_laws.specs.Holding.{has_instances}
 use Rattle.tree_laws.proofs.Grants.{open_named}
 use Rattle.tree_laws.proofs.Hearing.{asks_next}
 use Rattle.tree_laws.proofs.Names.{same_serial_eq}
@@ -44,12 +46,14 @@ use Rattle.rest_laws.proofs.of_store_laws.Commits.{file_own}
 use Rattle.rest_laws.proofs.of_holding_laws.Released.{released_named}
 use Rattle.rest_laws.proofs.of_store_laws.Runs.{found_in}
 use Rattle.rest_laws.proofs.of_store_laws.Tabled.{row_among}
+use Rattle.rest_laws.proofs.of_store_laws.AnswerAskers.{close_had, op_had}
 use Rattle.rest_laws.proofs.StoreStepNamed.{named_low, released_low}
 use Rattle.rest_laws.proofs.StoreStepResting.{op_rests, store_rests}
 use Rattle.rest_laws.proofs.StoreStepWriting.{may_write}
-use Rattle.promise_laws.specs.Committing.{IsCommitAsked}
-use Rattle.promise_laws.proofs.AskedKinds.{asked_kind}
+use Rattle.promise_laws.specs.Committing.{IsCommitAsked, commits}
+use Rattle.promise_laws.proofs.AskedKinds.{asked_kind, OpensAgain}
 use Rattle.promise_laws.proofs.Wrote.{Wrote, WroteBy}
+use Rattle.promise_laws.proofs.AskedAgain.{again_reads}
 
 -- an open instance that may commit the file at the site, of which a call asks so
 pub record HasAsked (c : Config) (before : Trace) (f : FileId) (site : ℕ) : Type 0 where
@@ -74,26 +78,33 @@ module _ (c : Config) (trace : List Line) (past : Past c trace) (f : Frame) (fra
   rests = store_rests c trace past
 
   -- of an instance as the tree has it
-  has_asked : (i : Instance) → Among i s.instances → (x : Open) → WorksAs c trace f i x → i.work.owes ≡ true → (call : CallId) → IsCallIn (entries trace) f.epoch call →
+  has_asked : (i : Instance) → Among i s.instances → (x : Open) → WorksAs c trace f i x → i.work.owes ≡ true → (call : CallId) → IsCallIn (entries trace) f.epoch call → has_instances c trace call i.inst ≡ true →
       (wants_next c (entries trace) call ≡ want.Do i.inst op.Commit) ⊎ (wants_next c (entries trace) call ≡ want.Close i.inst) → HasAsked c (entries trace) i.file f.me
-  has_asked i among x w owes call inside asked = record {
+  has_asked i among x w owes call inside has asked = record {
     epoch = f.epoch;
     inside = frame.inside;
     instance = x;
     there = found.0;
-    writes = and_true (same_file x.grant.file i.file) (not (is_read x.grant.mode)) (ap (λ (y : FileId). same_file y i.file) w.file_is ∙ file_own i.file)
-        (ap (λ m. not (is_read m)) w.mode_is ∙ ap not ((may_write c trace past f frame s held i among).writes owes));
+    writes = and_true (same_file x.grant.file i.file) (not (is_read x.grant.mode)) (ap (λ (y : FileId). same_file y i.file) w.file_is ∙ file_own i.file) (ap not unread);
     at = w.open_at.place;
     asked = record {
       call = call;
       accepted = inside.accepted;
       named = inside.named;
       made_in = inside.made_in;
-      kind = asked_kind c (entries trace) call i.inst inside.accepted inside.named asked;
+      kind = by_kind (asked_kind c (entries trace) call i.inst inside.accepted inside.named asked);
       asked = subst (λ (j : Serial). (wants_next c (entries trace) call ≡ want.Do j op.Commit) ⊎ (wants_next c (entries trace) call ≡ want.Close j)) (sym (same_serial_eq x.grant.inst i.inst found.1)) asked;
     };
   }
     where
+      unread : is_read x.grant.mode ≡ false
+      unread = ap is_read w.mode_is ∙ (may_write c trace past f frame s held i among).writes owes
+
+      -- what is opened again is only read
+      by_kind : (commits inside.accepted.words ≡ true) ⊎ OpensAgain (begun (entries trace) call) → commits inside.accepted.words ≡ true
+      by_kind (inl kind) = kind
+      by_kind (inr again) = absurd (true_false (sym (again_reads c trace past.followed f.epoch call inside i.inst has again.0 again.1 again.2 x w.open_at.found) ∙ unread))
+
       found : Among x (tree_of c f.epoch i.file.group (entries trace)).instances × (same_serial x.grant.inst i.inst ≡ true)
       found = found_among (λ (y : Open). same_serial y.grant.inst i.inst) (tree_of c f.epoch i.file.group (entries trace)).instances x
           (found_in c trace f.epoch i.inst x i.file.group w.open_at.found (ap (λ (y : FileId). y.group) w.file_is))
@@ -118,13 +129,13 @@ module _ (c : Config) (trace : List Line) (past : Past c trace) (f : Frame) (fra
     op_asks n seen next (inl d) (inl w) = absurd (too_high n i.work.ops next (subst (λ (z : Work). n ≤ z.ops) w.1.work_is ((op_rests c trace past).done f.epoch i.inst n op.Commit d.0 w.0 d.1 w.1.open_at.found)))
     op_asks n seen next (inl d) (inr w) = absurd (w.unnamed (done_named c trace past.followed f.epoch i.inst n op.Commit d.0 d.1))
     op_asks n seen next (inr q) (inr w) = absurd (w.unnamed (open_named c trace f.epoch i.inst q.at q.open_at.found))
-    op_asks n seen next (inr q) (inl w) = has_asked i among w.0 w.1 owes q.call q.inside (inl (next_do q.call i.inst q.asks))
+    op_asks n seen next (inr q) (inl w) = has_asked i among w.0 w.1 owes q.call q.inside (op_had c trace q.call i.inst op.Commit past.followed (q.inside.accepted, q.inside.named) q.asks.asked) (inl (next_do q.call i.inst q.asks))
 
     close_asks : CloseFact c trace f.epoch f.me i.inst → RunsAs c trace f i → HasAsked c (entries trace) i.file f.me
     close_asks (inl r) (inl w) = absurd (rests.released f.epoch i.inst w.0 r w.1.open_at.found)
     close_asks (inl r) (inr w) = absurd (w.unnamed (released_named c trace past.followed f.epoch i.inst r))
     close_asks (inr k) (inr w) = absurd (w.unnamed (open_named c trace f.epoch i.inst k.0 k.1.open_at.found))
-    close_asks (inr k) (inl w) = has_asked i among w.0 w.1 owes k.1.call k.1.inside (inr (next_close k.1.call i.inst k.1.asks))
+    close_asks (inr k) (inl w) = has_asked i among w.0 w.1 owes k.1.call k.1.inside (close_had c trace k.1.call i.inst past.followed (k.1.inside.accepted, k.1.inside.named) k.1.asks.asked) (inr (next_close k.1.call i.inst k.1.asks))
 
   op_low : (inst : Serial) (n : ℕ) (o : Op) (seen : List ℕ) → OpFact c trace f.epoch f.me inst n o seen → inst.us ≤ sites_max
   op_low inst n o seen (inl d) = named_low c trace past.followed past.rest.each f.epoch inst (done_named c trace past.followed f.epoch inst n o d.0 d.1)

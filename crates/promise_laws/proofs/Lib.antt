@@ -1,6 +1,7 @@
 pub mod LineTells
 pub mod Wrote
 pub mod AskedKinds
+pub mod AskedAgain
 pub mod OneTrace
 pub mod Asking
 pub mod Walk

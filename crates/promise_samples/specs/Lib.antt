@@ -9,6 +9,7 @@ pub mod ConflictAndResolve
 pub mod CutAndHeal
 pub mod DirectoriesMeet
 pub mod BoxesMeet
+pub mod SteadyReader
 pub mod LostAndLate
 pub mod RemovedAndChanged
 pub mod StopAfterTheGate

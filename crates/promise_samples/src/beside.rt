@@ -10,6 +10,7 @@ ghost use Rattle.promise_samples.specs.ConflictAndResolve.{conflict_and_resolve}
 ghost use Rattle.promise_samples.specs.CutAndHeal.{cut_and_heal};
 ghost use Rattle.promise_samples.specs.DirectoriesMeet.{directories_meet};
 ghost use Rattle.promise_samples.specs.BoxesMeet.{boxes_meet};
+ghost use Rattle.promise_samples.specs.SteadyReader.{steady_reader};
 ghost use Rattle.promise_samples.specs.LostAndLate.{lost_and_late};
 ghost use Rattle.promise_samples.specs.RemovedAndChanged.{removed_and_changed};
 ghost use Rattle.promise_samples.specs.StopAfterTheGate.{stop_after_the_gate};
@@ -67,6 +68,7 @@ pub fn right_traces_are_asked_for()
     ensures cut_and_heal { IsAsked cut_and_heal }
     ensures directories_meet { IsAsked directories_meet }
     ensures boxes_meet { IsAsked boxes_meet }
+    ensures steady_reader { IsAsked steady_reader }
     ensures lost_and_late { IsAsked lost_and_late }
     ensures removed_and_changed { IsAsked removed_and_changed }
     ensures stop_after_the_gate { IsAsked stop_after_the_gate }

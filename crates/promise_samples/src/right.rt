@@ -9,6 +9,7 @@ ghost use Rattle.promise_samples.specs.ConflictAndResolve.{conflict_and_resolve}
 ghost use Rattle.promise_samples.specs.CutAndHeal.{cut_and_heal};
 ghost use Rattle.promise_samples.specs.DirectoriesMeet.{directories_meet};
 ghost use Rattle.promise_samples.specs.BoxesMeet.{boxes_meet};
+ghost use Rattle.promise_samples.specs.SteadyReader.{steady_reader};
 ghost use Rattle.promise_samples.specs.LostAndLate.{lost_and_late};
 ghost use Rattle.promise_samples.specs.RemovedAndChanged.{removed_and_changed};
 ghost use Rattle.promise_samples.specs.StopAfterTheGate.{stop_after_the_gate};
@@ -46,6 +47,7 @@ pub fn right_traces_follow()
     ensures cut_and_heal { Follows cut_and_heal }
     ensures directories_meet { Follows directories_meet }
     ensures boxes_meet { Follows boxes_meet }
+    ensures steady_reader { Follows steady_reader }
     ensures lost_and_late { Follows lost_and_late }
     ensures removed_and_changed { Follows removed_and_changed }
     ensures stop_after_the_gate { Follows stop_after_the_gate }
@@ -84,6 +86,7 @@ pub fn right_traces_keep_the_phrases()
     ensures cut_and_heal { KeepsPhrases cut_and_heal }
     ensures directories_meet { KeepsPhrases directories_meet }
     ensures boxes_meet { KeepsPhrases boxes_meet }
+    ensures steady_reader { KeepsPhrases steady_reader }
     ensures lost_and_late { KeepsPhrases lost_and_late }
     ensures removed_and_changed { KeepsPhrases removed_and_changed }
     ensures stop_after_the_gate { KeepsPhrases stop_after_the_gate }
@@ -122,6 +125,7 @@ pub fn right_traces_keep_beside()
     ensures cut_and_heal { KeepsBeside cut_and_heal }
     ensures directories_meet { KeepsBeside directories_meet }
     ensures boxes_meet { KeepsBeside boxes_meet }
+    ensures steady_reader { KeepsBeside steady_reader }
     ensures lost_and_late { KeepsBeside lost_and_late }
     ensures removed_and_changed { KeepsBeside removed_and_changed }
     ensures stop_after_the_gate { KeepsBeside stop_after_the_gate }

@@ -17,6 +17,7 @@ use Rattle.trace_book.specs.declared.call.Call.{Call}
 use Rattle.trace_book.specs.declared.call.Call.TheVariants as call
 use Rattle.commit_graph.specs.declared.history.Version.{Version}
 use Rattle.trace_book.specs.declared.descriptor.Beginning.{Beginning}
+use Rattle.trace_book.specs.declared.descriptor.Descriptor.{Descriptor}
 use Rattle.trace_book.specs.declared.operation.Op.{Op}
 use Rattle.trace_book.specs.declared.operation.Op.TheVariants as op
 use Rattle.trace_book.specs.declared.operation.Outcome.TheVariants as outcome
@@ -30,7 +31,9 @@ use Rattle.file_effects.specs.Works.{begun, committed}
 use Rattle.call_rules.specs.declared.answer.Answer.{Answer}
 use Rattle.call_rules.specs.declared.answer.Answer.TheVariants.{Refused, Ended}
 use Rattle.call_rules.specs.Descriptors.{beginning, lowest_free}
+use Rattle.call_rules.specs.Opening.{is_steady}
 use Rattle.tree_model.specs.declared.instance.Granted.{Granted}
+use Rattle.tree_model.specs.Calls.{version_at}
 use Rattle.tree_model.specs.Epochs.{is_in}
 use Rattle.tree_model.specs.Files.{kind_made}
 use Rattle.tree_model.specs.Opening.{sites_made}
@@ -155,7 +158,7 @@ look_answer p f w (served.No why) = Refused why
 
 -- the instance as it is granted to the call, with the content of its version
 abbrev pub opened_as : Past → Granted → Option Stamp → Instance
-opened_as p g stamp = record { grant = g; work = begun g.mode stamp (stamped_content p.history g.file stamp); named = false; uses = 0 }
+opened_as p g stamp = record { grant = g; work = begun g.mode stamp (stamped_content p.history g.file stamp); named = false; again = false; uses = 0 }
 
 -- calls have names of their own, so this is the process of one
 abbrev pub process_of : Past → CallId → ℕ
@@ -164,8 +167,8 @@ process_of p id = sum_by (λ (k : CallSoFar). k.process) (filter (is_id id) p.ca
 abbrev pub granted : EpochId → Granted → Option Stamp → Past → Past
 granted e g stamp p = record (change_epoch (is_epoch e) (λ (t : Epoch). record t { granted = g ∷ t.granted; opened = t.opened ++ opened_as p g stamp ∷ [] }) p) {
   calls = change (is_id g.call) (λ (k : CallSoFar). record k {
-    granted = Some (record { mode = g.mode; epoch = e; inst = g.inst });
-    answers = k.answers ++ granted_answer g.mode g.inst g.file (kept_in p (epoch_at p e) g.file) ∷ [];
+    granted = Some (record { mode = g.mode; epoch = e; inst = g.inst; steady = cond (is_steady k.words) (version_at g.file stamp) None });
+    answers = k.answers ++ granted_answer g.mode g.inst g.file stamp (kept_in p (epoch_at p e) g.file) ∷ [];
   }) p.calls;
 }
 
@@ -224,17 +227,45 @@ abbrev pub taken_by : Reply → CallSoFar → List Named
 taken_by (reply.Opened fd) k = map (λ d. record { process = k.process; fd = fd; names = d }) (list_of k.granted)
 taken_by _ k = []
 
+-- the call reads by this descriptor
+abbrev pub is_read_by : Call → ℕ → Named → Bool
+is_read_by (call.Read fd at len) process d = (d.process == process) && (d.fd == fd)
+is_read_by _ process d = false
+
+abbrev pub held_by : Option Descriptor → Named → Named
+held_by None d = d
+held_by (Some opening) d = record d { names = record opening { steady = d.names.steady } }
+
+-- a read that has opened a version again makes its descriptor held by the new instance
+abbrev pub held_again : Reply → CallSoFar → List Named → List Named
+held_again (reply.Data bytes) k ds = change (is_read_by k.words k.process) (held_by k.granted) ds
+held_again _ k ds = ds
+
+abbrev pub is_reading : Call → Bool
+is_reading (call.Read fd at len) = true
+is_reading _ = false
+
+-- the instances that the reply names, and what becomes of them
+abbrev pub named_by : Reply → CallSoFar → List Descriptor
+named_by (reply.Opened fd) k = list_of k.granted
+named_by (reply.Data bytes) k = cond (is_reading k.words) (list_of k.granted) []
+named_by _ k = []
+
+abbrev pub once_named : Reply → Instance → Instance
+once_named (reply.Data bytes) x = record x { named = true; again = true; uses = x.uses + 1 }
+once_named _ x = record x { named = true }
+
 -- the directories that a refused mend leaves unmended for the epoch
 abbrev pub left_unmended : Reply → Call → List FileId
 left_unmended (reply.No why) (call.Mend f) = cond (ends_mending why) (f ∷ []) []
 left_unmended _ _ = []
 
 abbrev pub replied_to : Reply → CallSoFar → Past → Past
-replied_to r k p = change_site k.id.site (λ (s : Site). record s { descriptors = taken_by r k ++ s.descriptors })
+replied_to r k p = change_site k.id.site (λ (s : Site). record s { descriptors = taken_by r k ++ held_again r k s.descriptors })
     (record p {
       calls = change (is_id k.id) (λ (x : CallSoFar). record x { waits = false }) p.calls;
       epochs = map (λ (t : Epoch). record t {
-        opened = change (λ (x : Instance). list_any (λ (d : Named). is_in (Some d.names.epoch) t.id && is_named d.names.inst x) (taken_by r k)) (λ (x : Instance). record x { named = true }) t.opened;
+        opened = change (λ (x : Instance). list_any (λ (d : Descriptor). is_in (Some d.epoch) t.id && is_named d.inst x) (named_by r k)) (once_named r) t.opened;
         unmended = cond (is_in k.epoch t.id) (left_unmended r k.words) [] ++ t.unmended;
       }) p.epochs;
     })

@@ -83,7 +83,9 @@ pub record Instance : Type 0 where
   pub work : Work
   -- a descriptor has named it
   pub named : Bool
-  -- how many calls but its close were accepted on its descriptor
+  -- a read of a steady descriptor has opened it, and is its first use
+  pub again : Bool
+  -- how many calls but its close were accepted on its descriptor, with that read
   pub uses : ℕ
 
 -- A make whose name was found free, and that is neither refused nor released.
@@ -218,11 +220,13 @@ abbrev pub is_on : Beginning → EpochId → Serial → Bool
 is_on (begins.Uses epoch inst) e i = same_epoch epoch e && same_serial inst i
 is_on (begins.Denied why) e i = false
 is_on (begins.Walks id) e i = false
+is_on (begins.Reopens version last) e i = false
+is_on begins.Frees e i = false
 
--- operation n of the instance is a step of this call: of the n-th use of its descriptor, or, where none has named it, of the call
--- that it was granted to
+-- operation n of the instance is a step of this call: of the n-th use of its descriptor, or, where none has named it or this call named
+-- it by its first use, of the call that it was granted to
 abbrev pub acts : EpochId → Instance → ℕ → CallSoFar → Bool
-acts e x n k = cond x.named (is_on k.begins e x.grant.inst && (not (is_close k.words) && (k.turn == n))) (same_call k.id x.grant.call)
+acts e x n k = cond (x.named && not (x.again && (n == 1))) (is_on k.begins e x.grant.inst && (not (is_close k.words) && (k.turn == n))) (same_call k.id x.grant.call)
 
 -- its release is a step of this call: of the close of its descriptor, or of the call that it was granted to
 abbrev pub ends : EpochId → Instance → CallSoFar → Bool

@@ -45,4 +45,5 @@ in_epoch c t f m frame e out = none_some f.epoch (sym out ∙ frame.inside)
 pub replies_in_time : (c : Config) (t : List Line) (d : CallId) (r : Reply) → ((e : EpochId) → AnswersInTime c t d (reply.No (refusal.Changed e)) → ⊥) → AnswersInTime c t d r → RepliesInTime c t d
 replies_in_time c t d (reply.No (refusal.Changed e)) never k = absurd (never e k)
 replies_in_time c t d (reply.Opened fd) never k = k.replies
+replies_in_time c t d (reply.Data bytes) never k = k.replies
 replies_in_time c t d r never k = k

@@ -6,6 +6,8 @@ use Rattle.role_steps.proofs.of_plain_facts.Tests.{true_false}
 use Rattle.locus_ids.specs.declared.ids.EpochId.{EpochId}
 use Rattle.trace_book.specs.declared.call.Call.{Call}
 use Rattle.trace_book.specs.declared.call.Call.TheVariants as call
+use Rattle.trace_book.specs.declared.descriptor.Beginning.{Beginning}
+use Rattle.trace_book.specs.declared.descriptor.Beginning.TheVariants as begins
 use Rattle.trace_book.specs.declared.operation.Op.{Op}
 use Rattle.trace_book.specs.declared.reply.Reply.{Reply}
 use Rattle.trace_book.specs.declared.reply.Reply.TheVariants as reply
@@ -17,7 +19,7 @@ use Rattle.lawful_trace.specs.LineRows.{is_mend}
 use Rattle.role_steps.specs.Mends.{has_mend_in, is_mend_in, mends_in}
 use Rattle.role_steps.specs.Requests.{asks, asks_close_of, asks_op_of, descriptors_of, user_instance, waiting_key, waiting_of, without_waiting}
 use Rattle.role_steps.specs.Tables.{with_row, without_row}
-use Rattle.role_steps.specs.Using.{accepted, after_reply, asks_want, frees, goes_on, next_want, on_call, replies, without_hope, own_call}
+use Rattle.role_steps.specs.Using.{accepted, after_reply, holds_again, asks_want, frees, goes_on, next_want, on_call, replies, without_hope, own_call}
 use Rattle.role_steps.specs.Views.{Frame, Users}
 use Rattle.role_steps.specs.declared.users.UserInstance.{UserInstance}
 use Rattle.role_steps.specs.declared.users.WaitingCall.{WaitingCall}
@@ -97,9 +99,14 @@ hope_same : (words : Call) (why : Refusal) (u : Users) → is_mend words ≡ fal
 hope_same (call.Mend file) why u e = absurd (true_false e)
 hope_same _ why u e = refl
 
+again_keeps : (g : ℕ) (f : Frame) (w : WaitingCall) (b : Beginning) (words : Call) (u : Users) → KeepsMends g u (holds_again f w b words u)
+again_keeps g f w (begins.Reopens version last) (call.Read fd at len) u = record { hopeless = refl; stays = λ h. h }
+again_keeps g f w _ words u = record { hopeless = refl; stays = λ h. h }
+
 reply_keeps : (g : ℕ) (f : Frame) (w : WaitingCall) (r : Reply) (u : Users) → is_mend w.words ≡ false → KeepsMends g u (after_reply f w r u)
 reply_keeps g f w (reply.Opened fd) u e = record { hopeless = refl; stays = λ h. h }
 reply_keeps g f w (reply.No why) u e = subst (KeepsMends g u) (sym (hope_same w.words why u e)) (record { hopeless = refl; stays = λ h. h })
+reply_keeps g f w (reply.Data bytes) u e = again_keeps g f w w.begins w.words u
 reply_keeps g f w _ u e = record { hopeless = refl; stays = λ h. h }
 
 want_keeps : (g : ℕ) (f : Frame) (w : WaitingCall) (a : Want) (u : Users) → is_mend w.words ≡ false → (waiting_key w ≡ g → ⊥) → KeepsMends g u (asks_want f w a u).view

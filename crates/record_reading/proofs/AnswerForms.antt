@@ -24,9 +24,10 @@ use Rattle.line_text.proofs.CallForms.{cond_either, map_some}
 use Rattle.line_text.proofs.HexWords.{gives_none}
 use Rattle.line_text.proofs.NumberTexts.{between_parts, is_between_from}
 use Rattle.line_text.proofs.Splits.{split_sound}
-use Rattle.record_reading.specs.Answers.{after_ok, committed_in, done_in, found_in, read_in, refusal_in, refused_in, result_with, served_in, served_with}
-use Rattle.record_reading.specs.Fields.{data_in, inode_in, kind_in, stamp_in, words_in}
-use Rattle.record_reading.specs.Ranges.{agrees, is_committed, is_done, is_found, is_inode, is_read, is_refusal, is_served, is_stamp, number_max}
+use Rattle.record_words.specs.Answers.{after_ok, committed_in, done_in, found_in, read_in, refusal_in, refused_in, result_with, served_in, served_with}
+use Rattle.record_words.specs.Fields.{data_in, inode_in, kind_in, stamp_in, words_in}
+use Rattle.record_words.specs.Order.{agrees, number_max}
+use Rattle.record_reading.specs.Ranges.{is_committed, is_done, is_found, is_inode, is_read, is_refusal, is_served, is_stamp}
 use Rattle.record_reading.proofs.Bytes.{all_joined, decimal_digits, each_is, is_digit_byte}
 use Rattle.record_reading.proofs.Cases.{Case, and_true, case_of, said}
 use Rattle.record_reading.proofs.ChoiceForms.{kind_word}

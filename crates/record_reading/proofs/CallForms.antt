@@ -13,7 +13,7 @@ use Rattle.line_text.specs.CallReader.{call_in}
 use Rattle.line_text.specs.Words.{two_words}
 use Rattle.line_text.proofs.CallForms.{call_complete, call_sound, cond_either}
 use Rattle.line_text.proofs.Splits.{split_sound}
-use Rattle.record_reading.specs.Fields.{file_in}
+use Rattle.record_words.specs.Fields.{file_in}
 use Rattle.record_reading.specs.Ranges.{is_mend, is_words}
 use Rattle.record_reading.specs.Requests.{call_words_in, mend_in}
 use Rattle.record_reading.proofs.Cases.{Case, case_of, led}

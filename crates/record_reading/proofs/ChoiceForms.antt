@@ -12,7 +12,7 @@ use Rattle.trace_book.specs.declared.packet_kind.PacketKind.TheVariants as packe
 use Rattle.trace_book.specs.declared.record.StopCause.{StopCause}
 use Rattle.trace_book.specs.declared.record.StopCause.TheVariants as cause
 use Rattle.line_text.proofs.CallForms.{cond_either}
-use Rattle.record_reading.specs.Fields.{kind_in, mode_in}
+use Rattle.record_words.specs.Fields.{kind_in, mode_in}
 use Rattle.record_reading.specs.Records.{cause_in, copy_packet_in, packet_in, service_packet_in}
 use Rattle.record_reading.proofs.Bytes.{free}
 use Rattle.record_reading.proofs.Cases.{said}

@@ -13,7 +13,7 @@ use Rattle.line_text.proofs.CallForms.{and_both, cond_either}
 use Rattle.line_text.proofs.HexWords.{hex_complete, hex_sound, hex_word}
 use Rattle.line_text.proofs.NumberTexts.{between_parts, is_between_from}
 use Rattle.line_text.proofs.Splits.{true_or_false}
-use Rattle.record_reading.specs.Fields.{data_in}
+use Rattle.record_words.specs.Fields.{data_in}
 use Rattle.record_reading.specs.Ranges.{is_data, is_some_data}
 use Rattle.record_reading.proofs.Bytes.{each_is, free}
 use Rattle.record_reading.proofs.Cases.{said}

@@ -11,8 +11,9 @@ use Rattle.locus_ids.specs.declared.ids.Serial.{Serial}
 use Rattle.locus_ids.specs.declared.ids.Stamp.{Stamp}
 use Rattle.trace_book.specs.Text.{call_id_text, epoch_text, file_text, serial_text, stamp_text}
 use Rattle.schedule_lines.specs.Ranges.{is_between}
-use Rattle.record_reading.specs.Fields.{any_site_in, brought_in, call_id_in, counted_in, epoch_in, file_from, group_in, inode_in, instance_in, process_in, request_in, short_in, stamp_in}
-use Rattle.record_reading.specs.Ranges.{agrees, is_any_site, is_brought, is_call_id, is_counted, is_epoch, is_group, is_inode, is_instance, is_process, is_request, is_short, is_stamp, number_max}
+use Rattle.record_words.specs.Fields.{any_site_in, brought_in, call_id_in, counted_in, epoch_in, file_from, group_in, inode_in, instance_in, process_in, request_in, short_in, stamp_in}
+use Rattle.record_words.specs.Order.{agrees, number_max}
+use Rattle.record_reading.specs.Ranges.{is_any_site, is_brought, is_call_id, is_counted, is_epoch, is_group, is_inode, is_instance, is_process, is_request, is_short, is_stamp}
 use Rattle.record_reading.proofs.Bytes.{is_digit_byte}
 use Rattle.record_reading.proofs.Forms.{Word, joined_word, letter_word, made_word, number_free, number_word, tested_word, told_word}
 

@@ -12,7 +12,7 @@ use Rattle.line_text.specs.Words.{number_in, split_at}
 use Rattle.line_text.proofs.CallForms.{and_both, map_some, range_complete}
 use Rattle.line_text.proofs.NumberTexts.{between_parts, number_sound}
 use Rattle.line_text.proofs.Splits.{split_found, split_sound}
-use Rattle.record_reading.specs.Fields.{after_letter, joined_in, tested, words_in, words_with}
+use Rattle.record_words.specs.Fields.{after_letter, joined_in, tested, words_in, words_with}
 use Rattle.record_reading.proofs.Bytes.{all_joined, decimal_free, free, free_lacks, is_digit_byte}
 
 -- the text is this value's, which is in range

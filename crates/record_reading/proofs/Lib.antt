@@ -8,7 +8,6 @@ mod FieldForms
 mod Forms
 mod LineForms
 mod ListForms
-mod Loops
 mod MemberForms
 mod NameForms
 mod OneLine

@@ -14,8 +14,9 @@ use Rattle.trace_book.specs.Text.{copies_text, copy_text, optional_stamp_text, s
 use Rattle.line_text.specs.Words.{pieces, split_at, two_words}
 use Rattle.line_text.proofs.CallForms.{and_both, cond_either, map_some}
 use Rattle.line_text.proofs.Splits.{pieces_of, pieces_split, split_found, split_none, split_sound, true_or_false}
-use Rattle.record_reading.specs.Fields.{all_in, copies_in, group_in, optional_stamp_in, stamp_in, stamps_in}
-use Rattle.record_reading.specs.Ranges.{ascend, is_brought, is_group, is_optional_stamp, is_stamp}
+use Rattle.record_words.specs.Fields.{all_in, copies_in, group_in, optional_stamp_in, stamp_in, stamps_in}
+use Rattle.record_words.specs.Order.{ascend}
+use Rattle.record_reading.specs.Ranges.{is_brought, is_group, is_optional_stamp, is_stamp}
 use Rattle.record_reading.specs.Records.{group_with}
 use Rattle.record_reading.proofs.Bytes.{all_append, free, free_lacks}
 use Rattle.record_reading.proofs.Cases.{said}

@@ -17,8 +17,9 @@ use Rattle.line_text.specs.Words.{pieces}
 use Rattle.line_text.proofs.CallForms.{and_both}
 use Rattle.line_text.proofs.NumberTexts.{between_parts, is_between_from}
 use Rattle.line_text.proofs.Splits.{true_or_false}
-use Rattle.record_reading.specs.Fields.{member_from, members_in, with_members}
-use Rattle.record_reading.specs.Ranges.{is_counted, is_members, number_max}
+use Rattle.record_words.specs.Fields.{member_from, members_in, with_members}
+use Rattle.record_words.specs.Order.{number_max}
+use Rattle.record_reading.specs.Ranges.{is_counted, is_members}
 use Rattle.record_reading.proofs.Forms.{Exact, Says, Word, joined_word, made_word, number_free, number_word}
 use Rattle.record_reading.proofs.ListForms.{has_item, joins, some_items, split_again}
 

@@ -10,7 +10,7 @@ use Rattle.schedule_lines.specs.Ranges.{is_word, is_word_byte}
 use Rattle.line_text.proofs.CallForms.{and_both}
 use Rattle.line_text.proofs.Splits.{true_or_false}
 use Rattle.wire_fields.specs.Components.{after_at, is_component, is_digit, is_inode_text, is_small_from, is_suffix}
-use Rattle.record_reading.specs.Fields.{component_in, name_in}
+use Rattle.record_words.specs.Fields.{component_in, name_in}
 use Rattle.record_reading.proofs.Bytes.{each_is, free}
 use Rattle.record_reading.proofs.Forms.{Exact, Word}
 

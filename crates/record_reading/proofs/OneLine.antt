@@ -18,7 +18,8 @@ use Rattle.trace_book.specs.Text.{epoch_text, file_text, gap, hex_text, kind_tex
 use Rattle.schedule_lines.specs.Ranges.{is_between}
 use Rattle.line_text.specs.Words.{is_lower_digit}
 use Rattle.line_text.proofs.NumberTexts.{between_parts}
-use Rattle.record_reading.specs.Ranges.{agrees, is_any_site, is_counted, is_data, is_epoch, is_file, is_group, is_inode, is_process, is_refusal, is_short, is_stamp, number_max}
+use Rattle.record_words.specs.Order.{agrees, number_max}
+use Rattle.record_reading.specs.Ranges.{is_any_site, is_counted, is_data, is_epoch, is_file, is_group, is_inode, is_process, is_refusal, is_short, is_stamp}
 use Rattle.record_reading.proofs.Bytes.{all_append, decimal_free, each_is, free}
 use Rattle.record_reading.proofs.DataForms.{digit_is, hex_digits, some_of}
 use Rattle.record_reading.proofs.NameForms.{component_line}

@@ -41,7 +41,8 @@ use Rattle.schedule_lines.specs.Ranges.{fits_call, fits_mode, is_between, is_byt
 use Rattle.line_text.proofs.CallForms.{and_both, from_zero}
 use Rattle.line_text.proofs.NumberTexts.{is_between_from}
 use Rattle.wire_fields.specs.Components.{is_component}
-use Rattle.record_reading.specs.Ranges.{ascend, is_act, is_any_site, is_brought, is_call_id, is_committed, is_counted, is_data, is_done, is_epoch, is_file, is_found, is_group, is_inode, is_instance, is_look, is_members, is_mend, is_optional_stamp, is_process, is_read, is_record, is_refused_file, is_refusal, is_reply, is_request, is_served, is_some_data, is_stamp, is_words, number_max, names_inode}
+use Rattle.record_words.specs.Order.{ascend, number_max}
+use Rattle.record_reading.specs.Ranges.{is_act, is_any_site, is_brought, is_call_id, is_committed, is_counted, is_data, is_done, is_epoch, is_file, is_found, is_group, is_inode, is_instance, is_look, is_members, is_mend, is_optional_stamp, is_process, is_read, is_record, is_refused_file, is_refusal, is_reply, is_request, is_served, is_some_data, is_stamp, is_words, names_inode}
 use Rattle.record_reading.proofs.Bytes.{free}
 use Rattle.record_reading.proofs.DataForms.{data_of}
 use Rattle.record_reading.proofs.MemberForms.{boot_small}
@@ -197,6 +198,7 @@ descriptor_line fd h = number_line 0 (descriptor_span - 1) fd (lit< tt) (from_ze
 opening_line : (m : OpenMode) → fits_mode sites_max m ≡ true → free 10 (opening_text m) ≡ true
 opening_line opening.Read h = refl
 opening_line opening.Write h = refl
+opening_line opening.Steady h = refl
 opening_line (opening.Resolve site) h = j1 (codes "x ") (decimal site) refl (number_line 1 sites_max site (lit< tt) h)
 
 call_line : (c : Call) → fits_call sites_max c ≡ true → free 10 (call_words c) ≡ true

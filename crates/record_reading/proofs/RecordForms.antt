@@ -30,7 +30,7 @@ use Rattle.line_text.specs.Words.{two_words}
 use Rattle.line_text.proofs.CallForms.{cond_either}
 use Rattle.line_text.proofs.Splits.{split_sound}
 use Rattle.record_reading.specs.AsRead.{as_read}
-use Rattle.record_reading.specs.Fields.{any_site_in, call_id_in, counted_in, data_in, epoch_in, file_in, instance_in, members_in, mode_in, optional_stamp_in, process_in, request_in, stamp_in, stamps_in, words_in, words_with}
+use Rattle.record_words.specs.Fields.{any_site_in, call_id_in, counted_in, data_in, epoch_in, file_in, instance_in, members_in, mode_in, optional_stamp_in, process_in, request_in, stamp_in, stamps_in, words_in, words_with}
 use Rattle.record_reading.specs.Ranges.{is_any_site, is_counted, is_record, is_refused_file, names_inode}
 use Rattle.record_reading.specs.Records.{cause_in, group_with, kept_record, long_record, packet_in, record_in, record_of, look_record_in, answer_in, refused_file_in, refused_open_in, short_record}
 use Rattle.record_reading.specs.Requests.{act_in, call_words_in}

@@ -10,8 +10,8 @@ use Rattle.trace_book.specs.Text.{refusal_text}
 use Rattle.line_text.specs.Words.{two_words}
 use Rattle.line_text.proofs.CallForms.{cond_either}
 use Rattle.line_text.proofs.Splits.{split_sound}
-use Rattle.record_reading.specs.Answers.{long_refusal, refusal_in, refusal_of, short_refusal}
-use Rattle.record_reading.specs.Fields.{any_site_in, component_in, epoch_in, inode_in, process_in, short_in, stamp_in, words_in}
+use Rattle.record_words.specs.Answers.{long_refusal, refusal_in, refusal_of, short_refusal}
+use Rattle.record_words.specs.Fields.{any_site_in, component_in, epoch_in, inode_in, process_in, short_in, stamp_in, words_in}
 use Rattle.record_reading.specs.Ranges.{is_refusal}
 use Rattle.record_reading.proofs.Cases.{Case, case_of, led, said}
 use Rattle.record_reading.proofs.FieldForms.{epoch_word, inode_word, process_word, short_word, site_word, stamp_word}

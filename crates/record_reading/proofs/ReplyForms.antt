@@ -24,10 +24,11 @@ use Rattle.line_text.proofs.CallForms.{and_both, cond_either, map_some}
 use Rattle.line_text.proofs.NumberTexts.{between_parts}
 use Rattle.line_text.proofs.Splits.{pieces_of, pieces_split, split_none, true_or_false}
 use Rattle.wire_fields.specs.Components.{after_at, is_component}
-use Rattle.record_reading.specs.Answers.{after_ok, names_or_data, refusal_in, reply_in, reply_with}
+use Rattle.record_words.specs.Answers.{after_ok, names_or_data, refusal_in, reply_in, reply_with}
 use Rattle.record_reading.specs.AsRead.{reply_as_read}
-use Rattle.record_reading.specs.Fields.{all_in, component_in}
-use Rattle.record_reading.specs.Ranges.{agrees, is_data, is_file, is_group, is_inode, is_reply, is_some_data, is_stamp, number_max}
+use Rattle.record_words.specs.Fields.{all_in, component_in}
+use Rattle.record_words.specs.Order.{agrees, number_max}
+use Rattle.record_reading.specs.Ranges.{is_data, is_file, is_group, is_inode, is_reply, is_some_data, is_stamp}
 use Rattle.record_reading.proofs.AnswerForms.{after_ok_sound, speaks}
 use Rattle.record_reading.proofs.Bytes.{all_joined, decimal_digits, each_is, free_lacks, is_digit_byte}
 use Rattle.record_reading.proofs.Cases.{said}

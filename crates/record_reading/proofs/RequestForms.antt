@@ -19,9 +19,9 @@ use Rattle.schedule_lines.specs.Ranges.{is_between}
 use Rattle.line_text.specs.Words.{hex_in, number_in, two_words}
 use Rattle.line_text.proofs.CallForms.{cond_either}
 use Rattle.line_text.proofs.Splits.{split_sound}
-use Rattle.record_reading.specs.Answers.{committed_in, done_in, found_in, read_in, served_in}
+use Rattle.record_words.specs.Answers.{committed_in, done_in, found_in, read_in, served_in}
 use Rattle.record_reading.specs.AsRead.{served_stamp, what_as_read}
-use Rattle.record_reading.specs.Fields.{component_in, inode_in, kind_in, name_in, words_in}
+use Rattle.record_words.specs.Fields.{component_in, inode_in, kind_in, name_in, words_in}
 use Rattle.record_reading.specs.Ranges.{is_act, is_look, is_served, is_stamp}
 use Rattle.record_reading.specs.Requests.{act_in, act_with, content_act, look_in, look_with, place_in}
 use Rattle.record_reading.proofs.AnswerForms.{committed_form, done_form, found_form, read_form, served_form}

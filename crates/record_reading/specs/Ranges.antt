@@ -1,5 +1,5 @@
 -- Which records are well-formed: the ranges of what a record says. Nothing here depends on other records or on the cluster.
-use Rattle.std.specs.Prelude.{ℕ, ◌==◌, Bool, true, false, ◌&&◌, ◌||◌, cond, List, [], ◌∷◌, length, nat_le, nat_lt, Option, None, Some}
+use Rattle.std.specs.Prelude.{ℕ, ◌==◌, Bool, true, false, ◌&&◌, cond, List, length, nat_le, nat_lt, Option, None, Some}
 use Rattle.std.specs.List.{list_all}
 use Rattle.locus_ids.specs.Sizes.{content_bytes_max, file_bytes_max, inodes_max, sites_max}
 use Rattle.locus_ids.specs.declared.ids.Brought.{Brought}
@@ -31,10 +31,7 @@ use Rattle.trace_book.specs.declared.reply.Reply.{Reply}
 use Rattle.trace_book.specs.declared.reply.Reply.TheVariants as reply
 use Rattle.schedule_lines.specs.Ranges.{fits_call, is_between, is_byte}
 use Rattle.wire_fields.specs.Components.{is_component}
-
--- the greatest number that a record says
-abbrev pub number_max : ℕ
-number_max = 4294967295
+pub use Rattle.record_words.specs.Order.{number_max, agrees, is_stamp_before, is_brought_before, ascend}
 
 -- any site that a cluster can have
 abbrev pub is_any_site : ℕ → Bool
@@ -56,10 +53,6 @@ is_group n = is_between 0 3 n
 
 abbrev pub is_inode : ℕ → Bool
 is_inode n = is_between 1 inodes_max n
-
--- a number that is 0 exactly where the site is
-abbrev pub agrees : ℕ → ℕ → Bool
-agrees site n = cond (site == 0) (n == 0) (nat_lt 0 n)
 
 -- 0.0, or a site and a number from 1
 abbrev pub is_stamp : Stamp → Bool
@@ -101,18 +94,6 @@ is_members m = length m.boot == sites_max && list_all (is_between 0 number_max) 
 
 abbrev pub is_brought : Brought → Bool
 is_brought b = is_inode b.ino && is_stamp b.stamp
-
-abbrev pub is_stamp_before : Stamp → Stamp → Bool
-is_stamp_before a b = nat_lt a.site b.site || (a.site == b.site && nat_lt a.n b.n)
-
-abbrev pub is_brought_before : Brought → Brought → Bool
-is_brought_before a b = nat_lt a.ino b.ino || (a.ino == b.ino && is_stamp_before a.stamp b.stamp)
-
--- each version stands before the next
-abbrev pub ascend : List Brought → Bool
-ascend [] = true
-ascend (a ∷ []) = true
-ascend (a ∷ b ∷ more) = is_brought_before a b && ascend (b ∷ more)
 
 -- ---- answers
 

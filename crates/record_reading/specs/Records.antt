@@ -14,8 +14,8 @@ use Rattle.trace_book.specs.declared.record.Record.TheVariants.{Up, Stopped, Lea
 use Rattle.trace_book.specs.declared.record.StopCause.{StopCause}
 use Rattle.trace_book.specs.declared.record.StopCause.TheVariants as cause
 use Rattle.line_text.specs.Words.{two_words}
-use Rattle.record_reading.specs.Answers.{refusal_in, reply_in}
-use Rattle.record_reading.specs.Fields.{any_site_in, call_id_in, copies_in, counted_in, data_in, epoch_in, file_from, file_in, group_in, instance_in, members_in, mode_in, optional_stamp_in, process_in, request_in, stamp_in, stamps_in, tested, words_in, words_with}
+use Rattle.record_words.specs.Answers.{refusal_in, reply_in}
+use Rattle.record_words.specs.Fields.{any_site_in, call_id_in, copies_in, counted_in, data_in, epoch_in, file_from, file_in, group_in, instance_in, members_in, mode_in, optional_stamp_in, process_in, request_in, stamp_in, stamps_in, tested, words_in, words_with}
 use Rattle.record_reading.specs.Ranges.{names_inode}
 use Rattle.record_reading.specs.Requests.{act_in, call_words_in, look_in}
 

@@ -13,9 +13,9 @@ use Rattle.trace_book.specs.declared.operation.What.{What}
 use Rattle.trace_book.specs.declared.operation.What.TheVariants as what
 use Rattle.line_text.specs.CallReader.{call_in}
 use Rattle.line_text.specs.Words.{hex_in, number_in, two_words}
-use Rattle.record_reading.specs.Answers.{committed_in, done_in, found_in, read_in, served_in}
+use Rattle.record_words.specs.Answers.{committed_in, done_in, found_in, read_in, served_in}
 use Rattle.record_reading.specs.AsRead.{served_stamp}
-use Rattle.record_reading.specs.Fields.{component_in, file_in, inode_in, kind_in, name_in, words_in}
+use Rattle.record_words.specs.Fields.{component_in, file_in, inode_in, kind_in, name_in, words_in}
 
 -- a place in a file, or a length of one
 abbrev pub place_in : List ℕ → Option ℕ

@@ -3,10 +3,11 @@ ghost use Rattle.std.specs.Prelude.{◌≡◌, IfOk};
 ghost use Rattle.record_reading.specs.Ranges.{names_inode};
 ghost use Rattle.record_reading.specs.Records.{accept_in, act_record_in, answer_in, grant_in, look_record_in, refuse_in, refused_file_in, refused_open_in, release_in};
 
-use crate::fields::{self, any_site};
-use crate::{answers, operations, refusals, requests};
+use crate::{operations, requests};
 use line_text::two_words;
 use locus_ids::{FileId, Mode, NoMemory, Refusal};
+use record_words::fields::{self, any_site};
+use record_words::{answers, refusals};
 use std::alloc::Global;
 use trace_book::Record;
 

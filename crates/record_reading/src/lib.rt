@@ -2,17 +2,13 @@
 //! calls it once for each line. It knows nothing of the cluster, of other records or of who may print which record when.
 #![tactic(auto)]
 
-mod answers;
 mod fault;
-mod fields;
 mod instance_records;
 mod laws;
 mod line;
-mod lists;
 mod operations;
 mod packets;
 mod records;
-mod refusals;
 mod requests;
 mod site_records;
 mod version_records;

@@ -1,14 +1,14 @@
 ghost use Rattle.std.specs.Prelude.{◌≡◌, ℕ, ◌↔◌, IfOk};
 ghost use Rattle.trace_book.specs.declared.record.Record.{Record};
-ghost use Rattle.record_reading.specs.Fields.{counted_in};
+ghost use Rattle.record_words.specs.Fields.{counted_in};
 ghost use Rattle.record_reading.specs.Reading.{IsLine, IsLineRead};
 ghost use Rattle.record_reading.specs.Records.{line_in};
 
 use crate::RecordFault;
-use crate::fields::counted;
 use crate::records::record;
 use line_text::two_words;
 use locus_ids::NoMemory;
+use record_words::fields::counted;
 use std::alloc::Global;
 use trace_book::Record;
 

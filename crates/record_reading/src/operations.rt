@@ -2,12 +2,12 @@
 ghost use Rattle.std.specs.Prelude.{◌≡◌, IfOk};
 ghost use Rattle.record_reading.specs.Requests.{act_in, act_with, content_act, cut_in, find_in, insert_in, place_in, probe_in, read_act_in, remove_in, rename_in, write_in};
 
-use crate::answers::{bytes_read, committed, done, found};
-use crate::fields::{self, inode, short_number};
-use crate::lists;
 use line_text::{hex_bytes, number, two_words};
 use locus_ids::NoMemory;
 use locus_ids::sizes::FILE_BYTES;
+use record_words::answers::{bytes_read, committed, done, found};
+use record_words::fields::{self, inode, short_number};
+use record_words::lists;
 use std::alloc::Global;
 use trace_book::{Op, Outcome};
 

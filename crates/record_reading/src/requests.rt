@@ -2,17 +2,17 @@
 ghost use Rattle.std.specs.Prelude.{◌≡◌, IfOk};
 ghost use Rattle.std.specs.Option.{option_map};
 ghost use Rattle.trace_book.specs.declared.operation.What.TheVariants as what;
-ghost use Rattle.record_reading.specs.Answers.{served_in};
+ghost use Rattle.record_words.specs.Answers.{served_in};
 ghost use Rattle.record_reading.specs.AsRead.{served_stamp};
-ghost use Rattle.record_reading.specs.Fields.{component_in, words_in};
+ghost use Rattle.record_words.specs.Fields.{component_in, words_in};
 ghost use Rattle.record_reading.specs.Requests.{call_words_in, look_in, look_with, mend_in};
 
-use crate::answers::served;
-use crate::fields::file;
-use crate::lists;
 use line_text::{call_of, two_words};
 use locus_ids::sizes::SITES;
 use locus_ids::{NoMemory, Stamp};
+use record_words::answers::served;
+use record_words::fields::file;
+use record_words::lists;
 use std::alloc::Global;
 use trace_book::{Call, Served, What};
 

@@ -3,10 +3,11 @@ ghost use Rattle.std.specs.Prelude.{◌≡◌, IfOk};
 ghost use Rattle.line_text.specs.Words.{two_words};
 ghost use Rattle.record_reading.specs.Records.{cause_in, group_with, join_in, leave_in, packet_record_in, start_in, stopped_in, up_in};
 
-use crate::fields::{self, any_site, counted};
-use crate::{lists, packets};
+use crate::packets;
 use line_text::two_words;
 use locus_ids::{ItemList, NoMemory};
+use record_words::fields::{self, any_site, counted};
+use record_words::lists;
 use std::alloc::Global;
 use trace_book::{BroughtList, Record, StopCause};
 

@@ -2,11 +2,11 @@
 ghost use Rattle.std.specs.Prelude.{◌≡◌, IfOk};
 ghost use Rattle.record_reading.specs.Records.{adopt_in, commit_in};
 
-use crate::fields::{self, any_site};
-use crate::lists;
 use line_text::two_words;
 use locus_ids::NoMemory;
 use locus_ids::sizes::CONTENT_BYTES;
+use record_words::fields::{self, any_site};
+use record_words::lists;
 use std::alloc::Global;
 use trace_book::Record;
 

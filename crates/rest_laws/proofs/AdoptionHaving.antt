@@ -120,22 +120,25 @@ close_answered c (y ∷ older) h e d i a inside is waits = at (λ was same waite
 abbrev pub HasOrWaits : Config → List Line → CallId → Serial → Type 0
 HasOrWaits c t d i = ((a : Answer) × Waits c t d a × OpensIt a i) ⊎ (has_instances c t d i ≡ true)
 
-opens_granted : (m : Mode) (i j : Serial) (f : FileId) (kept : List Stamp) → i ≡ j → OpensIt (granted_answer m i f kept) j
-opens_granted mode.Mend i j f kept e = e
-opens_granted mode.Read i j f kept e = e
-opens_granted mode.Write i j f kept e = e
-opens_granted mode.Resolve i j f kept e = e
-opens_granted mode.Make i j f kept e = e
+opens_granted : (m : Mode) (i j : Serial) (f : FileId) (stamp : Option Stamp) (kept : List Stamp) → i ≡ j → OpensIt (granted_answer m i f stamp kept) j
+opens_granted mode.Mend i j f stamp kept e = e
+opens_granted mode.Read i j f (Some stamp) kept e = e
+opens_granted mode.Read i j f None kept e = e
+opens_granted mode.Write i j f stamp kept e = e
+opens_granted mode.Resolve i j f stamp kept e = e
+opens_granted mode.Make i j f stamp kept e = e
 
 -- what an answer opens is had then
 had_opened : (w : Want) (a : Answer) (own : Instances) (i : Serial) → OpensIt a i → had_after w a own i ≡ true
 had_opened w (answer.Opened inst ino) own i e = ap (λ (b : Bool). b || own i) (subst (λ (j : Serial). same_serial inst j ≡ true) e (same_serial_own inst))
+had_opened w (answer.Reading inst version) own i e = ap (λ (b : Bool). b || own i) (subst (λ (j : Serial). same_serial inst j ≡ true) e (same_serial_own inst))
 had_opened w (answer.Merging inst kept) own i e = ap (λ (b : Bool). b || own i) (subst (λ (j : Serial). same_serial inst j ≡ true) e (same_serial_own inst))
 had_opened w _ own i e = absurd e
 
 -- what was had is had after an answer, but for one to its close
 had_still : (w : Want) (a : Answer) (own : Instances) (i : Serial) → own i ≡ true → (had_after w a own i ≡ true) ⊎ (w ≡ want.Close i)
 had_still w (answer.Opened inst ino) own i e = inl (or_second (same_serial inst i) (own i) e)
+had_still w (answer.Reading inst version) own i e = inl (or_second (same_serial inst i) (own i) e)
 had_still w (answer.Merging inst kept) own i e = inl (or_second (same_serial inst i) (own i) e)
 had_still w _ own i e = closed w own i e
   where
@@ -192,10 +195,10 @@ module _ (c : Config) (n : ℕ) (older : List Line) (h : IsFollowed c older) (e 
       over (inr turn) = turned x may k.0 k.1 k.2 turn
 
 granted_now : (c : Config) (n : ℕ) (x : Told) (older : List Line) → MayTell c older x → (e : EpochId) (d : CallId) (request : ℕ) (i : Serial) (m : Mode) (f : FileId) (stamp : Option Stamp) (ss : ℕ) → Printed (GrantRecord e d request i m f stamp ss) older x → HasOrWaits c (With n x older) d i
-granted_now c n (Shown (says.Grant at call number inst how g on place)) older may e d request i m f stamp ss k = inl (a, by_own call d (heard c older d ++ a ∷ []) (heard c older d) k.call_is ∙ ap (λ (xs : Answers). xs ++ a ∷ []) (subst (λ (y : CallId). heard c older y ≡ log older y) k.call_is may.in_time.opens.asks.asks.nothing_waits), opens_granted how inst i g (kept_in c (entries older) at g) k.serial_is)
+granted_now c n (Shown (says.Grant at call number inst how g on place)) older may e d request i m f stamp ss k = inl (a, by_own call d (heard c older d ++ a ∷ []) (heard c older d) k.call_is ∙ ap (λ (xs : Answers). xs ++ a ∷ []) (subst (λ (y : CallId). heard c older y ≡ log older y) k.call_is may.in_time.opens.asks.asks.nothing_waits), opens_granted how inst i g on (kept_in c (entries older) at g) k.serial_is)
   where
     a : Answer
-    a = granted_answer how inst g (kept_in c (entries older) at g)
+    a = granted_answer how inst g on (kept_in c (entries older) at g)
 granted_now c n _ older may e d request i m f stamp ss k = absurd k
 
 pub granted_had : (c : Config) (t : List Line) → IsFollowed c t → (e : EpochId) (d : CallId) (request : ℕ) (i : Serial) (m : Mode) (f : FileId) (stamp : Option Stamp) (ss : ℕ) → WasGranted t e d request i m f stamp ss → (WasReleased t e i → ⊥) → HasOrWaits c t d i

@@ -3,10 +3,15 @@ use Rattle.std.proofs.Common.{◌≤◌, List, length, refl}
 use Rattle.locus_ids.specs.declared.config.Config.{Config}
 use Rattle.role_steps.specs.Using.{close_answer}
 use Rattle.the_run.specs.Worlds.{Line}
+use Rattle.tree_model.specs.Calls.{waiting}
+use Rattle.lawful_trace.specs.CallRows.{is_this}
+use Rattle.tree_laws.proofs.Waiting.{found_among}
+use Rattle.tree_laws.specs.Printed.{entries}
 use Rattle.tree_laws.specs.Packets.{serial_of}
 use Rattle.tree_laws.specs.Serials.{serial_asked}
 use Rattle.one_tree_laws.specs.of_user_laws.Rests.{ActRests, CloseRests, LookRests, OpenRests, ReplyRests, RequestRests}
 use Rattle.one_tree_laws.proofs.of_store_laws.ScriptOpened.{opened_as}
+use Rattle.one_tree_laws.proofs.of_store_laws.ScriptReading.{read_again, reopened_granted}
 use Rattle.one_tree_laws.proofs.of_store_laws.ScriptReplies.{gives_unchanged, strays_never}
 use Rattle.one_tree_laws.proofs.of_store_laws.ScriptSaid.{open_numbered, resolution_said}
 use Rattle.one_tree_laws.proofs.of_store_laws.ScriptWholes.{whole_served, wholes_brought}
@@ -20,6 +25,7 @@ use Rattle.one_tree_laws.specs.UserStepRests.{UserRests}
 use Rattle.one_tree_laws.specs.Rest.{Past}
 use Rattle.one_tree_laws.proofs.Staying.{rest_below}
 use Rattle.rest_laws.specs.Asking.{OpensAreSaid}
+use Rattle.rest_laws.proofs.StoreStepReading.{reads_kept}
 
 pub opens_said : (c : Config) (t : List Line) → Past c t → OpensAreSaid c t
 opens_said c t past = record {
@@ -38,6 +44,11 @@ replies c t past = record {
   strays = λ d caller e k is. strays_never c t d caller e past.followed k is;
   unchanged = λ d caller e old k is. gives_unchanged c t d caller e old past.followed k is;
   opened = λ d caller e fd k gives. opened_as c t d caller e fd past.followed k gives;
+  read = λ d caller e bytes x k gives granted. read_again c t d caller e bytes x past.followed k gives granted;
+  reread = λ d caller e bytes kept last k gives starts. (
+    reopened_granted c t d caller e bytes past.followed k gives kept last starts,
+    reads_kept c t past.followed past.rest.each d caller kept last k.named (found_among (is_this caller.site caller.process d) (waiting (entries t)) caller k.waits) starts,
+  );
 }
 
 looks : (c : Config) (t : List Line) → Past c t → LookRests c t

@@ -46,6 +46,7 @@ pub mod MendStepMeeting
 pub mod MendStepWorking
 pub mod StoreStepFirst
 pub mod StoreStepKnown
+pub mod StoreStepReading
 pub mod StoreStepNamed
 pub mod StoreStepStaying
 pub mod StoreStepResting

@@ -120,12 +120,13 @@ close_opens stamp (Some x) i k = over x.work.owes x.work.fresh k
     over true b k = k
     over false b k = k
 
-granted_opens : (m : Mode) (i j : Serial) (f : FileId) (kept : List Stamp) → Opens j (granted_answer m i f kept) → i ≡ j
-granted_opens mode.Mend i j f kept k = k
-granted_opens mode.Read i j f kept k = k
-granted_opens mode.Write i j f kept k = k
-granted_opens mode.Resolve i j f kept k = k
-granted_opens mode.Make i j f kept k = k
+granted_opens : (m : Mode) (i j : Serial) (f : FileId) (stamp : Option Stamp) (kept : List Stamp) → Opens j (granted_answer m i f stamp kept) → i ≡ j
+granted_opens mode.Mend i j f stamp kept k = k
+granted_opens mode.Read i j f (Some stamp) kept k = absurd k
+granted_opens mode.Read i j f None kept k = k
+granted_opens mode.Write i j f stamp kept k = k
+granted_opens mode.Resolve i j f stamp kept k = k
+granted_opens mode.Make i j f stamp kept k = k
 
 -- ---- scripts ----
 
@@ -133,6 +134,7 @@ plain_writes : (om : OpenMode) → ToWrite om → is_read (mode_of (opening_of o
 plain_writes plain.Read k = absurd k
 plain_writes plain.Write k = refl
 plain_writes (plain.Resolve site) k = refl
+plain_writes plain.Steady k = absurd k
 
 -- an open that isn't only to read is granted in a mode that writes
 opening_writes : (c : Config) (p : ℕ → Bool) (x wanted : Want) (f : FileId) (it : Opening) → where_packed p x ≡ wanted → IsOpening c wanted f it → OpensToWrite x → is_read (mode_of it) ≡ false
@@ -195,7 +197,7 @@ packed_do p _ i o e = e
 -- ---- what a call has heard ----
 
 -- a step is of a call that was accepted
-step_named : (c : Config) (before : Trace) (r : Record) (d : CallId) → MayCome c before r → StepRecord before r d → IsNamed before d
+pub step_named : (c : Config) (before : Trace) (r : Record) (d : CallId) → MayCome c before r → StepRecord before r d → IsNamed before d
 step_named c before (says.Look e it request f w result) d may step = subst (IsNamed before) step (may.step.accepted, may.step.named)
 step_named c before (says.Grant e it request i m f stamp ss) d may step = subst (IsNamed before) step (may.opens.step.accepted, may.opens.step.named)
 step_named c before (says.Refuse e it request i m f why) d may step = subst (IsNamed before) step (may.opens.step.accepted, may.opens.step.named)
@@ -215,7 +217,7 @@ module _ (c : Config) (d : CallId) (w : Waiting) (b : Beginning) (e : EpochId) (
 
   -- what is granted to it now is granted as it asks
   grant_heard : (n : ℕ) (older : List Line) (at : EpochId) (it : CallId) (request : ℕ) (i : Serial) (m : Mode) (f : FileId) (stamp : Option Stamp) (ss : ℕ) → MayTell c older (Shown (says.Grant at it request i m f stamp ss)) → call_named (entries older) d ≡ Some w → begun (entries older) d ≡ Some b → it ≡ d →
-      (j : Serial) → OpensToWrite (named_wants c.mounts None w.words b (heard c older d)) → Opens j (granted_answer m i f (kept_in c (entries older) at f)) → GrantedToWrite (record { number = n; told = Shown (says.Grant at it request i m f stamp ss) } ∷ older) e j
+      (j : Serial) → OpensToWrite (named_wants c.mounts None w.words b (heard c older d)) → Opens j (granted_answer m i f stamp (kept_in c (entries older) at f)) → GrantedToWrite (record { number = n; told = Shown (says.Grant at it request i m f stamp ss) } ∷ older) e j
   grant_heard n older at it request i m f stamp ss may named starts own j asked opened = record {
     call = it;
     request = request;
@@ -223,7 +225,7 @@ module _ (c : Config) (d : CallId) (w : Waiting) (b : Beginning) (e : EpochId) (
     file = f;
     stamp = stamp;
     place = ss;
-    was_granted = inl (record { epoch_is = epoch_is; call_is = refl; request_is = refl; serial_is = granted_opens m i j f (kept_in c (entries older) at f) opened; mode_is = refl; file_is = refl; stamp_is = refl; place_is = refl });
+    was_granted = inl (record { epoch_is = epoch_is; call_is = refl; request_is = refl; serial_is = granted_opens m i j f stamp (kept_in c (entries older) at f) opened; mode_is = refl; file_is = refl; stamp_is = refl; place_is = refl });
     writes = ap is_read (sym may.in_time.opens.mode_is) ∙ opening_writes c (is_packed_in c (entries older) w.epoch) (named_wants c.mounts None w.words b (heard c older d)) may.in_time.opens.asks.wanted may.in_time.opens.asked may.in_time.opens.it wanted may.in_time.opens.asks.opening_is asked;
   }
     where
@@ -258,8 +260,8 @@ module _ (c : Config) (d : CallId) (w : Waiting) (b : Beginning) (e : EpochId) (
         x : Line
         x = record { number = n; told = Shown (says.Grant at it request i m f stamp ss) }
 
-        over : (y : Bool) → same_call it d ≡ y → Written (GrantedToWrite (x ∷ older) e) (named_wants c.mounts None w.words b) (cond y (heard c older d ++ granted_answer m i f (kept_in c (entries older) at f) ∷ []) (heard c older d))
-        over true q = added (GrantedToWrite (x ∷ older) e) (named_wants c.mounts None w.words b) (heard c older d) (granted_answer m i f (kept_in c (entries older) at f)) (more x older (heard c older d) k) (grant_heard n older at it request i m f stamp ss may named starts (same_call_eq it d q))
+        over : (y : Bool) → same_call it d ≡ y → Written (GrantedToWrite (x ∷ older) e) (named_wants c.mounts None w.words b) (cond y (heard c older d ++ granted_answer m i f stamp (kept_in c (entries older) at f) ∷ []) (heard c older d))
+        over true q = added (GrantedToWrite (x ∷ older) e) (named_wants c.mounts None w.words b) (heard c older d) (granted_answer m i f stamp (kept_in c (entries older) at f)) (more x older (heard c older d) k) (grant_heard n older at it request i m f stamp ss may named starts (same_call_eq it d q))
         over false q = more x older (heard c older d) k
     printed (says.Refuse at it request i m f why) may = over (same_call it d)
       where

@@ -1,5 +1,5 @@
 -- What a call was opened otherwise than to read, and what a descriptor that may write stands for, was granted so.
-use Rattle.std.proofs.Common.{◌≡◌, ℕ, ◌==◌, ◌&&◌, Bool, true, false, cond, List, [], ◌∷◌, Option, Some, None, refl, sym, ◌∙◌, ap, subst, inl, inr}
+use Rattle.std.proofs.Common.{◌≡◌, ℕ, ◌==◌, ◌&&◌, Bool, true, false, cond, List, [], ◌∷◌, Option, option_map, Some, None, refl, sym, ◌∙◌, ap, subst, inl, inr}
 use Rattle.role_steps.proofs.of_plain_facts.Options.{none_some, some_same}
 use Rattle.role_steps.proofs.of_plain_facts.Tests.{true_false}
 use Rattle.locus_ids.specs.declared.ids.CallId.{CallId}
@@ -16,19 +16,23 @@ use Rattle.trace_book.specs.declared.call.Call.{Call}
 use Rattle.trace_book.specs.declared.call.Call.TheVariants as call
 use Rattle.trace_book.specs.declared.descriptor.Beginning.TheVariants as begins
 use Rattle.trace_book.specs.declared.descriptor.Descriptor.{Descriptor}
+use Rattle.trace_book.specs.declared.descriptor.OneVersion.{OneVersion}
 use Rattle.trace_book.specs.declared.record.Record.TheVariants as says
-use Rattle.call_rules.specs.Descriptors.{beginning, begins_on, is_in}
+use Rattle.trace_book.specs.declared.reply.Reply.{Reply}
+use Rattle.trace_book.specs.declared.reply.Reply.TheVariants as reply
+use Rattle.call_rules.specs.Descriptors.{beginning, begins_change, is_in}
 use Rattle.call_rules.specs.Words.{is_too_long}
 use Rattle.role_steps.specs.Views.{Told, Shown}
 use Rattle.the_run.specs.Worlds.{Line}
 use Rattle.one_tree_laws.specs.of_lock_laws.Writing.{IsWrite}
 use Rattle.tree_model.specs.declared.accepted.Waiting.{Waiting}
-use Rattle.tree_model.specs.Calls.{accepted_as, call_named, opening_of}
+use Rattle.tree_model.specs.Calls.{accepted_as, call_named, opening_of, version_of}
 use Rattle.tree_model.specs.Epochs.{epoch_of}
-use Rattle.lawful_trace.specs.Tables.{begins_now, begun, closed_by, descriptor, opened_by}
+use Rattle.tree_model.specs.Folds.{Trace}
+use Rattle.lawful_trace.specs.Tables.{begins_now, begun, closed_by, descriptor, held_again, kept_by, opened_as, opened_by, reads_by}
 use Rattle.tree_laws.specs.Past.{WasGranted}
 use Rattle.tree_laws.specs.Printed.{entries, onto_entries}
-use Rattle.tree_laws.proofs.Descriptors.{closed_left, opened_left}
+use Rattle.tree_laws.proofs.Descriptors.{closed_left}
 use Rattle.tree_laws.proofs.Names.{same_epoch_eq}
 
 -- the instance was granted in the epoch, not only to be read
@@ -64,8 +68,8 @@ opening_granted (y ∷ older) d x e = over y.told e (opening_granted older d x)
     later : (z : Told) → opening_of (entries older) d ≡ Some x → Before → now z
     later z e before = λ w. grant_stays (record { number = y.number; told = z }) older x.epoch x.inst (before e w)
 
-    grants : (at : EpochId) (it : CallId) (request : ℕ) (i : Serial) (m : Mode) (f : FileId) (stamp : Option Stamp) (ss : ℕ) (b : Bool) → cond b (Some (record { mode = m; epoch = at; inst = i })) (opening_of (entries older) d) ≡ Some x → Before → now (Shown (says.Grant at it request i m f stamp ss))
-    grants at it request i m f stamp ss true e before = subst (IsOfGrant (record { number = y.number; told = Shown (says.Grant at it request i m f stamp ss) } ∷ older)) (some_same (record { mode = m; epoch = at; inst = i }) x e)
+    grants : (at : EpochId) (it : CallId) (request : ℕ) (i : Serial) (m : Mode) (f : FileId) (stamp : Option Stamp) (ss : ℕ) (b : Bool) → cond b (Some (record { mode = m; epoch = at; inst = i; steady = None })) (opening_of (entries older) d) ≡ Some x → Before → now (Shown (says.Grant at it request i m f stamp ss))
+    grants at it request i m f stamp ss true e before = subst (IsOfGrant (record { number = y.number; told = Shown (says.Grant at it request i m f stamp ss) } ∷ older)) (some_same (record { mode = m; epoch = at; inst = i; steady = None }) x e)
         (λ w. record { call = it; request = request; mode = m; file = f; stamp = stamp; place = ss; was_granted = inl (record { epoch_is = refl; call_is = refl; request_is = refl; serial_is = refl; mode_is = refl; file_is = refl; stamp_is = refl; place_is = refl }); writes = w })
     grants at it request i m f stamp ss false e before = later (Shown (says.Grant at it request i m f stamp ss)) e before
 
@@ -75,6 +79,32 @@ opening_granted (y ∷ older) d x e = over y.told e (opening_granted older d x)
     over z e before = later z e before
 
 -- ---- descriptors ----
+
+-- what a reply makes a number stand for was granted to its call last, whatever version the number keeps
+opened_from : (r : Reply) (before : Trace) (d : CallId) (fd : ℕ) (old : Option Descriptor) (x : Descriptor) (P : Type 0) → ((y : Descriptor) (v : Option OneVersion) → opening_of before d ≡ Some y → record y { steady = v } ≡ x → P) → (old ≡ Some x → P) → opened_by r before d fd old ≡ Some x → P
+opened_from (reply.Opened n) before d fd old x P new was h = over (n == fd) h
+  where
+    found : (o : Option Descriptor) → opening_of before d ≡ o → option_map (λ (y : Descriptor). record y { steady = kept_by (call_named before d) (version_of before d) }) o ≡ Some x → P
+    found None e k = absurd (none_some x k)
+    found (Some y) e k = new y (kept_by (call_named before d) (version_of before d)) e (some_same (record y { steady = kept_by (call_named before d) (version_of before d) }) x k)
+
+    over : (b : Bool) → cond b (opened_as before d) old ≡ Some x → P
+    over true k = found (opening_of before d) refl k
+    over false k = was k
+opened_from (reply.Data bytes) before d fd old x P new was h = over (reads_by (call_named before d) fd) h
+  where
+    again : (y : Descriptor) → opening_of before d ≡ Some y → (o : Option Descriptor) → option_map (λ (z : Descriptor). record y { steady = z.steady }) o ≡ Some x → P
+    again y e None k = absurd (none_some x k)
+    again y e (Some z) k = new y z.steady e (some_same (record y { steady = z.steady }) x k)
+
+    found : (o : Option Descriptor) → opening_of before d ≡ o → held_again o old ≡ Some x → P
+    found None e k = was k
+    found (Some y) e k = again y e old k
+
+    over : (b : Bool) → cond b (held_again (opening_of before d) old) old ≡ Some x → P
+    over true k = found (opening_of before d) refl k
+    over false k = was k
+opened_from _ before d fd old x P new was h = was h
 
 pub descriptor_granted : (t : List Line) (s process fd : ℕ) (x : Descriptor) → descriptor (entries t) s process fd ≡ Some x → IsOfGrant t x
 descriptor_granted [] s process fd x e = absurd (none_some x e)
@@ -104,8 +134,8 @@ descriptor_granted (y ∷ older) s process fd x e = over y.told e (descriptor_gr
         z : Told
         z = Shown (says.Answer at user it r)
 
-        answers : (b : Bool) → cond b (opened_by r fd (opening_of (entries older) it) (descriptor (entries older) s process fd)) (descriptor (entries older) s process fd) ≡ Some x → now z
-        answers true e = opened_left r fd (opening_of (entries older) it) (descriptor (entries older) s process fd) x (now z) (λ opens o. stays z (opening_granted older it x o)) (λ o. stays z (before o)) e
+        answers : (b : Bool) → cond b (opened_by r (entries older) it fd (descriptor (entries older) s process fd)) (descriptor (entries older) s process fd) ≡ Some x → now z
+        answers true e = opened_from r (entries older) it fd (descriptor (entries older) s process fd) x (now z) (λ o v opens is. stays z (subst (IsOfGrant older) is (opening_granted older it o opens))) (λ o. stays z (before o)) e
         answers false e = stays z (before e)
     over (Shown (says.Stopped at cause)) e before = stops (Shown (says.Stopped at cause)) (at == s) e before
     over (Shown r) e before = stays (Shown r) (before e)
@@ -136,20 +166,24 @@ in_now : (now : Option EpochId) (e : EpochId) → is_in now e ≡ true → now �
 in_now None e t = absurd (true_false (sym t))
 in_now (Some at) e t = ap Some (same_epoch_eq at e t)
 
-on_written : (table : ℕ → Option Descriptor) (now : Option EpochId) (fd : ℕ) (e : EpochId) (i : Serial) (o : Option Descriptor) → table fd ≡ o → begins_on true now o ≡ begins.Uses e i → Writable table now e i
+on_written : (table : ℕ → Option Descriptor) (now : Option EpochId) (fd : ℕ) (e : EpochId) (i : Serial) (o : Option Descriptor) → table fd ≡ o → begins_change now o ≡ begins.Uses e i → Writable table now e i
 on_written table now fd e i None is k = absurd (denied_uses _ e i k)
-on_written table now fd e i (Some x) is k = at (is_in now x.epoch) (is_read x.mode) refl refl k
+on_written table now fd e i (Some x) is k = by x.steady refl
   where
-    at : (a b : Bool) → is_in now x.epoch ≡ a → is_read x.mode ≡ b → begins_on true now (Some x) ≡ begins.Uses e i → Writable table now e i
-    at true true p q k = absurd (denied_uses _ e i (rw q at (rw p at k)))
-    at true false p q k = (let u : begins.Uses x.epoch x.inst ≡ begins.Uses e i = rw q at (rw p at k) in
+    at : x.steady ≡ None → (a b : Bool) → is_in now x.epoch ≡ a → is_read x.mode ≡ b → Writable table now e i
+    at s true true p q = absurd (denied_uses _ e i (rw q at (rw p at (rw s at k))))
+    at s true false p q = (let u : begins.Uses x.epoch x.inst ≡ begins.Uses e i = rw q at (rw p at (rw s at k)) in
         record { fd = fd; stands = x; found = is; epoch_is = uses_epoch x.epoch e x.inst i u; serial_is = uses_serial x.epoch e x.inst i u; inside = in_now now x.epoch p ∙ ap Some (uses_epoch x.epoch e x.inst i u); writes = q })
-    at false b p q k = absurd (denied_uses _ e i (rw p at k))
+    at s false b p q = absurd (denied_uses _ e i (rw p at (rw s at k)))
+
+    by : (o : Option OneVersion) → x.steady ≡ o → Writable table now e i
+    by None s = at s (is_in now x.epoch) (is_read x.mode) refl refl
+    by (Some version) s = absurd (denied_uses _ e i (rw s at k))
 
 written_on : (table : ℕ → Option Descriptor) (now : Option EpochId) (id : CallId) (words : Call) (e : EpochId) (i : Serial) → IsWrite words → beginning table now id words ≡ begins.Uses e i → Writable table now e i
 written_on table now id (call.Write fd at bytes) e i w k = over (is_too_long (call.Write fd at bytes)) k
   where
-    over : (b : Bool) → cond b (begins.Denied refusal.TooLong) (begins_on true now (table fd)) ≡ begins.Uses e i → Writable table now e i
+    over : (b : Bool) → cond b (begins.Denied refusal.TooLong) (begins_change now (table fd)) ≡ begins.Uses e i → Writable table now e i
     over true m = absurd (denied_uses _ e i m)
     over false m = on_written table now fd e i (table fd) refl m
 written_on table now id (call.Cut fd len) e i w k = on_written table now fd e i (table fd) refl k

@@ -103,6 +103,7 @@ abbrev pub opening_of : OpenMode → Opening
 opening_of mode.Read = how.Read
 opening_of mode.Write = how.Write
 opening_of (mode.Resolve site) = how.Resolve site
+opening_of mode.Steady = how.Read
 
 -- a make without a list is for all packs of the group
 abbrev pub made_for : Config → ℕ → Option Sites → Sites

@@ -23,8 +23,10 @@ use Rattle.trace_book.specs.declared.record.Record.TheVariants as says
 use Rattle.trace_book.specs.declared.reply.Reply.{Reply}
 use Rattle.trace_book.specs.declared.reply.Reply.TheVariants as reply
 use Rattle.trace_book.specs.declared.descriptor.Beginning.{Beginning}
+use Rattle.trace_book.specs.declared.descriptor.Beginning.TheVariants as begins
+use Rattle.trace_book.specs.declared.descriptor.OneVersion.{OneVersion}
 use Rattle.call_rules.specs.Descriptors.{beginning, lowest_free}
-use Rattle.call_rules.specs.Opening.{mode_of}
+use Rattle.call_rules.specs.Opening.{is_steady, mode_of}
 use Rattle.call_rules.specs.Scripts.{wants}
 use Rattle.call_rules.specs.declared.answer.Answer.{Answer}
 use Rattle.call_rules.specs.declared.answer.Answer.TheVariants as answer
@@ -58,6 +60,7 @@ reply_record me boot w r = Shown (says.Answer me w.process (own_call me boot w.c
 abbrev pub last_opened : Serial → List Answer → Serial
 last_opened inst [] = inst
 last_opened inst (answer.Opened found ino ∷ rest) = last_opened found rest
+last_opened inst (answer.Reading found version ∷ rest) = last_opened found rest
 last_opened inst (_ ∷ rest) = last_opened inst rest
 
 abbrev pub no_serial : Serial
@@ -67,8 +70,15 @@ abbrev pub mode_asked : Call → Mode
 mode_asked (call.Open path m) = mode_of m
 mode_asked _ = mode.Read
 
-abbrev pub opened_row : Frame → WaitingCall → ℕ → DescriptorRow
-opened_row f w fd = record { process = w.process; fd = fd; descriptor = record { mode = mode_asked w.words; epoch = f.epoch; inst = last_opened no_serial w.answers } }
+-- the version that was opened last to be read
+abbrev pub last_version : Option OneVersion → List Answer → Option OneVersion
+last_version last [] = last
+last_version last (answer.Reading inst version ∷ rest) = last_version (Some version) rest
+last_version last (_ ∷ rest) = last_version last rest
+
+-- what a descriptor stands for by the call that opened its instance, and by the version that it keeps
+abbrev pub opened_row : Frame → WaitingCall → ℕ → Option OneVersion → DescriptorRow
+opened_row f w fd kept = record { process = w.process; fd = fd; descriptor = record { mode = mode_asked w.words; epoch = f.epoch; inst = last_opened no_serial w.answers; steady = kept } }
 
 -- a directory whose mend is refused for want of room isn't mended again in this epoch
 abbrev pub is_hopeless : Refusal → Bool
@@ -81,9 +91,15 @@ abbrev pub without_hope : Call → Refusal → Users → Users
 without_hope (call.Mend file) why u = cond (is_hopeless why) (record u { hopeless = u.hopeless ++ file ∷ [] }) u
 without_hope _ why u = u
 
+-- a read that has opened a version again makes its descriptor held by the new instance
+abbrev pub holds_again : Frame → WaitingCall → Beginning → Call → Users → Users
+holds_again f w (begins.Reopens version last) (call.Read fd at len) u = with_descriptor (opened_row f w fd (Some version)) u
+holds_again f w _ words u = u
+
 -- what a reply changes: an open that succeeds takes the descriptor
 abbrev pub after_reply : Frame → WaitingCall → Reply → Users → Users
-after_reply f w (reply.Opened fd) u = with_descriptor (opened_row f w fd) u
+after_reply f w (reply.Opened fd) u = with_descriptor (opened_row f w fd (cond (is_steady w.words) (last_version None w.answers) None)) u
+after_reply f w (reply.Data bytes) u = holds_again f w w.begins w.words u
 after_reply f w (reply.No why) u = without_hope w.words why u
 after_reply f w _ u = u
 
@@ -175,10 +191,15 @@ asks_open_of serial w = is_of w.asking
 abbrev pub own_serial : Frame → ℕ → Serial
 own_serial f serial = record { us = f.me; serial = serial }
 
+-- an open to read tells its version
+abbrev pub asked_answer : Frame → ℕ → ℕ → Stamp → Asking → Answer
+asked_answer f serial ino stamp (asking.Open s file how.Read) = answer.Reading (own_serial f serial) (record { file = file; stamp = stamp })
+asked_answer f serial ino stamp _ = answer.Opened (own_serial f serial) ino
+
 -- a mend's open brings the stamps of the kept versions, ascending
-abbrev pub opened_answer : Frame → ℕ → ℕ → List Stamp → Call → Answer
-opened_answer f serial ino kept (call.Mend file) = answer.Merging (own_serial f serial) kept
-opened_answer f serial ino kept _ = answer.Opened (own_serial f serial) ino
+abbrev pub opened_answer : Frame → ℕ → ℕ → Stamp → List Stamp → Call → Asking → Answer
+opened_answer f serial ino stamp kept (call.Mend file) asked = answer.Merging (own_serial f serial) kept
+opened_answer f serial ino stamp kept _ asked = asked_answer f serial ino stamp asked
 
 abbrev pub mended_file : Call → Option FileId
 mended_file (call.Mend file) = Some file
@@ -190,7 +211,7 @@ kept_for kept (Some file) = kept file
 
 abbrev pub takes_open : Frame → (FileId → List Stamp) → ℕ → WaitingCall → Granted → Users → Outcome Users
 takes_open f kept serial w (granted.Open ss ino size stamp vector) u =
-    takes_answer f w (opened_answer f serial ino (kept_for kept (mended_file w.words)) w.words)
+    takes_answer f w (opened_answer f serial ino stamp (kept_for kept (mended_file w.words)) w.words w.asking)
     (with_user_instance (record { serial = serial; ss = ss; vector = vector; ops = 0 }) u)
 takes_open f kept serial w (granted.No why) u = takes_answer f w (answer.Refused why) u
 
@@ -305,7 +326,8 @@ on_look_done f n request take a u = on_look_done_of f a (first_that (asks_take n
 
 -- ---- the epoch is left ----
 
--- each waiting call is answered Changed, in order of process; open descriptors stay, and are stale from now on
+-- each waiting call is answered Changed, in order of process; open descriptors stay, and are stale from now on, but for steady ones, which
+-- are then not held
 abbrev pub changed_records : ℕ → ℕ → EpochId → List WaitingCall → List Told
 changed_records me boot e ws = map (λ (w : WaitingCall). reply_record me boot w (reply.No (refusal.Changed e))) ws
 

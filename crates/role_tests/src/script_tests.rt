@@ -7,7 +7,7 @@ use role_shown::{bytes, epoch, inst, mounts, push_file, push_op, push_reply, sta
 use std::alloc::Global;
 use std::process::Abort;
 use std::test::Fail;
-use trace_book::{Beginning, Call, OpenMode, Outcome, Reply};
+use trace_book::{Beginning, Call, OneVersion, OpenMode, Outcome, Reply};
 
 /// A call with the answers that it has had. Each call gives what it asks next.
 #[derive(Drop)]
@@ -302,6 +302,52 @@ fn calls_on_an_instance_ask_once(rt: HostRuntime) {
         }),
         "ok 1.2",
     );
+}
+
+/// Version 1.`n` of file 0.2.
+fn version(n: u32) -> OneVersion {
+    OneVersion {
+        file: FileId { group: 0, ino: 2 },
+        stamp: stamp(1, n),
+    }
+}
+
+/// A read by a steady descriptor that epoch 1.1.1 held last: it keeps version 1.2.
+fn reopening(alloc: Global) -> Result<Calling, Fail> {
+    let begins = Beginning::Reopens {
+        version: version(2),
+        last: epoch(1, 1, 1),
+    };
+    let words = Call::Read {
+        fd: 0,
+        at: 1,
+        len: 2,
+    };
+    Calling::begins(alloc, words, begins)
+}
+
+#[test]
+fn a_read_goes_on_only_with_its_own_version(rt: HostRuntime) {
+    let mut call = given(&rt, reopening(rt.alloc()));
+    is_text(&rt, call.next(), "open 0.2");
+    let (inst, kept, newer) = (inst(1, 2), version(2), version(3));
+    is_text(
+        &rt,
+        call.hears(Answer::Reading {
+            inst,
+            version: kept,
+        }),
+        "i1.2 0 read 1 2",
+    );
+    is_text(&rt, call.did(), "ok");
+    let mut call = given(&rt, reopening(rt.alloc()));
+    let version = newer;
+    is_text(
+        &rt,
+        call.hears(Answer::Reading { inst, version }),
+        "close 2",
+    );
+    is_text(&rt, call.ended(), "stale e1.1.1");
 }
 
 #[test]

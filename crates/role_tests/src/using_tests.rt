@@ -127,8 +127,12 @@ fn granted() -> Result<Granted, Fail> {
 
 /// Process 1 has `/a` open to read, by its first call.
 fn opened<R: Abort + Eprint>(rt: &R, alloc: Global) -> Using {
+    opened_in(rt, alloc, OpenMode::Read)
+}
+
+fn opened_in<R: Abort + Eprint>(rt: &R, alloc: Global, mode: OpenMode) -> Using {
     let mut using = given(rt, Using::new(alloc));
-    given(rt, using.opens("/a", OpenMode::Read));
+    given(rt, using.opens("/a", mode));
     given(rt, using.looked(1, 1, 1, found()));
     given(rt, using.opened(1, given(rt, granted())));
     using
@@ -276,6 +280,29 @@ fn a_descriptor_is_stale_in_the_next_epoch(rt: HostRuntime) {
         &rt,
         using.reads(0),
         "call 1 1 c1.1.3 read 0 0 3; reply 1 1 c1.1.3 stale e1.1.1",
+    );
+}
+
+#[test]
+fn a_steady_descriptor_reads_on_in_the_next_epoch(rt: HostRuntime) {
+    let mut using = opened_in(&rt, rt.alloc(), OpenMode::Steady);
+    given(&rt, using.leaves());
+    using.frame.epoch = epoch(2, 1, 1);
+    is_text(
+        &rt,
+        using.reads(0),
+        "1 open 2 0.2; call 1 1 c1.1.2 read 0 0 3",
+    );
+    is_text(&rt, using.opened(2, given(&rt, granted())), "2 op 2 1");
+    let bytes = given(&rt, bytes(using.alloc, "abc"));
+    given(&rt, using.did(2, 1, Outcome::Data { bytes }));
+    is_text(&rt, using.reads(0), "2 op 2 2; call 1 1 c1.1.3 read 0 0 3");
+    given(&rt, using.leaves());
+    using.frame.epoch = epoch(3, 1, 1);
+    is_text(
+        &rt,
+        using.calls(Call::Close { fd: 0 }),
+        "call 1 1 c1.1.4 close 0; reply 1 1 c1.1.4 ok",
     );
 }
 

@@ -1,15 +1,17 @@
 -- What a site does inside its epoch: it tells nothing of how it stands, and all that it sends names that epoch.
 use Rattle.std.proofs.Common.{ℕ, ◌≡◌, ◌+◌, true, false, Bool, cond, List, [], Option, Some, None, refl, sym, subst}
 use Rattle.locus_ids.specs.declared.ids.CallId.{CallId}
+use Rattle.locus_ids.specs.declared.ids.EpochId.{EpochId}
 use Rattle.locus_ids.specs.declared.config.Config.{Config}
 use Rattle.locus_ids.specs.declared.refusal.Refusal.{Refusal}
 use Rattle.trace_book.specs.declared.call.Call.{Call}
 use Rattle.trace_book.specs.declared.call.Call.TheVariants as call
 use Rattle.trace_book.specs.declared.descriptor.Beginning.{Beginning}
-use Rattle.trace_book.specs.declared.descriptor.Beginning.TheVariants.{Denied}
+use Rattle.trace_book.specs.declared.descriptor.Beginning.TheVariants as begins
 use Rattle.trace_book.specs.declared.descriptor.Descriptor.{Descriptor}
+use Rattle.trace_book.specs.declared.descriptor.OneVersion.{OneVersion}
 use Rattle.trace_book.specs.declared.reply.Reply.{Reply}
-use Rattle.law_walks.specs.of_call_rules.Descriptors.{begins_on, begins_open, lowest_free, beginning}
+use Rattle.law_walks.specs.of_call_rules.Descriptors.{beginning, begins_again, begins_change, begins_close, begins_open, begins_read, lowest_free, stale_or}
 use Rattle.law_walks.specs.of_call_rules.Words.{is_too_long}
 use Rattle.law_walks.specs.of_call_rules.Scripts.{where_packed, wants}
 use Rattle.law_walks.specs.of_call_rules.declared.want.Want.TheVariants as want
@@ -18,7 +20,7 @@ use Rattle.law_walks.specs.of_wire_messages.declared.body.Body.{Body}
 use Rattle.law_walks.specs.of_role_steps.Own.{Every}
 use Rattle.law_walks.specs.of_role_steps.Views.{Frame, Users, SiteView, Outcome, quiet, packet}
 use Rattle.law_walks.specs.of_role_steps.Requests.{descriptors_of}
-use Rattle.law_walks.specs.of_role_steps.Using.{accepted, frees, asks_want, is_packed, goes_on, on_call}
+use Rattle.law_walks.specs.of_role_steps.Using.{accepted, frees, asks_want, is_packed, on_call}
 use Rattle.law_walks.specs.of_role_steps.Epochs.{frame_in}
 use Rattle.law_walks.specs.of_role_steps.declared.rounds.InEpoch.{InEpoch}
 use Rattle.law_walks.specs.of_role_steps.declared.users.WaitingCall.{WaitingCall}
@@ -35,53 +37,81 @@ use Rattle.run_laws.specs.Words.{Inside, InsideWrite}
 use Rattle.law_walks.specs.of_role_steps.Using.{own_call}
 use Rattle.run_laws.proofs.Telling.{on_call_talks, tells_talk, talk_inside, version_inside}
 
--- ---- a call outside of an epoch is refused at once ----
+-- ---- a call outside of an epoch is answered at once ----
 
-abbrev IsDenied : Beginning → Type 0
-IsDenied b = (why : Refusal) × (b ≡ Denied why)
+-- it is refused, or it closes what no instance holds
+abbrev IsAtOnce : Beginning → Type 0
+IsAtOnce (begins.Denied why) = Unit {0}
+IsAtOnce begins.Frees = Unit {0}
+IsAtOnce _ = ⊥
 
-on_denied : (changes : Bool) (d : Option Descriptor) → IsDenied (begins_on changes None d)
-on_denied changes None = (_, refl)
-on_denied changes (Some d) = (_, refl)
+again_at_once : (last : EpochId) (steady : Option OneVersion) → IsAtOnce (stale_or (begins_again None last) last steady)
+again_at_once last None = tt
+again_at_once last (Some kept) = tt
 
-open_denied : (id : CallId) (free : Option ℕ) → IsDenied (begins_open None id free)
-open_denied id None = (_, refl)
-open_denied id (Some fd) = (_, refl)
+read_at_once : (d : Option Descriptor) → IsAtOnce (begins_read None d)
+read_at_once None = tt
+read_at_once (Some d) = again_at_once d.epoch d.steady
 
-write_denied : (long : Bool) (d : Option Descriptor) (why : Refusal) → IsDenied (cond long (Denied why) (begins_on true None d))
-write_denied true d why = (why, refl)
-write_denied false d why = on_denied true d
+free_at_once : (last : EpochId) (steady : Option OneVersion) → IsAtOnce (stale_or (λ version. begins.Frees) last steady)
+free_at_once last None = tt
+free_at_once last (Some kept) = tt
 
-denied : (table : ℕ → Option Descriptor) (id : CallId) (words : Call) → IsDenied (beginning table None id words)
-denied table id (call.Open path mode) = open_denied id (lowest_free table)
-denied table id (call.Read fd at len) = on_denied false (table fd)
-denied table id (call.Write fd at bytes) = write_denied (is_too_long (call.Write fd at bytes)) (table fd) _
-denied table id (call.Cut fd len) = on_denied true (table fd)
-denied table id (call.Commit fd) = on_denied true (table fd)
-denied table id (call.Abort fd) = on_denied true (table fd)
-denied table id (call.Close fd) = on_denied false (table fd)
-denied table id (call.Create path sites) = (_, refl)
-denied table id (call.MakeDir path) = (_, refl)
-denied table id (call.Unlink path) = (_, refl)
-denied table id (call.RemoveDir path) = (_, refl)
-denied table id (call.Rename path name) = (_, refl)
-denied table id (call.List path) = (_, refl)
-denied table id (call.Stat path) = (_, refl)
-denied table id (call.Mail path bytes) = (_, refl)
-denied table id (call.Mails path) = (_, refl)
-denied table id (call.Mend file) = (_, refl)
+close_at_once : (d : Option Descriptor) → IsAtOnce (begins_close None d)
+close_at_once None = tt
+close_at_once (Some d) = free_at_once d.epoch d.steady
+
+change_at_once : (d : Option Descriptor) → IsAtOnce (begins_change None d)
+change_at_once None = tt
+change_at_once (Some d) = by d.steady refl
+  where
+    by : (kept : Option OneVersion) → d.steady ≡ kept → IsAtOnce (begins_change None (Some d))
+    by None e = rw e tt
+    by (Some kept) e = rw e tt
+
+open_at_once : (id : CallId) (free : Option ℕ) → IsAtOnce (begins_open None id free)
+open_at_once id None = tt
+open_at_once id (Some fd) = tt
+
+write_at_once : (long : Bool) (d : Option Descriptor) (why : Refusal) → IsAtOnce (cond long (begins.Denied why) (begins_change None d))
+write_at_once true d why = tt
+write_at_once false d why = change_at_once d
+
+at_once : (table : ℕ → Option Descriptor) (id : CallId) (words : Call) → IsAtOnce (beginning table None id words)
+at_once table id (call.Open path mode) = open_at_once id (lowest_free table)
+at_once table id (call.Read fd at len) = read_at_once (table fd)
+at_once table id (call.Write fd at bytes) = write_at_once (is_too_long (call.Write fd at bytes)) (table fd) _
+at_once table id (call.Cut fd len) = change_at_once (table fd)
+at_once table id (call.Commit fd) = change_at_once (table fd)
+at_once table id (call.Abort fd) = change_at_once (table fd)
+at_once table id (call.Close fd) = close_at_once (table fd)
+at_once table id (call.Create path sites) = tt
+at_once table id (call.MakeDir path) = tt
+at_once table id (call.Unlink path) = tt
+at_once table id (call.RemoveDir path) = tt
+at_once table id (call.Rename path name) = tt
+at_once table id (call.List path) = tt
+at_once table id (call.Stat path) = tt
+at_once table id (call.Mail path bytes) = tt
+at_once table id (call.Mails path) = tt
+at_once table id (call.Mend file) = tt
 
 give_silent : (f : Frame) (w : WaitingCall) (u : Users) (packed : ℕ → Bool) (b : Bool) (r q : Reply) → (asks_want f w (where_packed packed (cond b (want.Give r) (want.Give q))) u).sent ≡ []
 give_silent f w u packed true r q = refl
 give_silent f w u packed false r q = refl
 
-denied_silent : (f : Frame) (w : WaitingCall) (u : Users) (why : Refusal) → w.begins ≡ Denied why → (goes_on f w u).sent ≡ []
-denied_silent f w u why e = subst (λ (b : Beginning). (asks_want f w (wants f.config.mounts (is_packed f) (lowest_free (descriptors_of u w.process)) w.words b w.answers) u).sent ≡ []) (sym e) (give_silent f w u (is_packed f) _ _ _)
+begun_silent : (f : Frame) (w : WaitingCall) (u : Users) (b : Beginning) → IsAtOnce b → (asks_want f w (wants f.config.mounts (is_packed f) (lowest_free (descriptors_of u w.process)) w.words b w.answers) u).sent ≡ []
+begun_silent f w u (begins.Denied why) h = give_silent f w u (is_packed f) _ _ _
+begun_silent f w u begins.Frees h = give_silent f w u (is_packed f) _ _ _
+begun_silent f w u (begins.Uses e i) h = absurd h
+begun_silent f w u (begins.Walks id) h = absurd h
+begun_silent f w u (begins.Reopens kept last) h = absurd h
 
 call_silent : (f : Frame) (process : ℕ) (words : Call) (u : Users) → (on_call f None process words u).sent ≡ []
-call_silent f process words u =
-    let d : IsDenied (beginning (descriptors_of u process) None (own_call f.me f.boot (u.calls + 1)) words) = denied (descriptors_of u process) (own_call f.me f.boot (u.calls + 1)) words in
-    denied_silent f (accepted process (u.calls + 1) words (beginning (descriptors_of u process) None (own_call f.me f.boot (u.calls + 1)) words)) (frees process words (record u { calls = u.calls + 1 })) d.0 d.1
+call_silent f process words u = begun_silent f (accepted process (u.calls + 1) words begun) (frees process words (record u { calls = u.calls + 1 })) begun (at_once (descriptors_of u process) (own_call f.me f.boot (u.calls + 1)) words)
+  where
+    begun : Beginning
+    begun = beginning (descriptors_of u process) None (own_call f.me f.boot (u.calls + 1)) words
 
 -- ---- the law, kind by kind ----
 

@@ -69,3 +69,8 @@ mod ExampleStopInsideAWrite
 mod MailBothSides
 mod MailUnlinkedOnOneSide
 mod MailTwoOfOneName
+mod ExampleSteadyReader
+mod SteadyThroughACut
+mod SteadyInNoEpoch
+mod SteadyItsSiteStops
+mod SteadyLeftWhileOpening

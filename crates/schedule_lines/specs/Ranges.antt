@@ -46,6 +46,7 @@ abbrev pub fits_mode : ℕ → OpenMode → Bool
 fits_mode n how.Read = true
 fits_mode n how.Write = true
 fits_mode n (how.Resolve site) = is_site n site
+fits_mode n how.Steady = true
 
 -- the operands of a call of a process are in range, in a cluster of n sites; no process calls mend
 abbrev pub fits_call : ℕ → Call → Bool

@@ -1,17 +1,18 @@
--- A call of a site in no epoch is refused at once, whatever boot numbers the frame of no members has.
+-- A call of a site in no epoch is answered at once, whatever boot numbers the frame of no members has.
 use Rattle.std.proofs.Common.{◌≡◌, ℕ, ◌+◌, cond, true, false, Bool, [], ◌∷◌, Option, Some, None, refl, sym, ap, subst}
 use Rattle.locus_ids.specs.declared.ids.CallId.{CallId}
 use Rattle.locus_ids.specs.declared.config.Config.{Config}
 use Rattle.locus_ids.specs.declared.ids.EpochId.{EpochId}
-use Rattle.locus_ids.specs.declared.refusal.Refusal.{Refusal}
 use Rattle.locus_ids.specs.declared.refusal.Refusal.TheVariants as refusal
 use Rattle.trace_book.specs.declared.call.Call.{Call}
 use Rattle.trace_book.specs.declared.call.Call.TheVariants as call
+use Rattle.trace_book.specs.declared.reply.Reply.{Reply}
 use Rattle.trace_book.specs.declared.reply.Reply.TheVariants as reply
 use Rattle.trace_book.specs.declared.descriptor.Beginning.{Beginning}
-use Rattle.trace_book.specs.declared.descriptor.Beginning.TheVariants.{Denied}
+use Rattle.trace_book.specs.declared.descriptor.Beginning.TheVariants.{Denied, Frees, Reopens, Uses, Walks}
 use Rattle.trace_book.specs.declared.descriptor.Descriptor.{Descriptor}
-use Rattle.call_rules.specs.Descriptors.{beginning, begins_on, begins_open, begins_walk, lowest_free}
+use Rattle.trace_book.specs.declared.descriptor.OneVersion.{OneVersion}
+use Rattle.call_rules.specs.Descriptors.{beginning, begins_again, begins_change, begins_close, begins_open, begins_read, lowest_free, stale_or}
 use Rattle.call_rules.specs.Scripts.{where_packed}
 use Rattle.call_rules.specs.Words.{is_badly_named, is_too_long}
 use Rattle.call_rules.specs.declared.want.Want.TheVariants.{Give}
@@ -28,49 +29,69 @@ use Rattle.site_parts.specs.Framing.{calling, outside}
 use Rattle.site_node.specs.Views.{view_of, Works}
 use Rattle.site_node.specs.declared.node.SiteNode.{SiteNode}
 
-record IsDenied (b : Beginning) : Type 0 where
-  why : Refusal
-  is : b ≡ Denied why
+-- where a call is answered at once: it is refused there, or frees what no instance holds
+abbrev IsAnswered : Beginning → Type 0
+IsAnswered (Denied why) = Unit {0}
+IsAnswered (Uses e inst) = ⊥
+IsAnswered (Walks id) = ⊥
+IsAnswered (Reopens version last) = ⊥
+IsAnswered Frees = Unit {0}
 
-cond_denied : (b : Bool) (x y : Beginning) → IsDenied x → IsDenied y → IsDenied (cond b x y)
-cond_denied true x y h k = h
-cond_denied false x y h k = k
+stale_answered : (steady : OneVersion → Beginning) (last : EpochId) (o : Option OneVersion) → ((v : OneVersion) → IsAnswered (steady v)) → IsAnswered (stale_or steady last o)
+stale_answered steady last None k = tt
+stale_answered steady last (Some v) k = k v
 
-on_denied : (changes : Bool) (d : Option Descriptor) → IsDenied (begins_on changes None d)
-on_denied changes None = record { why = refusal.BadDescriptor; is = refl }
-on_denied changes (Some d) = record { why = refusal.Stale d.epoch; is = refl }
+read_answered : (o : Option Descriptor) → IsAnswered (begins_read None o)
+read_answered None = tt
+read_answered (Some d) = stale_answered (begins_again None d.epoch) d.epoch d.steady (λ v. tt)
 
-open_denied : (id : CallId) (free : Option ℕ) → IsDenied (begins_open None id free)
-open_denied id None = record { why = refusal.NoDescriptor; is = refl }
-open_denied id (Some fd) = record { why = refusal.NoPartition; is = refl }
+close_answered : (o : Option Descriptor) → IsAnswered (begins_close None o)
+close_answered None = tt
+close_answered (Some d) = stale_answered (λ v. Frees) d.epoch d.steady (λ v. tt)
 
-walk_denied : (id : CallId) → IsDenied (begins_walk None id)
-walk_denied id = record { why = refusal.NoPartition; is = refl }
+change_answered : (o : Option Descriptor) → IsAnswered (begins_change None o)
+change_answered None = tt
+change_answered (Some d) = by d.steady refl
+  where
+    by : (o : Option OneVersion) → d.steady ≡ o → IsAnswered (begins_change None (Some d))
+    by None s = rw s tt
+    by (Some v) s = rw s tt
 
-begins_denied : (table : ℕ → Option Descriptor) (id : CallId) (words : Call) → IsDenied (beginning table None id words)
-begins_denied table id (call.Open path mode) = open_denied id (lowest_free table)
-begins_denied table id (call.Read fd at len) = on_denied false (table fd)
-begins_denied table id (call.Write fd at bytes) = cond_denied (is_too_long (call.Write fd at bytes)) (Denied refusal.TooLong) (begins_on true None (table fd)) (record { why = refusal.TooLong; is = refl }) (on_denied true (table fd))
-begins_denied table id (call.Cut fd len) = on_denied true (table fd)
-begins_denied table id (call.Commit fd) = on_denied true (table fd)
-begins_denied table id (call.Abort fd) = on_denied true (table fd)
-begins_denied table id (call.Close fd) = on_denied false (table fd)
-begins_denied table id _ = walk_denied id
+write_answered : (b : Bool) (x : Beginning) → IsAnswered x → IsAnswered (cond b (Denied refusal.TooLong) x)
+write_answered true x h = tt
+write_answered false x h = h
 
-goes_denied : (c : Config) (me boot process n : ℕ) (words : Call) (why : Refusal) (u : Users) → goes_on (outside c me boot) (accepted process n words (Denied why)) u ≡ goes_on (call_frame c me boot None) (accepted process n words (Denied why)) u
-goes_denied c me boot process n words why u = elim (is_badly_named c.mounts words) as (λ b. asks_want (outside c me boot) (accepted process n words (Denied why)) (where_packed (is_packed (outside c me boot)) (cond b (Give (reply.No refusal.BadName)) (Give (reply.No why)))) u ≡ asks_want (call_frame c me boot None) (accepted process n words (Denied why)) (where_packed (is_packed (call_frame c me boot None)) (cond b (Give (reply.No refusal.BadName)) (Give (reply.No why)))) u) [
-  | true ↦ refl
-  | false ↦ refl
-]
+open_answered : (id : CallId) (free : Option ℕ) → IsAnswered (begins_open None id free)
+open_answered id None = tt
+open_answered id (Some fd) = tt
 
-goes_outside : (c : Config) (me boot process n : ℕ) (words : Call) (b : Beginning) (u : Users) → IsDenied b → goes_on (outside c me boot) (accepted process n words b) u ≡ goes_on (call_frame c me boot None) (accepted process n words b) u
-goes_outside c me boot process n words b u d = subst (λ (x : Beginning). goes_on (outside c me boot) (accepted process n words x) u ≡ goes_on (call_frame c me boot None) (accepted process n words x) u) (sym d.is) (goes_denied c me boot process n words d.why u)
+begins_answered : (table : ℕ → Option Descriptor) (id : CallId) (words : Call) → IsAnswered (beginning table None id words)
+begins_answered table id (call.Open path mode) = open_answered id (lowest_free table)
+begins_answered table id (call.Read fd at len) = read_answered (table fd)
+begins_answered table id (call.Write fd at bytes) = write_answered (is_too_long (call.Write fd at bytes)) (begins_change None (table fd)) (change_answered (table fd))
+begins_answered table id (call.Cut fd len) = change_answered (table fd)
+begins_answered table id (call.Commit fd) = change_answered (table fd)
+begins_answered table id (call.Abort fd) = change_answered (table fd)
+begins_answered table id (call.Close fd) = close_answered (table fd)
+begins_answered table id _ = tt
+
+abbrev gives_as_well : Config → ℕ → ℕ → ℕ → ℕ → Call → Beginning → Reply → Users → Bool → Type 0
+gives_as_well c me boot process n words begins r u b =
+    asks_want (outside c me boot) (accepted process n words begins) (where_packed (is_packed (outside c me boot)) (cond b (Give (reply.No refusal.BadName)) (Give r))) u
+    ≡ asks_want (call_frame c me boot None) (accepted process n words begins) (where_packed (is_packed (call_frame c me boot None)) (cond b (Give (reply.No refusal.BadName)) (Give r))) u
+
+goes_outside : (c : Config) (me boot process n : ℕ) (words : Call) (b : Beginning) (u : Users) → IsAnswered b → goes_on (outside c me boot) (accepted process n words b) u ≡ goes_on (call_frame c me boot None) (accepted process n words b) u
+goes_outside c me boot process n words (Denied why) u h = elim (is_badly_named c.mounts words) as (gives_as_well c me boot process n words (Denied why) (reply.No why) u) [ true ↦ refl | false ↦ refl ]
+goes_outside c me boot process n words Frees u h = elim (is_badly_named c.mounts words) as (gives_as_well c me boot process n words Frees (reply.Closed None) u) [ true ↦ refl | false ↦ refl ]
+goes_outside c me boot process n words (Uses e inst) u h = absurd h
+goes_outside c me boot process n words (Walks id) u h = absurd h
+goes_outside c me boot process n words (Reopens version last) u h = absurd h
 
 pub call_outside : (c : Config) (me boot process : ℕ) (words : Call) (u : Users) → on_call (call_frame c me boot None) None process words u ≡ on_call (outside c me boot) None process words u
 call_outside c me boot process words u =
     let n : ℕ = u.calls + 1 in
     let told = tells (accept_record me boot process n words ∷ []) (frees process words (record u { calls = n })) in
-    ap (λ (o : Outcome Users). joined_to told o) (sym (goes_outside c me boot process n words (beginning (descriptors_of u process) None (own_call me boot n) words) (frees process words (record u { calls = n })) (begins_denied (descriptors_of u process) (own_call me boot n) words)))
+    ap (λ (o : Outcome Users). joined_to told o) (sym (goes_outside c me boot process n words (beginning (descriptors_of u process) None (own_call me boot n) words) (frees process words (record u { calls = n })) (begins_answered (descriptors_of u process) (own_call me boot n) words)))
 
 -- ---- a call in the frame of the site's epoch, or in that of no epoch ----
 

@@ -113,13 +113,13 @@ come_now c n (Shown (says.Grant at call number inst md file on place)) older few
     kept : kept_in c (entries (With n (Shown r) older)) e f ≡ kept_in c (entries older) e f
     kept = kept_by c (entries older) few (followed_rows c older h) e f started n r may.row tt tt
 
-    told : granted_answer md inst file (kept_in c (entries older) at file) ≡ answer.Merging i (kept_in c (entries older) e f)
-    told = ap (λ (m : Mode). granted_answer m inst file (kept_in c (entries older) at file)) p.mode_is
+    told : granted_answer md inst file on (kept_in c (entries older) at file) ≡ answer.Merging i (kept_in c (entries older) e f)
+    told = ap (λ (m : Mode). granted_answer m inst file on (kept_in c (entries older) at file)) p.mode_is
         ∙ (ap (λ (j : Serial). answer.Merging j (kept_in c (entries older) at file)) p.serial_is ∙ (ap (λ (z : EpochId). answer.Merging i (kept_in c (entries older) z file)) p.epoch_is ∙ ap (λ (g : FileId). answer.Merging i (kept_in c (entries older) e g)) p.file_is))
 
     waits : Waits c (With n (Shown r) older) d (answer.Merging i (kept_in c (entries (With n (Shown r) older)) e f))
-    waits = by_own call d (heard c older d ++ granted_answer md inst file (kept_in c (entries older) at file) ∷ []) (heard c older d) p.call_is
-        ∙ (ap (λ (xs : Answers). xs ++ granted_answer md inst file (kept_in c (entries older) at file) ∷ []) clear
+    waits = by_own call d (heard c older d ++ granted_answer md inst file on (kept_in c (entries older) at file) ∷ []) (heard c older d) p.call_is
+        ∙ (ap (λ (xs : Answers). xs ++ granted_answer md inst file on (kept_in c (entries older) at file) ∷ []) clear
         ∙ (ap (λ (a : Answer). log older d ++ a ∷ []) told ∙ ap (λ (ks : List Stamp). log older d ++ answer.Merging i ks ∷ []) (sym kept)))
 
     opens : Opens c (With n (Shown r) older) d

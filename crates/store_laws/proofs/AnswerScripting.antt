@@ -10,7 +10,9 @@ use Rattle.locus_ids.specs.declared.ids.FileId.{FileId}
 use Rattle.locus_ids.specs.declared.ids.Kind.{Kind}
 use Rattle.locus_ids.specs.declared.ids.Kind.TheVariants as kind
 use Rattle.locus_ids.specs.declared.ids.Serial.{Serial}
+use Rattle.locus_ids.specs.declared.refusal.Refusal.{Refusal}
 use Rattle.locus_ids.specs.declared.refusal.Refusal.TheVariants as refusal
+use Rattle.commit_graph.specs.Versions.{same_stamp}
 use Rattle.trace_book.specs.Names.{components}
 use Rattle.trace_book.specs.declared.call.Call.{Call}
 use Rattle.trace_book.specs.declared.call.Call.TheVariants as call
@@ -18,6 +20,7 @@ use Rattle.trace_book.specs.declared.call.OpenMode.{OpenMode}
 use Rattle.trace_book.specs.declared.descriptor.Beginning.{Beginning}
 use Rattle.trace_book.specs.declared.descriptor.Beginning.TheVariants as begins
 use Rattle.trace_book.specs.declared.descriptor.Descriptor.{Descriptor}
+use Rattle.trace_book.specs.declared.descriptor.OneVersion.{OneVersion}
 use Rattle.trace_book.specs.declared.operation.Op.{Op}
 use Rattle.trace_book.specs.declared.operation.Op.TheVariants as op
 use Rattle.trace_book.specs.declared.operation.What.{What}
@@ -28,7 +31,9 @@ use Rattle.call_rules.specs.declared.answer.Answer.TheVariants as answer
 use Rattle.call_rules.specs.declared.want.Want.{Want}
 use Rattle.call_rules.specs.declared.want.Want.TheVariants as want
 use Rattle.call_rules.specs.Descriptors.{beginning, begins_open, begins_walk, lowest_free}
+use Rattle.call_rules.specs.Closing.{Unchanged, give_up}
 use Rattle.call_rules.specs.Opening.{op_wants, opens_file, uses_wants}
+use Rattle.call_rules.specs.Reopening.{reads_again, reopens}
 use Rattle.call_rules.specs.Scripts.{begun_wants, wants, where_packed}
 use Rattle.call_rules.specs.Walks.{Asks, Fails, root_of, Strays, There, walk, Walked, walked}
 use Rattle.call_rules.specs.Words.{is_badly_named}
@@ -104,6 +109,8 @@ opens_no_op how free f kind.Dir ys = tt
 opens_no_op how free f kind.File [] = tt
 opens_no_op how (Some fd) f kind.File (answer.Opened i ino ∷ []) = tt
 opens_no_op how (Some fd) f kind.File (answer.Opened i ino ∷ (a ∷ xs)) = tt
+opens_no_op how (Some fd) f kind.File (answer.Reading i version ∷ []) = tt
+opens_no_op how (Some fd) f kind.File (answer.Reading i version ∷ (a ∷ xs)) = tt
 opens_no_op how (Some fd) f kind.File (answer.Refused why ∷ []) = tt
 opens_no_op how (Some fd) f kind.File (answer.Refused why ∷ (a ∷ xs)) = tt
 opens_no_op how (Some fd) f kind.File (_ ∷ xs) = tt
@@ -118,6 +125,8 @@ opener_no_op c t d w path how named words = asked_so AsksNoOp (λ r. tt) tt c t 
     over : (b : Beginning) → AsksNoOp (begun_wants c.mounts None (call.Open path how) b (log t d))
     over (begins.Denied why) = tt
     over (begins.Uses e i) = tt
+    over (begins.Reopens kept last) = tt
+    over begins.Frees = tt
     over (begins.Walks id) = walked_so AsksNoOp (λ r. tt) tt (λ f v. tt) c.mounts (components path) (log t d) (opens_file how None) (λ f k ys. opens_no_op how None f k ys)
 
 op_no_more : (i : Serial) (o : Op) (a : Answer) (xs : List Answer) → AsksNoOp (op_wants i o (a ∷ xs))
@@ -177,3 +186,46 @@ use_asks mounts pk table now id (call.Stat path) e i k plain = absurd (walks_use
 use_asks mounts pk table now id (call.Mail path bytes) e i k plain = absurd (walks_use id now e i k)
 use_asks mounts pk table now id (call.Mails path) e i k plain = absurd (walks_use id now e i k)
 use_asks mounts pk table now id (call.Mend file) e i k plain = absurd (walks_use id now e i k)
+
+-- ---- a read that opens a version again asks one operation, once it has its instance ----
+
+give_up_no_op : (i : Serial) (why : Refusal) (xs : List Answer) → AsksNoOp (give_up (Unchanged i ∷ []) why xs)
+give_up_no_op i why [] = tt
+give_up_no_op i why (answer.Ended stamp ∷ []) = tt
+give_up_no_op i why (answer.Ended stamp ∷ (a ∷ xs)) = tt
+give_up_no_op i why (answer.Refused reason ∷ []) = tt
+give_up_no_op i why (answer.Refused reason ∷ (a ∷ xs)) = tt
+give_up_no_op i why (_ ∷ xs) = tt
+
+read_no_more : (i : Serial) (at len : ℕ) (a : Answer) (xs : List Answer) → AsksNoOp (reads_again i at len (a ∷ xs))
+read_no_more i at len (answer.Did result) [] = tt
+read_no_more i at len (answer.Did result) (a ∷ xs) = tt
+read_no_more i at len (answer.Refused why) xs = give_up_no_op i why xs
+read_no_more i at len _ xs = tt
+
+module _ (c : Config) (t : List Line) (d : CallId) (w : Waiting) (fd at len : ℕ) (kept : OneVersion) (last : EpochId) (named : call_named (entries t) d ≡ Some w) (words : w.words ≡ call.Read fd at len) (starts : begun (entries t) d ≡ Some (begins.Reopens kept last)) where
+  again_so : (P : Want → Type 0) → ((r : Reply) → P (want.Give r)) → P want.Never → P (reopens kept last at len (log t d)) → P (asked_now c t d)
+  again_so P gives never k = asked_so P gives never c t d (λ v b called began. subst (λ (z : Waiting). P (begun_wants c.mounts None z.words b (log t d))) (some_same w v (sym named ∙ called))
+      (subst (λ (y : Call). P (begun_wants c.mounts None y b (log t d))) (sym words) (subst (λ (z : Beginning). P (begun_wants c.mounts None (call.Read fd at len) z (log t d))) (some_same (begins.Reopens kept last) b (sym starts ∙ began)) k)))
+
+  -- before it has it, it asks none
+  pub first_no_op : log t d ≡ [] → AsksNoOp (asked_now c t d)
+  first_no_op e = again_so AsksNoOp (λ r. tt) tt (subst (λ (xs : List Answer). AsksNoOp (reopens kept last at len xs)) (sym e) tt)
+
+  -- and none after another answer
+  pub later_no_op : (i : Serial) (version : OneVersion) (a : Answer) (xs : List Answer) → log t d ≡ answer.Reading i version ∷ (a ∷ xs) → AsksNoOp (asked_now c t d)
+  later_no_op i version a xs e = again_so AsksNoOp (λ r. tt) tt (subst (λ (ys : List Answer). AsksNoOp (reopens kept last at len ys)) (sym e) (over (same_stamp version.stamp kept.stamp)))
+    where
+      over : (b : Bool) → AsksNoOp (cond b (reads_again i at len (a ∷ xs)) (give_up (Unchanged i ∷ []) (refusal.Stale last) (a ∷ xs)))
+      over true = read_no_more i at len a xs
+      over false = give_up_no_op i (refusal.Stale last) (a ∷ xs)
+
+  -- of what it has it asks one at once, where the version is the kept one
+  pub again_asks : (i : Serial) (version : OneVersion) → log t d ≡ answer.Reading i version ∷ [] → same_stamp version.stamp kept.stamp ≡ true → is_op_on i (asked_now c t d) ≡ true
+  again_asks i version e same = ap (is_op_on i) (script_is c t d w (begins.Reopens kept last) None (log t d) named starts) ∙ (ap (λ (xs : List Answer). is_op_on i (wants c.mounts (is_packed_in c (entries t) w.epoch) None w.words (begins.Reopens kept last) xs)) e
+      ∙ (ap (λ (y : Call). is_op_on i (wants c.mounts (is_packed_in c (entries t) w.epoch) None y (begins.Reopens kept last) (answer.Reading i version ∷ []))) words
+      ∙ over (same_stamp version.stamp kept.stamp) same))
+    where
+      over : (b : Bool) → b ≡ true → is_op_on i (where_packed (is_packed_in c (entries t) w.epoch) (cond b (want.Do i (op.Read at len)) (want.Close i))) ≡ true
+      over true k = same_serial_own i
+      over false k = absurd (true_false (sym k))

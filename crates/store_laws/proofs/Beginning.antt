@@ -54,6 +54,7 @@ use Rattle.sync_laws.specs.of_order_laws.Joining.{PacksAreOfSites}
 use Rattle.store_laws.specs.Rests.{AllStays, IsAsGranted, IsUnbegun, StoreRests}
 use Rattle.store_laws.proofs.Begun.{granted_named, named_of}
 use Rattle.store_laws.proofs.Places.{plain_place}
+use Rattle.user_laws.proofs.OpenGrants.{only_some}
 use Rattle.store_laws.proofs.Staying.{instance_more}
 use Rattle.store_laws.proofs.Tabled.{apart_latest, every_latest, latest_has, latest_same}
 
@@ -85,12 +86,6 @@ shut_begun c (x ∷ older) h s e i (inl k) = now x.told h.0 k
 none_is : {A : Type 0} (o : Option A) → is_none o ≡ true → o ≡ None
 none_is None e = refl
 none_is (Some x) e = absurd (true_false (sym e))
-
-only_some : (ks : List Stamp) (stamp : Option Stamp) → is_only ks stamp ≡ true → (v : Stamp) × (stamp ≡ Some v)
-only_some ks (Some v) e = (v, refl)
-only_some [] None e = absurd (true_false (sym e))
-only_some (a ∷ []) None e = absurd (true_false (sym e))
-only_some (a ∷ b ∷ others) None e = absurd (true_false (sym e))
 
 same_some : (o stamp : Option Stamp) (v : Stamp) → o ≡ Some v → same_version o stamp ≡ true → (w : Stamp) × (stamp ≡ Some w)
 same_some o (Some w) v e k = (w, refl)

@@ -40,7 +40,10 @@ pub mod ScriptNaming
 pub mod ScriptFree
 pub mod ScriptReplies
 pub mod ScriptLasting
+pub mod ScriptReopening
+pub mod ScriptVersions
 pub mod ScriptOpened
+pub mod ScriptReading
 pub mod ScriptUntouched
 pub mod AnswerAskers
 pub mod AnswerScripting
@@ -49,6 +52,9 @@ pub mod AnswerRemovers
 pub mod AnswerAnswering
 pub mod AnswerUnasked
 pub mod AnswerMending
+pub mod AnswerNaming
+pub mod AnswerCounting
+pub mod AnswerCounted
 pub mod AnswerOwning
 pub mod StorageResting
 pub use Rattle.sync_laws.proofs as of_sync_laws

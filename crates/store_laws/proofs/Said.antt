@@ -18,11 +18,13 @@ use Rattle.trace_book.specs.declared.descriptor.Beginning.TheVariants as begins
 use Rattle.trace_book.specs.declared.call.OpenMode.{OpenMode}
 use Rattle.trace_book.specs.declared.call.OpenMode.TheVariants as opens
 use Rattle.trace_book.specs.declared.operation.Op.{Op}
+use Rattle.trace_book.specs.declared.descriptor.OneVersion.{OneVersion}
 use Rattle.trace_book.specs.declared.operation.Op.TheVariants as op
 use Rattle.trace_book.specs.declared.operation.Outcome.TheVariants as outcome
 use Rattle.trace_book.specs.declared.operation.What.{What}
 use Rattle.trace_book.specs.declared.reply.Reply.{Reply}
 use Rattle.trace_book.specs.declared.reply.Reply.TheVariants as reply
+use Rattle.commit_graph.specs.Versions.{same_stamp}
 use Rattle.locus_ids.specs.declared.refusal.Refusal.TheVariants as refusal
 use Rattle.call_rules.specs.Mailing.{shown_messages}
 use Rattle.call_rules.specs.declared.answer.Answer.{Answer}
@@ -36,6 +38,7 @@ use Rattle.call_rules.specs.Mending.{after_mend, brings, mend_wants}
 use Rattle.call_rules.specs.Naming.{renames}
 use Rattle.call_rules.specs.Opening.{opens_file, op_wants, close_wants, uses_wants, lists, describes, Shows, shown_in}
 use Rattle.trace_book.specs.Names.{components}
+use Rattle.call_rules.specs.Reopening.{reads_again, reopened, reopen_wants}
 use Rattle.call_rules.specs.Removing.{removes, empties, opens_target, by_kind, finds}
 use Rattle.call_rules.specs.Scripts.{path_wants, begun_wants, named_wants, where_packed, wants}
 use Rattle.call_rules.specs.Walks.{Walked, Asks as AsksFor, Fails, There, Strays, walk, walked, root_of}
@@ -219,6 +222,7 @@ module _ (P : Want → Type 0) (looking : (f : FileId) (w : What) → P (want.Lo
   opens_file_so m free f kind.Dir xs = giving _
   opens_file_so m free f kind.File [] = opening f m
   opens_file_so m (Some fd) f kind.File (answer.Opened i ino ∷ []) = giving _
+  opens_file_so m (Some fd) f kind.File (answer.Reading i version ∷ []) = giving _
   opens_file_so m None f kind.File (answer.Refused why ∷ []) = giving _
   opens_file_so m (Some fd) f kind.File (answer.Refused why ∷ []) = giving _
   opens_file_so m None f kind.File (_ ∷ rest) = never
@@ -268,10 +272,32 @@ module _ (P : Want → Type 0) (looking : (f : FileId) (w : What) → P (want.Lo
   path_so mounts free id (call.Mend f) creates dirs mails xs = mend_so f xs
   path_so mounts free id _ creates dirs mails xs = never
 
+  reads_again_so : (i : Serial) (at len : ℕ) (xs : List Answer) → P (reads_again i at len xs)
+  reads_again_so i at len [] = doing i _
+  reads_again_so i at len (answer.Did result ∷ []) = giving _
+  reads_again_so i at len (answer.Refused why ∷ rest) = give_up_so (Unchanged i ∷ []) why rest
+  reads_again_so i at len (_ ∷ rest) = never
+
+  reopened_so : (kept : OneVersion) (last : EpochId) (at len : ℕ) (i : Serial) (granted : OneVersion) (xs : List Answer) → P (reopened kept last at len i granted xs)
+  reopened_so kept last at len i granted xs = over (same_stamp granted.stamp kept.stamp)
+    where
+      over : (b : Bool) → P (cond b (reads_again i at len xs) (give_up (Unchanged i ∷ []) (refusal.Stale last) xs))
+      over true = reads_again_so i at len xs
+      over false = give_up_so (Unchanged i ∷ []) (refusal.Stale last) xs
+
+  reopen_so : (words : Call) (kept : OneVersion) (last : EpochId) (xs : List Answer) → P (reopen_wants words kept last xs)
+  reopen_so (call.Read fd at len) kept last [] = opening kept.file _
+  reopen_so (call.Read fd at len) kept last (answer.Reading i granted ∷ rest) = reopened_so kept last at len i granted rest
+  reopen_so (call.Read fd at len) kept last (answer.Refused why ∷ []) = giving _
+  reopen_so (call.Read fd at len) kept last (_ ∷ rest) = never
+  reopen_so _ kept last xs = never
+
   begun_so : (mounts : List Mount) (free : Option ℕ) (words : Call) → ((id : CallId) (xs : List Answer) → P (path_wants mounts free id words xs)) → (b : Beginning) (xs : List Answer) → P (begun_wants mounts free words b xs)
   begun_so mounts free words h (begins.Denied why) xs = giving _
   begun_so mounts free words h (begins.Uses e i) xs = uses_so words i xs
   begun_so mounts free words h (begins.Walks id) xs = h id xs
+  begun_so mounts free words h (begins.Reopens kept last) xs = reopen_so words kept last xs
+  begun_so mounts free words h begins.Frees xs = giving _
 
   named_so : (mounts : List Mount) (free : Option ℕ) (words : Call) (b : Beginning) (xs : List Answer) → P (begun_wants mounts free words b xs) → P (named_wants mounts free words b xs)
   named_so mounts free words b xs h = over (is_badly_named mounts words)
@@ -348,6 +374,7 @@ asked_as_said c trace e d request serial f set k a = over a.wanted a.opening_is 
     not_open opens.Read e = cc
     not_open opens.Write e = cc
     not_open (opens.Resolve site) e = cc
+    not_open opens.Steady e = cc
 
     over : (w : Want) → IsOpening c w f (how.Make set k) → script c (entries trace) d None (log trace d) ≡ w → (set ≡ sites_made (packs_of c f.group) (words_named (entries trace) (Some d))) × (k ≡ kind_made (words_named (entries trace) (Some d)))
     over (want.Make group j sites) is e = (let s : (words : Call) × (words_named (entries trace) (Some d) ≡ Some words) × SaidSo c words (want.Make group j sites) = said_so c (entries trace) d None (log trace d) (call_named (entries trace) d) (begun (entries trace) d) (want.Make group j sites) e group j sites refl in (

@@ -167,6 +167,8 @@ zero_free (begins.Walks id) (call.Open path m) = (0, refl)
 zero_free (begins.Walks id) words = tt
 zero_free (begins.Denied why) words = tt
 zero_free (begins.Uses e i) words = tt
+zero_free (begins.Reopens kept last) words = tt
+zero_free begins.Frees words = tt
 
 -- what a call asks, it asks rightly
 pub asked_sound : (c : Config) (t : List Line) (d : CallId) (w : Waiting) → IsFollowed c t → call_named (entries t) d ≡ Some w → is_request (asked_now c t d) ≡ true → IsSound w.words (Some 0) (asked_now c t d)

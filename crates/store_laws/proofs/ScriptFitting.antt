@@ -1,5 +1,5 @@
 -- Which answers fit a request, and what a script may want where each answer has fitted its request.
-use Rattle.std.specs.Prelude.{ℕ, ◌≡◌, ◌≤◌, List, [], ◌∷◌, Option, Some}
+use Rattle.std.specs.Prelude.{ℕ, ◌≡◌, ◌⊎◌, ◌≤◌, List, [], ◌∷◌, Option, Some}
 use Rattle.locus_ids.specs.declared.refusal.Refusal.{Refusal}
 use Rattle.locus_ids.specs.declared.refusal.Refusal.TheVariants as refusal
 use Rattle.trace_book.specs.declared.call.Call.{Call}
@@ -42,10 +42,27 @@ LookFits what.Stat (answer.Described kind size stamp) = Unit {0}
 LookFits (what.Whole stamp) answer.Brought = Unit {0}
 LookFits _ _ = ⊥
 
-abbrev pub OpenFits : Answer → Type 0
-OpenFits (answer.Refused why) = NotChanged why
-OpenFits (answer.Opened i ino) = Unit {0}
-OpenFits _ = ⊥
+-- an open to read is told its version, another one the number of its file
+abbrev pub IsToRead : OpenMode → Type 0
+IsToRead opens.Read = Unit {0}
+IsToRead opens.Steady = Unit {0}
+IsToRead _ = ⊥
+
+abbrev pub IsToChange : OpenMode → Type 0
+IsToChange opens.Write = Unit {0}
+IsToChange (opens.Resolve site) = Unit {0}
+IsToChange _ = ⊥
+
+abbrev pub OpenFits : Answer → OpenMode → Type 0
+OpenFits (answer.Refused why) m = NotChanged why
+OpenFits (answer.Reading i version) m = IsToRead m
+OpenFits (answer.Opened i ino) m = IsToChange m
+OpenFits _ m = ⊥
+
+abbrev pub MakeFits : Answer → Type 0
+MakeFits (answer.Refused why) = NotChanged why
+MakeFits (answer.Opened i ino) = Unit {0}
+MakeFits _ = ⊥
 
 abbrev pub MendFits : Answer → Type 0
 MendFits (answer.Refused why) = NotChanged why
@@ -65,9 +82,9 @@ CloseFits _ = ⊥
 -- the answer is of the sort that the request gets
 abbrev pub Fits : Want → Answer → Type 0
 Fits (want.Look f w) a = LookFits w a
-Fits (want.Open f m) a = OpenFits a
+Fits (want.Open f m) a = OpenFits a m
 Fits (want.OpenToMend f) a = MendFits a
-Fits (want.Make group kind sites) a = OpenFits a
+Fits (want.Make group kind sites) a = MakeFits a
 Fits (want.Do i o) a = DoFits o a
 Fits (want.Close i) a = CloseFits a
 Fits (want.Give r) a = ⊥
@@ -80,20 +97,37 @@ abbrev pub OpensAs : Call → OpenMode → Type 0
 OpensAs words (opens.Resolve site) = site_named (Some words) ≡ Some site
 OpensAs words _ = Unit {0}
 
+-- the call reads
+abbrev pub ReadWords : Call → Type 0
+ReadWords (call.Read fd at len) = Unit {0}
+ReadWords _ = ⊥
+
+-- the call is on a descriptor
+abbrev pub UsesWords : Call → Type 0
+UsesWords (call.Read fd at len) = Unit {0}
+UsesWords (call.Write fd at bytes) = Unit {0}
+UsesWords (call.Cut fd len) = Unit {0}
+UsesWords (call.Commit fd) = Unit {0}
+UsesWords (call.Abort fd) = Unit {0}
+UsesWords (call.Close fd) = Unit {0}
+UsesWords _ = ⊥
+
 -- the call opens
 abbrev pub OpensWords : Call → Type 0
 OpensWords (call.Open path m) = Unit {0}
 OpensWords _ = ⊥
 
--- the reply doesn't say that the epoch was left, and has no descriptor but the free one, of an open
+-- the reply doesn't say that the epoch was left, has no descriptor but the free one, of an open, and has bytes for calls on descriptors alone
 abbrev pub GivesRight : Call → Option ℕ → Reply → Type 0
 GivesRight words free (reply.No why) = NotChanged why
 GivesRight words free (reply.Opened fd) = (free ≡ Some fd) × OpensWords words
+GivesRight words free (reply.Data bytes) = UsesWords words
 GivesRight words free _ = Unit {0}
 
--- a call with these words wants this rightly, where this is the free descriptor of its process
+-- a call with these words wants this rightly, where this is the free descriptor of its process: what it opens has a number, or a read opens
+-- what its descriptor keeps
 abbrev pub IsSound : Call → Option ℕ → Want → Type 0
-IsSound words free (want.Open f m) = (1 ≤ f.ino) × OpensAs words m
+IsSound words free (want.Open f m) = ((1 ≤ f.ino) × OpensAs words m) ⊎ (ReadWords words × (m ≡ opens.Read))
 IsSound words free (want.OpenToMend f) = words ≡ call.Mend f
 IsSound words free (want.Give r) = GivesRight words free r
 IsSound words free want.Never = ⊥

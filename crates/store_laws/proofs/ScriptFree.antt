@@ -23,12 +23,12 @@ use Rattle.role_steps.specs.Views.{Told, Shown}
 use Rattle.the_run.specs.Kept.{Among}
 use Rattle.the_run.specs.Worlds.{Line}
 use Rattle.tree_model.specs.declared.accepted.Waiting.{Waiting}
-use Rattle.tree_model.specs.Calls.{accepted_as, call_named, is_of, opening_of, waiting, waiting_of}
+use Rattle.tree_model.specs.Calls.{accepted_as, call_named, is_of, opening_of, waiting, waiting_of, version_of}
 use Rattle.tree_model.specs.Epochs.{epoch_of}
 use Rattle.tree_model.specs.Folds.{Trace}
 use Rattle.lawful_trace.specs.CallRows.{CallRow, is_this}
-use Rattle.lawful_trace.specs.Tables.{begins_now, begun, closed_by, descriptor, opened_by}
-use Rattle.tree_laws.specs.Following.{AnswersInTime, IsFollowed, MayTell, RepliesOpened}
+use Rattle.lawful_trace.specs.Tables.{begins_now, begun, closed_by, descriptor, opened_by, held_again, kept_by, opened_as, reads_by}
+use Rattle.tree_laws.specs.Following.{AnswersInTime, IsFollowed, MayTell, RepliesNaming}
 use Rattle.tree_laws.specs.Printed.{entries, onto_entries}
 use Rattle.tree_laws.proofs.Boots.{every_passes, found_every}
 use Rattle.tree_laws.proofs.Descriptors.{IsPlain}
@@ -37,6 +37,7 @@ use Rattle.tree_laws.proofs.Names.{same_call_eq, same_call_own}
 use Rattle.tree_laws.proofs.Scripts.{begun_stays}
 use Rattle.tree_laws.proofs.Waiting.{accepted, found_among}
 use Rattle.store_laws.proofs.ScriptNaming.{Opens, named_opens}
+use Rattle.std.specs.Option.{option_map}
 
 parts : (a b c : Bool) → (a && b && c) ≡ true → (a ≡ true) × ((b ≡ true) × (c ≡ true))
 parts true true true t = (refl, (refl, refl))
@@ -44,7 +45,7 @@ parts true true false t = absurd (true_false (sym t))
 parts true false c t = absurd (true_false (sym t))
 parts false b c t = absurd (true_false (sym t))
 
-among_back : {A : Type 0} (p : A → Bool) (x : A) (xs : List A) → Among x (filter p xs) → Among x xs
+pub among_back : {A : Type 0} (p : A → Bool) (x : A) (xs : List A) → Among x (filter p xs) → Among x xs
 among_back p x [] h = h
 among_back {A} p x (y ∷ ys) h = at (λ (k : Among x (filter p ys)). among_back p x ys k) (p y) h
   where
@@ -53,7 +54,7 @@ among_back {A} p x (y ∷ ys) h = at (λ (k : Among x (filter p ys)). among_back
     at later true (inr k) = inr (later k)
     at later false k = inr (later k)
 
-among_passes : {A : Type 0} (p : A → Bool) (x : A) (xs : List A) → Among x (filter p xs) → p x ≡ true
+pub among_passes : {A : Type 0} (p : A → Bool) (x : A) (xs : List A) → Among x (filter p xs) → p x ≡ true
 among_passes p x xs h = every_among (λ y. p y ≡ true) x (filter p xs) (every_passes (λ y. p y ≡ true) p (λ y e. e) xs) h
 
 -- ---- a process waits for one call, but for mends ----
@@ -92,7 +93,7 @@ alone_told : (c : Config) (n : ℕ) (x : Told) (older : List Line) → MayTell c
 alone_told c n (Shown r) older may k = alone_record c n r older may k
 alone_told c n _ older may k = k
 
-all_alone : (c : Config) (t : List Line) → IsFollowed c t → AllAlone (entries t)
+pub all_alone : (c : Config) (t : List Line) → IsFollowed c t → AllAlone (entries t)
 all_alone c [] h = λ w v p. absurd p
 all_alone c (x ∷ older) h = alone_told c x.number x.told older h.0 (all_alone c older h.1)
 
@@ -194,23 +195,32 @@ module _ (c : Config) (n : ℕ) (older : List Line) (h : IsFollowed c older) (k 
       is = parts (caller.site == s) (caller.process == process) (same_call caller.call d) found.1
 
       -- the open is the process's only call
-      one : (x : Descriptor) → RepliesOpened c older d → opening_of (entries older) d ≡ Some x → (s == w.site) ≡ true → (process == w.process) ≡ true → ⊥
-      one x replies opening p q = other (all_alone c older h w caller old (found_among (is_this s process d) (waiting (entries older)) caller may.row.waits) (plain_open w.words opens)
-          (plain_open caller.words (named_opens c older d x caller h replies opening (subst (λ (z : CallId). call_named (entries older) z ≡ Some caller) (same_call_eq caller.call d is.1.1) found.0)))
+      one : (m : ℕ) (x : Descriptor) → RepliesNaming c older d (reply.Opened m) → opening_of (entries older) d ≡ Some x → (s == w.site) ≡ true → (process == w.process) ≡ true → ⊥
+      one m x replies opening p q = other (all_alone c older h w caller old (found_among (is_this s process d) (waiting (entries older)) caller may.row.waits) (plain_open w.words opens)
+          (plain_open caller.words (named_opens c older d x m caller h replies opening (subst (λ (z : CallId). call_named (entries older) z ≡ Some caller) (same_call_eq caller.call d is.1.1) found.0)))
           (sym (equal caller.site s is.0 ∙ equal s w.site p)) (sym (equal caller.process process is.1.0 ∙ equal process w.process q)) ∙ same_call_eq caller.call d is.1.1)
 
-      opened : (y : Reply) (fd : ℕ) → AnswersInTime c older d y → (s == w.site) ≡ true → (process == w.process) ≡ true → (cell : Option Descriptor) → cell ≡ None → opened_by y fd (opening_of (entries older) d) cell ≡ None
-      opened (reply.Opened m) fd t p q cell e = cell_none (m == fd) (opening_of (entries older) d) cell (none (opening_of (entries older) d) refl) e
+      opened : (y : Reply) (fd : ℕ) → AnswersInTime c older d y → (s == w.site) ≡ true → (process == w.process) ≡ true → (cell : Option Descriptor) → cell ≡ None → opened_by y (entries older) d fd cell ≡ None
+      opened (reply.Opened m) fd t p q cell e = cell_none (m == fd) (opened_as (entries older) d) cell (ap (option_map (λ (y : Descriptor). record y { steady = kept_by (call_named (entries older) d) (version_of (entries older) d) })) (none (opening_of (entries older) d) refl)) e
         where
           none : (o : Option Descriptor) → opening_of (entries older) d ≡ o → opening_of (entries older) d ≡ None
           none None z = z
-          none (Some x) z = absurd (one x t z p q)
+          none (Some x) z = absurd (one m x t z p q)
+      opened (reply.Data bytes) fd t p q cell e = over (reads_by (call_named (entries older) d) fd)
+        where
+          again : (o : Option Descriptor) → held_again o cell ≡ None
+          again None = e
+          again (Some x) = ap (option_map (λ (y : Descriptor). record x { steady = y.steady })) e
+
+          over : (b : Bool) → cond b (held_again (opening_of (entries older) d) cell) cell ≡ None
+          over true = again (opening_of (entries older) d)
+          over false = e
       opened y fd t p q cell e = e
 
       table : Freer (descriptor (entries older) w.site w.process) (descriptor (record { line = n; what = says.Answer s process d r } ∷ entries older) w.site w.process)
       table fd e = at (s == w.site) (process == w.process) refl refl
         where
-          at : (a b : Bool) → (s == w.site) ≡ a → (process == w.process) ≡ b → cond (a && b) (opened_by r fd (opening_of (entries older) d) (descriptor (entries older) w.site w.process fd)) (descriptor (entries older) w.site w.process fd) ≡ None
+          at : (a b : Bool) → (s == w.site) ≡ a → (process == w.process) ≡ b → cond (a && b) (opened_by r (entries older) d fd (descriptor (entries older) w.site w.process fd)) (descriptor (entries older) w.site w.process fd) ≡ None
           at true true p q = opened r fd may.in_time p q (descriptor (entries older) w.site w.process fd) e
           at true false p q = e
           at false b p q = e

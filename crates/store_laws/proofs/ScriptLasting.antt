@@ -14,6 +14,7 @@ use Rattle.trace_book.specs.declared.call.OpenMode.{OpenMode}
 use Rattle.trace_book.specs.declared.call.Call.TheVariants as call
 use Rattle.trace_book.specs.declared.descriptor.Beginning.TheVariants as begins
 use Rattle.trace_book.specs.declared.descriptor.Descriptor.{Descriptor}
+use Rattle.trace_book.specs.declared.reply.Reply.{Reply}
 use Rattle.trace_book.specs.declared.reply.Reply.TheVariants as reply
 use Rattle.call_rules.specs.declared.answer.Answer.{Answer}
 use Rattle.call_rules.specs.declared.answer.Answer.TheVariants as answer
@@ -31,14 +32,21 @@ use Rattle.store_laws.proofs.ScriptSoundCalls.{goes, goes_walked}
 
 -- ---- the last answer opens ----
 
+-- an open of a file is answered by this instance
+abbrev pub OpensFile : Answer → Serial → Type 0
+OpensFile (answer.Opened inst ino) i = inst ≡ i
+OpensFile (answer.Reading inst version) i = inst ≡ i
+OpensFile _ i = ⊥
+
 pub record EndsOpen (xs : Answers) : Type 0 where
   pub before : Answers
   pub inst : Serial
-  pub ino : ℕ
-  pub is : xs ≡ before ++ answer.Opened inst ino ∷ []
+  pub last : Answer
+  pub opens : OpensFile last inst
+  pub is : xs ≡ before ++ last ∷ []
 
 more_open : (a : Answer) (xs : Answers) → EndsOpen xs → EndsOpen (a ∷ xs)
-more_open a xs k = record { before = a ∷ k.before; inst = k.inst; ino = k.ino; is = ap (λ (ys : Answers). a ∷ ys) k.is }
+more_open a xs k = record { before = a ∷ k.before; inst = k.inst; last = k.last; opens = k.opens; is = ap (λ (ys : Answers). a ∷ ys) k.is }
 
 -- no reply with a descriptor
 abbrev pub NotOpened : Want → Type 0
@@ -52,7 +60,10 @@ LastOpens k xs = (fd : ℕ) → k xs ≡ want.Give (reply.Opened fd) → EndsOpe
 file_last : (m : OpenMode) (free : Option ℕ) (f : FileId) (k : Kind) (xs : Answers) → LastOpens (opens_file m free f k) xs
 file_last m free f kind.Dir xs fd e = absurd (subst NotOpened e tt)
 file_last m free f kind.File [] fd e = absurd (subst NotOpened e tt)
-file_last m free f kind.File (answer.Opened i ino ∷ []) fd e = record { before = []; inst = i; ino = ino; is = refl }
+file_last m free f kind.File (answer.Opened i ino ∷ []) fd e = record { before = []; inst = i; last = answer.Opened i ino; opens = refl; is = refl }
+file_last m free f kind.File (answer.Reading i version ∷ []) fd e = record { before = []; inst = i; last = answer.Reading i version; opens = refl; is = refl }
+file_last m None f kind.File (answer.Reading i version ∷ (a ∷ rest)) fd e = absurd (subst NotOpened e tt)
+file_last m (Some n) f kind.File (answer.Reading i version ∷ (a ∷ rest)) fd e = absurd (subst NotOpened e tt)
 file_last m None f kind.File (answer.Opened i ino ∷ (a ∷ rest)) fd e = absurd (subst NotOpened e tt)
 file_last m (Some n) f kind.File (answer.Opened i ino ∷ (a ∷ rest)) fd e = absurd (subst NotOpened e tt)
 file_last m None f kind.File (answer.Refused why ∷ []) fd e = absurd (subst NotOpened e tt)
@@ -74,26 +85,27 @@ walk_last mounts (name ∷ path) reached at kind.Dir after h xs = over (λ next 
     over further None (answer.Refused why ∷ ys) = λ fd e. absurd (subst NotOpened e tt)
     over further None (a ∷ ys) = λ fd e. absurd (subst NotOpened e tt)
 
-given_packed : (pk : ℕ → Bool) (w : Want) (fd : ℕ) → where_packed pk w ≡ want.Give (reply.Opened fd) → w ≡ want.Give (reply.Opened fd)
-given_packed pk w fd e = over w e
+-- what is given but for want of storage is given by the script
+pub given_packed : (pk : ℕ → Bool) (w : Want) (r : Reply) → (want.Give (reply.No refusal.NoStorage) ≡ want.Give r → ⊥) → where_packed pk w ≡ want.Give r → w ≡ want.Give r
+given_packed pk w r other e = over w e
   where
-    by_test : (x : Bool) (y : Want) → cond x y (want.Give (reply.No refusal.NoStorage)) ≡ want.Give (reply.Opened fd) → y ≡ want.Give (reply.Opened fd)
+    by_test : (x : Bool) (y : Want) → cond x y (want.Give (reply.No refusal.NoStorage)) ≡ want.Give r → y ≡ want.Give r
     by_test true y k = k
-    by_test false y k = absurd (subst NotOpened k tt)
+    by_test false y k = absurd (other k)
 
-    over : (y : Want) → where_packed pk y ≡ want.Give (reply.Opened fd) → y ≡ want.Give (reply.Opened fd)
+    over : (y : Want) → where_packed pk y ≡ want.Give r → y ≡ want.Give r
     over (want.Look f w) k = by_test (pk f.group) (want.Look f w) k
     over (want.Open f m) k = by_test (pk f.group) (want.Open f m) k
     over (want.OpenToMend f) k = by_test (pk f.group) (want.OpenToMend f) k
     over (want.Make g kind sites) k = by_test (pk g) (want.Make g kind sites) k
     over (want.Do i o) k = k
     over (want.Close i) k = k
-    over (want.Give r) k = k
+    over (want.Give y) k = k
     over want.Never k = k
 
 -- an open that gives a descriptor was answered last by its instance
 pub gives_last : (mounts : List Mount) (pk : ℕ → Bool) (free : Option ℕ) (id : CallId) (path : List ℕ) (m : OpenMode) (xs : Answers) (fd : ℕ) → wants mounts pk free (call.Open path m) (begins.Walks id) xs ≡ want.Give (reply.Opened fd) → EndsOpen xs
-gives_last mounts pk free id path m xs fd e = over (is_badly_named mounts (call.Open path m)) (given_packed pk (named_wants mounts free (call.Open path m) (begins.Walks id) xs) fd e)
+gives_last mounts pk free id path m xs fd e = over (is_badly_named mounts (call.Open path m)) (given_packed pk (named_wants mounts free (call.Open path m) (begins.Walks id) xs) (reply.Opened fd) (λ k. subst NotOpened k tt) e)
   where
     over : (b : Bool) → cond b (want.Give (reply.No refusal.BadName)) (path_wants mounts free id (call.Open path m) xs) ≡ want.Give (reply.Opened fd) → EndsOpen xs
     over true k = absurd (subst NotOpened k tt)
@@ -104,27 +116,36 @@ gives_last mounts pk free id path m xs fd e = over (is_badly_named mounts (call.
 -- the descriptor that stands for what was opened last
 abbrev pub opened_from : Option Descriptor → Mode → EpochId → Answers → Option Descriptor
 opened_from o m e [] = o
-opened_from o m e (answer.Opened inst ino ∷ rest) = opened_from (Some (record { mode = m; epoch = e; inst = inst })) m e rest
+opened_from o m e (answer.Opened inst ino ∷ rest) = opened_from (Some (record { mode = m; epoch = e; inst = inst; steady = None })) m e rest
+opened_from o m e (answer.Reading inst version ∷ rest) = opened_from (Some (record { mode = m; epoch = e; inst = inst; steady = None })) m e rest
 opened_from o m e (_ ∷ rest) = opened_from o m e rest
 
-pub opened_more : (o : Option Descriptor) (m : Mode) (e : EpochId) (xs : Answers) (i : Serial) (ino : ℕ) → opened_from o m e (xs ++ answer.Opened i ino ∷ []) ≡ Some (record { mode = m; epoch = e; inst = i })
-opened_more o m e [] i ino = refl
-opened_more o m e (answer.Opened inst n ∷ rest) i ino = opened_more (Some (record { mode = m; epoch = e; inst = inst })) m e rest i ino
-opened_more o m e (a ∷ rest) i ino = opened_more o m e rest i ino
+pub opened_more : (o : Option Descriptor) (m : Mode) (e : EpochId) (xs : Answers) (a : Answer) (i : Serial) → OpensFile a i → opened_from o m e (xs ++ a ∷ []) ≡ Some (record { mode = m; epoch = e; inst = i; steady = None })
+opened_more o m e [] (answer.Opened inst ino) i is = ap (λ (j : Serial). Some (record { mode = m; epoch = e; inst = j; steady = None })) is
+opened_more o m e [] (answer.Reading inst version) i is = ap (λ (j : Serial). Some (record { mode = m; epoch = e; inst = j; steady = None })) is
+opened_more o m e [] _ i is = absurd is
+opened_more o m e (answer.Opened inst n ∷ rest) a i is = opened_more (Some (record { mode = m; epoch = e; inst = inst; steady = None })) m e rest a i is
+opened_more o m e (answer.Reading inst version ∷ rest) a i is = opened_more (Some (record { mode = m; epoch = e; inst = inst; steady = None })) m e rest a i is
+opened_more o m e (x ∷ rest) a i is = opened_more o m e rest a i is
 
 pub opened_same : (o : Option Descriptor) (m : Mode) (e : EpochId) (xs : Answers) (a : Answer) → ((i : Serial) → OpensIt a i → ⊥) → opened_from o m e (xs ++ a ∷ []) ≡ opened_from o m e xs
 opened_same o m e [] a h = over a h
   where
     over : (b : Answer) → ((i : Serial) → OpensIt b i → ⊥) → opened_from o m e (b ∷ []) ≡ o
     over (answer.Opened i ino) k = absurd (k i refl)
+    over (answer.Reading i version) k = absurd (k i refl)
     over b k = refl
-opened_same o m e (answer.Opened inst n ∷ rest) a h = opened_same (Some (record { mode = m; epoch = e; inst = inst })) m e rest a h
+opened_same o m e (answer.Opened inst n ∷ rest) a h = opened_same (Some (record { mode = m; epoch = e; inst = inst; steady = None })) m e rest a h
+opened_same o m e (answer.Reading inst version ∷ rest) a h = opened_same (Some (record { mode = m; epoch = e; inst = inst; steady = None })) m e rest a h
 opened_same o m e (x ∷ rest) a h = opened_same o m e rest a h
 
-pub last_more : (s : Serial) (xs : Answers) (i : Serial) (ino : ℕ) → last_opened s (xs ++ answer.Opened i ino ∷ []) ≡ i
-last_more s [] i ino = refl
-last_more s (answer.Opened inst n ∷ rest) i ino = last_more inst rest i ino
-last_more s (a ∷ rest) i ino = last_more s rest i ino
+pub last_more : (s : Serial) (xs : Answers) (a : Answer) (i : Serial) → OpensFile a i → last_opened s (xs ++ a ∷ []) ≡ i
+last_more s [] (answer.Opened inst ino) i is = is
+last_more s [] (answer.Reading inst version) i is = is
+last_more s [] _ i is = absurd is
+last_more s (answer.Opened inst n ∷ rest) a i is = last_more inst rest a i is
+last_more s (answer.Reading inst version ∷ rest) a i is = last_more inst rest a i is
+last_more s (x ∷ rest) a i is = last_more s rest a i is
 
 -- ---- what an open asks ----
 
@@ -142,6 +163,10 @@ file_so m (Some n) f kind.File (answer.Opened i ino ∷ []) = tt
 file_so m None f kind.File (answer.Opened i ino ∷ []) = tt
 file_so m (Some n) f kind.File (answer.Opened i ino ∷ (a ∷ rest)) = tt
 file_so m None f kind.File (answer.Opened i ino ∷ (a ∷ rest)) = tt
+file_so m (Some n) f kind.File (answer.Reading i version ∷ []) = tt
+file_so m None f kind.File (answer.Reading i version ∷ []) = tt
+file_so m (Some n) f kind.File (answer.Reading i version ∷ (a ∷ rest)) = tt
+file_so m None f kind.File (answer.Reading i version ∷ (a ∷ rest)) = tt
 file_so m (Some n) f kind.File (answer.Refused why ∷ []) = tt
 file_so m None f kind.File (answer.Refused why ∷ []) = tt
 file_so m (Some n) f kind.File (answer.Refused why ∷ (a ∷ rest)) = tt

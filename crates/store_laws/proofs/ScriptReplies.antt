@@ -39,6 +39,8 @@ has_free c t d caller b h named among starts = over b starts caller.words refl
     over (begins.Walks id) k y e = tt
     over (begins.Denied why) k y e = tt
     over (begins.Uses at i) k y e = tt
+    over (begins.Reopens kept last) k y e = tt
+    over begins.Frees k y e = tt
 
 -- what the call is given, it is given rightly
 pub gives_sound : (c : Config) (t : List Line) (d : CallId) (caller : Waiting) (e : EpochId) → IsFollowed c t → HasTaken c t d caller e → IsSound caller.words (lowest_free (descriptor (entries t) caller.site caller.process)) (gives_now c t d caller)

@@ -1,5 +1,5 @@
 -- Opens name files that have numbers, and resolutions are as the words of their calls say.
-use Rattle.std.proofs.Common.{◌≡◌, ℕ, ◌≤◌, List, Some, sym, ◌∙◌, ap, subst, arith}
+use Rattle.std.proofs.Common.{◌≡◌, ℕ, ◌≤◌, List, Some, sym, ◌∙◌, ap, subst, arith, inl, inr}
 use Rattle.role_steps.proofs.of_plain_facts.Options.{some_same}
 use Rattle.locus_ids.specs.declared.config.Config.{Config}
 use Rattle.locus_ids.specs.declared.ids.CallId.{CallId}
@@ -25,7 +25,8 @@ use Rattle.tree_laws.specs.Printed.{entries}
 use Rattle.sync_laws.specs.Opening.{IsPlainOpening}
 use Rattle.store_laws.proofs.ScriptFitting.{IsSound, OpensAs}
 use Rattle.store_laws.proofs.ScriptFitted.{asked_sound}
-use Rattle.store_laws.proofs.ScriptNumbered.{mend_numbered}
+use Rattle.store_laws.proofs.ScriptNumbered.{mend_numbered, read_numbered}
+use Rattle.tree_laws.specs.Serials.{asked_now}
 
 -- what the call asks it asks rightly
 sound_open : (c : Config) (t : List Line) (e : EpochId) (d : CallId) (request serial : ℕ) (f : FileId) (q : Opening) (a : AsksOpen c t e d request serial f q) → IsFollowed c t → IsSound a.inside.accepted.words (Some 0) a.wanted
@@ -36,17 +37,18 @@ zero n m same e l = omega (arith, same, e, l)
 
 -- a file that is opened has a number
 pub open_numbered : (c : Config) (t : List Line) (e : EpochId) (d : CallId) (request serial : ℕ) (f : FileId) (q : Opening) → IsFollowed c t → AsksOpen c t e d request serial f q → IsPlainOpening q → f.ino ≡ 0 → ⊥
-open_numbered c t e d request serial f q h a plain none = over a.wanted a.opening_is (sound_open c t e d request serial f q a h)
+open_numbered c t e d request serial f q h a plain none = over a.wanted a.asks.asked a.opening_is (sound_open c t e d request serial f q a h)
   where
-    over : (w : Want) → IsOpening c w f q → IsSound a.inside.accepted.words (Some 0) w → ⊥
-    over (want.Open file m) is s = zero f.ino file.ino (ap (λ (y : FileId). y.ino) is.0) none s.0
-    over (want.OpenToMend file) is s = zero f.ino file.ino (ap (λ (y : FileId). y.ino) is.0) none (mend_numbered c t d a.inside.accepted file h a.inside.named s)
-    over (want.Make group kind sites) is s = subst IsPlainOpening is.2 plain
-    over (want.Look file what) is s = is
-    over (want.Do i o) is s = is
-    over (want.Close i) is s = is
-    over (want.Give r) is s = is
-    over want.Never is s = is
+    over : (w : Want) → asked_now c t d ≡ w → IsOpening c w f q → IsSound a.inside.accepted.words (Some 0) w → ⊥
+    over (want.Open file m) asked is (inl s) = zero f.ino file.ino (ap (λ (y : FileId). y.ino) is.0) none s.0
+    over (want.Open file m) asked is (inr s) = zero f.ino file.ino (ap (λ (y : FileId). y.ino) is.0) none (read_numbered c t d a.inside.accepted file m h a.inside.named asked s.0)
+    over (want.OpenToMend file) asked is s = zero f.ino file.ino (ap (λ (y : FileId). y.ino) is.0) none (mend_numbered c t d a.inside.accepted file h a.inside.named s)
+    over (want.Make group kind sites) asked is s = subst IsPlainOpening is.2 plain
+    over (want.Look file what) asked is s = is
+    over (want.Do i o) asked is s = is
+    over (want.Close i) asked is s = is
+    over (want.Give r) asked is s = is
+    over want.Never asked is s = is
 
 -- a resolution is asked as the words of its call say
 pub resolution_said : (c : Config) (t : List Line) (e : EpochId) (d : CallId) (request serial : ℕ) (f : FileId) (site : ℕ) → IsFollowed c t → AsksOpen c t e d request serial f (how.Resolve site) → (w : Waiting) → call_named (entries t) d ≡ Some w → site_named (Some w.words) ≡ Some site
@@ -71,9 +73,11 @@ resolution_said c t e d request serial f site h a w named = subst (λ (v : Waiti
     opened opens.Read is s = absurd (not_read is)
     opened opens.Write is s = absurd (not_write is)
     opened (opens.Resolve r) is s = s ∙ ap Some (sym (resolve_site site r is))
+    opened opens.Steady is s = absurd (not_read is)
 
     over : (v : Want) → IsOpening c v f (how.Resolve site) → IsSound a.inside.accepted.words (Some 0) v → site_named (Some a.inside.accepted.words) ≡ Some site
-    over (want.Open file m) is s = opened m is.1 s.1
+    over (want.Open file m) is (inl s) = opened m is.1 s.1
+    over (want.Open file m) is (inr s) = absurd (not_read (is.1 ∙ ap opening_of s.1))
     over (want.OpenToMend file) is s = absurd (not_mend is.1)
     over (want.Make group kind sites) is s = absurd (not_make _ kind is.2)
     over (want.Look file what) is s = absurd is

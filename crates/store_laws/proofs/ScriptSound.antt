@@ -1,7 +1,9 @@
 -- Each script is sound: after answers that fit it doesn't stray, opens only files that have numbers, and gives no reply that says that
 -- the epoch was left.
-use Rattle.std.proofs.Common.{◌≡◌, ℕ, ◌≤◌, List, [], ◌∷◌, Option, Some, sym, subst}
+use Rattle.std.proofs.Common.{◌≡◌, ℕ, ◌≤◌, Bool, true, false, cond, List, [], ◌∷◌, Option, Some, refl, sym, subst, inl, inr}
 use Rattle.locus_ids.specs.declared.config.Mount.{Mount}
+use Rattle.commit_graph.specs.Versions.{same_stamp}
+use Rattle.locus_ids.specs.declared.ids.EpochId.{EpochId}
 use Rattle.locus_ids.specs.declared.ids.FileId.{FileId}
 use Rattle.locus_ids.specs.declared.ids.Kind.{Kind}
 use Rattle.locus_ids.specs.declared.ids.Kind.TheVariants as kind
@@ -13,7 +15,9 @@ use Rattle.locus_ids.specs.declared.sites.Sites.{Sites}
 use Rattle.trace_book.specs.declared.call.Call.{Call}
 use Rattle.trace_book.specs.declared.call.Call.TheVariants as call
 use Rattle.trace_book.specs.declared.call.OpenMode.{OpenMode}
+use Rattle.trace_book.specs.declared.descriptor.OneVersion.{OneVersion}
 use Rattle.trace_book.specs.declared.operation.Op.{Op}
+use Rattle.trace_book.specs.declared.operation.Op.TheVariants as op
 use Rattle.trace_book.specs.declared.operation.Outcome.{Outcome}
 use Rattle.trace_book.specs.declared.operation.Outcome.TheVariants as outcome
 use Rattle.trace_book.specs.declared.reply.Reply.{Reply}
@@ -27,8 +31,9 @@ use Rattle.call_rules.specs.Making.{after_insert, after_make, fills, after_probe
 use Rattle.call_rules.specs.Mending.{after_mend, brings, mend_wants}
 use Rattle.call_rules.specs.Naming.{renames}
 use Rattle.call_rules.specs.Opening.{opens_file, op_wants, close_wants, lists, describes, reply_to, Shows}
+use Rattle.call_rules.specs.Reopening.{reads_again, reopened, reopens}
 use Rattle.call_rules.specs.Removing.{removes, empties, opens_target, by_kind, finds}
-use Rattle.store_laws.proofs.ScriptFitting.{NotChanged, ResultFits, Fits, OpensAs, GivesRight, OpensWords, IsSound, Script, Sound}
+use Rattle.store_laws.proofs.ScriptFitting.{NotChanged, ResultFits, Fits, OpensAs, GivesRight, OpensWords, ReadWords, UsesWords, IsSound, Script, Sound}
 
 module _ (words : Call) (free : Option ℕ) where
   -- scripts that want the same
@@ -112,7 +117,7 @@ module _ (words : Call) (free : Option ℕ) where
 
   pub opens_dir_sound : (reached : List ℕ) (next : Serial → Script) → ((p : Serial) (ys : List Answer) → Sound words free (next p) ys) → (dir : FileId) → 1 ≤ dir.ino → (k : Kind) (xs : List Answer) → Sound words free (opens_dir reached next dir k) xs
   opens_dir_sound reached next h dir num kind.File xs = give_sound (reply.No (refusal.NotDir reached)) tt xs
-  opens_dir_sound reached next h dir num kind.Dir [] = (num, tt)
+  opens_dir_sound reached next h dir num kind.Dir [] = inl (num, tt)
   opens_dir_sound reached next h dir num kind.Dir (answer.Opened p ino ∷ rest) = λ fit. h p rest
   opens_dir_sound reached next h dir num kind.Dir (answer.Refused why ∷ rest) = λ fit. give_sound (reply.No why) fit rest
   opens_dir_sound reached next h dir num kind.Dir (a ∷ rest) = λ fit. absurd fit
@@ -133,7 +138,7 @@ module _ (words : Call) (free : Option ℕ) where
   empties_sound kind.Dir p t name ino (a ∷ rest) = λ fit. absurd fit
 
   target_sound : (k : Kind) (p : Serial) (group : ℕ) (name : List ℕ) (ino : ℕ) → 1 ≤ ino → (xs : List Answer) → Sound words free (opens_target k p group name ino) xs
-  target_sound k p group name ino num [] = (num, tt)
+  target_sound k p group name ino num [] = inl (num, tt)
   target_sound k p group name ino num (answer.Opened t found ∷ rest) = λ fit. empties_sound k p t name ino rest
   target_sound k p group name ino num (answer.Refused why ∷ rest) = λ fit. give_up_sound (Unchanged p ∷ []) why fit rest
   target_sound k p group name ino num (a ∷ rest) = λ fit. absurd fit
@@ -190,9 +195,11 @@ module _ (words : Call) (free : Option ℕ) where
 
   pub opens_file_sound : (m : OpenMode) (fd : ℕ) → free ≡ Some fd → OpensWords words → OpensAs words m → (f : FileId) → 1 ≤ f.ino → (k : Kind) (xs : List Answer) → Sound words free (opens_file m (Some fd) f k) xs
   opens_file_sound m fd is opens as_said f num kind.Dir xs = give_sound (reply.No refusal.IsDir) tt xs
-  opens_file_sound m fd is opens as_said f num kind.File [] = (num, as_said)
+  opens_file_sound m fd is opens as_said f num kind.File [] = inl (num, as_said)
   opens_file_sound m fd is opens as_said f num kind.File (answer.Opened i ino ∷ []) = λ fit. (is, opens)
   opens_file_sound m fd is opens as_said f num kind.File (answer.Opened i ino ∷ (a ∷ rest)) = λ fit more. absurd more
+  opens_file_sound m fd is opens as_said f num kind.File (answer.Reading i version ∷ []) = λ fit. (is, opens)
+  opens_file_sound m fd is opens as_said f num kind.File (answer.Reading i version ∷ (a ∷ rest)) = λ fit more. absurd more
   opens_file_sound m fd is opens as_said f num kind.File (answer.Refused why ∷ []) = λ fit. fit
   opens_file_sound m fd is opens as_said f num kind.File (answer.Refused why ∷ (a ∷ rest)) = λ fit more. absurd more
   opens_file_sound m fd is opens as_said f num kind.File (a ∷ rest) = λ fit. absurd fit
@@ -214,17 +221,44 @@ module _ (words : Call) (free : Option ℕ) where
   describes_sound f k (answer.Refused why ∷ (a ∷ rest)) = λ fit more. absurd more
   describes_sound f k (a ∷ rest) = λ fit. absurd fit
 
-  replies_right : (o : Op) (result : Outcome) → ResultFits o result → GivesRight words free (reply_to result)
-  replies_right o outcome.Done fit = tt
-  replies_right o (outcome.Found ino found) fit = tt
-  replies_right o (outcome.Data bytes) fit = tt
-  replies_right o (outcome.Committed stamp) fit = tt
-  replies_right o (outcome.No why) fit = absurd fit
+  replies_right : UsesWords words → (o : Op) (result : Outcome) → ResultFits o result → GivesRight words free (reply_to result)
+  replies_right uses o outcome.Done fit = tt
+  replies_right uses o (outcome.Found ino found) fit = tt
+  replies_right uses o (outcome.Data bytes) fit = uses
+  replies_right uses o (outcome.Committed stamp) fit = tt
+  replies_right uses o (outcome.No why) fit = absurd fit
 
-  pub op_sound : (i : Serial) (o : Op) (xs : List Answer) → Sound words free (op_wants i o) xs
-  op_sound i o [] = tt
-  op_sound i o (answer.Did result ∷ []) = λ fit. replies_right o result fit
-  op_sound i o (answer.Did result ∷ (a ∷ rest)) = λ fit more. absurd more
-  op_sound i o (answer.Refused why ∷ []) = λ fit. fit
-  op_sound i o (answer.Refused why ∷ (a ∷ rest)) = λ fit more. absurd more
-  op_sound i o (a ∷ rest) = λ fit. absurd fit
+  pub op_sound : UsesWords words → (i : Serial) (o : Op) (xs : List Answer) → Sound words free (op_wants i o) xs
+  op_sound uses i o [] = tt
+  op_sound uses i o (answer.Did result ∷ []) = λ fit. replies_right uses o result fit
+  op_sound uses i o (answer.Did result ∷ (a ∷ rest)) = λ fit more. absurd more
+  op_sound uses i o (answer.Refused why ∷ []) = λ fit. fit
+  op_sound uses i o (answer.Refused why ∷ (a ∷ rest)) = λ fit more. absurd more
+  op_sound uses i o (a ∷ rest) = λ fit. absurd fit
+
+  -- ---- a read that opens a version again ----
+
+  reads_use : (y : Call) → ReadWords y → UsesWords y
+  reads_use (call.Read fd at len) r = tt
+  reads_use _ r = absurd r
+
+  reads_again_sound : ReadWords words → (i : Serial) (at len : ℕ) (xs : List Answer) → Sound words free (reads_again i at len) xs
+  reads_again_sound reads i at len [] = tt
+  reads_again_sound reads i at len (answer.Did result ∷ []) = λ fit. replies_right (reads_use words reads) (op.Read at len) result fit
+  reads_again_sound reads i at len (answer.Did result ∷ (a ∷ rest)) = λ fit more. absurd more
+  reads_again_sound reads i at len (answer.Refused why ∷ rest) = λ fit. give_up_sound (Unchanged i ∷ []) why fit rest
+  reads_again_sound reads i at len (a ∷ rest) = λ fit. absurd fit
+
+  reopened_sound : ReadWords words → (kept : OneVersion) (last : EpochId) (at len : ℕ) (i : Serial) (granted : OneVersion) (xs : List Answer) → Sound words free (reopened kept last at len i granted) xs
+  reopened_sound reads kept last at len i granted xs = over (same_stamp granted.stamp kept.stamp)
+    where
+      over : (b : Bool) → Sound words free (λ ys. cond b (reads_again i at len ys) (give_up (Unchanged i ∷ []) (refusal.Stale last) ys)) xs
+      over true = reads_again_sound reads i at len xs
+      over false = give_up_sound (Unchanged i ∷ []) (refusal.Stale last) tt xs
+
+  pub reopens_sound : ReadWords words → (kept : OneVersion) (last : EpochId) (at len : ℕ) (xs : List Answer) → Sound words free (reopens kept last at len) xs
+  reopens_sound reads kept last at len [] = inr (reads, refl)
+  reopens_sound reads kept last at len (answer.Reading i granted ∷ rest) = λ fit. reopened_sound reads kept last at len i granted rest
+  reopens_sound reads kept last at len (answer.Refused why ∷ []) = λ fit. fit
+  reopens_sound reads kept last at len (answer.Refused why ∷ (a ∷ rest)) = λ fit more. absurd more
+  reopens_sound reads kept last at len (a ∷ rest) = λ fit. absurd fit

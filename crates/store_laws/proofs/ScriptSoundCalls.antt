@@ -18,6 +18,7 @@ use Rattle.trace_book.specs.declared.call.OpenMode.TheVariants as opens
 use Rattle.trace_book.specs.declared.descriptor.Beginning.{Beginning}
 use Rattle.trace_book.specs.declared.descriptor.Beginning.TheVariants as begins
 use Rattle.trace_book.specs.declared.descriptor.Descriptor.{Descriptor}
+use Rattle.trace_book.specs.declared.descriptor.OneVersion.{OneVersion}
 use Rattle.trace_book.specs.declared.operation.Op.TheVariants as op
 use Rattle.trace_book.specs.declared.operation.What.TheVariants as what
 use Rattle.trace_book.specs.declared.reply.Reply.TheVariants as reply
@@ -26,16 +27,17 @@ use Rattle.call_rules.specs.declared.answer.Answer.{Answer}
 use Rattle.call_rules.specs.declared.answer.Answer.TheVariants as answer
 use Rattle.call_rules.specs.declared.want.Want.{Want}
 use Rattle.call_rules.specs.declared.want.Want.TheVariants as want
-use Rattle.call_rules.specs.Descriptors.{beginning, begins_on, begins_walk, begins_open, is_in, lowest_free}
+use Rattle.call_rules.specs.Descriptors.{beginning, begins_again, begins_change, begins_close, begins_open, begins_read, begins_walk, held_or, is_in, lowest_free, stale_or}
 use Rattle.call_rules.specs.Making.{changes_dir, opens_dir, probes}
 use Rattle.call_rules.specs.Naming.{renames}
+use Rattle.call_rules.specs.Reopening.{reopen_wants}
 use Rattle.call_rules.specs.Removing.{finds}
 use Rattle.call_rules.specs.Opening.{opens_file, uses_wants, lists, describes, shown_in}
 use Rattle.call_rules.specs.Scripts.{path_wants, begun_wants, named_wants, where_packed, wants}
 use Rattle.call_rules.specs.Walks.{Walked, Asks, Fails, There, Strays, walk, walked, root_of, passes, mounted_in}
 use Rattle.call_rules.specs.Words.{is_badly_named, is_too_long}
-use Rattle.store_laws.proofs.ScriptFitting.{NotChanged, Fits, OpensAs, IsSound, Script, Sound}
-use Rattle.store_laws.proofs.ScriptSound.{sound_same, give_sound, probes_sound, opens_dir_sound, finds_sound, renames_sound, close_sound, mend_sound, opens_file_sound, lists_sound, describes_sound, op_sound}
+use Rattle.store_laws.proofs.ScriptFitting.{NotChanged, Fits, OpensAs, ReadWords, UsesWords, IsSound, Script, Sound}
+use Rattle.store_laws.proofs.ScriptSound.{sound_same, give_sound, probes_sound, opens_dir_sound, finds_sound, renames_sound, close_sound, mend_sound, opens_file_sound, lists_sound, describes_sound, op_sound, reopens_sound}
 
 -- ---- walks ----
 
@@ -92,40 +94,68 @@ WalksWords (call.Open path m) = Unit {0}
 WalksWords (call.Mend file) = Unit {0}
 WalksWords _ = ⊥
 
--- or it is on a descriptor
-abbrev pub UsesWords : Call → Type 0
-UsesWords (call.Read fd at len) = Unit {0}
-UsesWords (call.Write fd at bytes) = Unit {0}
-UsesWords (call.Cut fd len) = Unit {0}
-UsesWords (call.Commit fd) = Unit {0}
-UsesWords (call.Abort fd) = Unit {0}
-UsesWords (call.Close fd) = Unit {0}
-UsesWords _ = ⊥
-
 -- where a call may begin that has these words
 abbrev pub BeginsRight : Call → Beginning → Type 0
 BeginsRight words (begins.Denied why) = NotChanged why
 BeginsRight words (begins.Uses e i) = UsesWords words
 BeginsRight words (begins.Walks id) = WalksWords words
+BeginsRight words (begins.Reopens kept last) = ReadWords words
+BeginsRight words begins.Frees = Unit {0}
 
 -- an open that walks finds a free descriptor
 abbrev pub HasFree : Option ℕ → Beginning → Call → Type 0
 HasFree free (begins.Walks id) (call.Open path m) = (fd : ℕ) × (free ≡ Some fd)
 HasFree free _ _ = Unit {0}
 
+-- no call is both
+pub words_apart : (words : Call) → WalksWords words → UsesWords words → ⊥
+words_apart (call.Read fd at len) w u = w
+words_apart (call.Write fd at bytes) w u = w
+words_apart (call.Cut fd len) w u = w
+words_apart (call.Commit fd) w u = w
+words_apart (call.Abort fd) w u = w
+words_apart (call.Close fd) w u = w
+words_apart _ w u = u
+
 walk_right : (id : CallId) (words : Call) (now : Option EpochId) → WalksWords words → BeginsRight words (begins_walk now id)
 walk_right id words None h = tt
 walk_right id words (Some e) h = h
 
-on_right : (words : Call) (changes : Bool) (now : Option EpochId) (o : Option Descriptor) → UsesWords words → BeginsRight words (begins_on changes now o)
-on_right words changes now None h = tt
-on_right words changes now (Some d) h = over changes (is_in now d.epoch) (is_read d.mode) refl refl
+held_right : (words : Call) (now : Option EpochId) (d : Descriptor) (otherwise : Beginning) → UsesWords words → BeginsRight words otherwise → BeginsRight words (held_or now d otherwise)
+held_right words now d otherwise h k = over (is_in now d.epoch)
   where
-    over : (c a b : Bool) → is_in now d.epoch ≡ a → is_read d.mode ≡ b → BeginsRight words (begins_on c now (Some d))
-    over true true true p q = rw p (rw q tt)
-    over true true false p q = rw p (rw q h)
-    over false true b p q = rw p h
-    over c false b p q = rw p tt
+    over : (b : Bool) → BeginsRight words (cond b (begins.Uses d.epoch d.inst) otherwise)
+    over true = h
+    over false = k
+
+stale_right : (words : Call) (steady : OneVersion → Beginning) (last : EpochId) (o : Option OneVersion) → ((v : OneVersion) → BeginsRight words (steady v)) → BeginsRight words (stale_or steady last o)
+stale_right words steady last None k = tt
+stale_right words steady last (Some v) k = k v
+
+again_right : (words : Call) (now : Option EpochId) (last : EpochId) (v : OneVersion) → ReadWords words → BeginsRight words (begins_again now last v)
+again_right words None last v h = tt
+again_right words (Some e) last v h = h
+
+read_right : (words : Call) (now : Option EpochId) (o : Option Descriptor) → UsesWords words → ReadWords words → BeginsRight words (begins_read now o)
+read_right words now None h r = tt
+read_right words now (Some d) h r = held_right words now d (stale_or (begins_again now d.epoch) d.epoch d.steady) h (stale_right words (begins_again now d.epoch) d.epoch d.steady (λ v. again_right words now d.epoch v r))
+
+close_right : (words : Call) (now : Option EpochId) (o : Option Descriptor) → UsesWords words → BeginsRight words (begins_close now o)
+close_right words now None h = tt
+close_right words now (Some d) h = held_right words now d (stale_or (λ v. begins.Frees) d.epoch d.steady) h (stale_right words (λ v. begins.Frees) d.epoch d.steady (λ v. tt))
+
+change_right : (words : Call) (now : Option EpochId) (o : Option Descriptor) → UsesWords words → BeginsRight words (begins_change now o)
+change_right words now None h = tt
+change_right words now (Some d) h = by d.steady refl
+  where
+    at : d.steady ≡ None → (a b : Bool) → is_in now d.epoch ≡ a → is_read d.mode ≡ b → BeginsRight words (begins_change now (Some d))
+    at s true true p q = rw s (rw p (rw q tt))
+    at s true false p q = rw s (rw p (rw q h))
+    at s false b p q = rw s (rw p tt)
+
+    by : (o : Option OneVersion) → d.steady ≡ o → BeginsRight words (begins_change now (Some d))
+    by None s = at s (is_in now d.epoch) (is_read d.mode) refl refl
+    by (Some v) s = rw s tt
 
 pub begins_right : (table : ℕ → Option Descriptor) (now : Option EpochId) (id : CallId) (words : Call) → BeginsRight words (beginning table now id words)
 begins_right table now id (call.Open path m) = over (lowest_free table)
@@ -133,16 +163,16 @@ begins_right table now id (call.Open path m) = over (lowest_free table)
     over : (o : Option ℕ) → BeginsRight (call.Open path m) (begins_open now id o)
     over None = tt
     over (Some fd) = walk_right id (call.Open path m) now tt
-begins_right table now id (call.Read fd at len) = on_right (call.Read fd at len) false now (table fd) tt
+begins_right table now id (call.Read fd at len) = read_right (call.Read fd at len) now (table fd) tt tt
 begins_right table now id (call.Write fd at bytes) = over (is_too_long (call.Write fd at bytes))
   where
-    over : (b : Bool) → BeginsRight (call.Write fd at bytes) (cond b (begins.Denied refusal.TooLong) (begins_on true now (table fd)))
+    over : (b : Bool) → BeginsRight (call.Write fd at bytes) (cond b (begins.Denied refusal.TooLong) (begins_change now (table fd)))
     over true = tt
-    over false = on_right (call.Write fd at bytes) true now (table fd) tt
-begins_right table now id (call.Cut fd len) = on_right (call.Cut fd len) true now (table fd) tt
-begins_right table now id (call.Commit fd) = on_right (call.Commit fd) true now (table fd) tt
-begins_right table now id (call.Abort fd) = on_right (call.Abort fd) true now (table fd) tt
-begins_right table now id (call.Close fd) = on_right (call.Close fd) false now (table fd) tt
+    over false = change_right (call.Write fd at bytes) now (table fd) tt
+begins_right table now id (call.Cut fd len) = change_right (call.Cut fd len) now (table fd) tt
+begins_right table now id (call.Commit fd) = change_right (call.Commit fd) now (table fd) tt
+begins_right table now id (call.Abort fd) = change_right (call.Abort fd) now (table fd) tt
+begins_right table now id (call.Close fd) = close_right (call.Close fd) now (table fd) tt
 begins_right table now id (call.Create path sites) = walk_right id (call.Create path sites) now tt
 begins_right table now id (call.MakeDir path) = walk_right id (call.MakeDir path) now tt
 begins_right table now id (call.Unlink path) = walk_right id (call.Unlink path) now tt
@@ -155,11 +185,11 @@ begins_right table now id (call.Mails path) = walk_right id (call.Mails path) no
 begins_right table now id (call.Mend file) = walk_right id (call.Mend file) now tt
 
 uses_sound : (words : Call) (free : Option ℕ) (i : Serial) → UsesWords words → (xs : List Answer) → Sound words free (uses_wants words i) xs
-uses_sound (call.Read fd at len) free i h xs = op_sound (call.Read fd at len) free i (op.Read at len) xs
-uses_sound (call.Write fd at bytes) free i h xs = op_sound (call.Write fd at bytes) free i (op.Write at bytes) xs
-uses_sound (call.Cut fd len) free i h xs = op_sound (call.Cut fd len) free i (op.Cut len) xs
-uses_sound (call.Commit fd) free i h xs = op_sound (call.Commit fd) free i op.Commit xs
-uses_sound (call.Abort fd) free i h xs = op_sound (call.Abort fd) free i op.Abort xs
+uses_sound (call.Read fd at len) free i h xs = op_sound (call.Read fd at len) free tt i (op.Read at len) xs
+uses_sound (call.Write fd at bytes) free i h xs = op_sound (call.Write fd at bytes) free tt i (op.Write at bytes) xs
+uses_sound (call.Cut fd len) free i h xs = op_sound (call.Cut fd len) free tt i (op.Cut len) xs
+uses_sound (call.Commit fd) free i h xs = op_sound (call.Commit fd) free tt i op.Commit xs
+uses_sound (call.Abort fd) free i h xs = op_sound (call.Abort fd) free tt i op.Abort xs
 uses_sound (call.Close fd) free i h xs = close_sound (call.Close fd) free i xs
 uses_sound _ free i h xs = absurd h
 
@@ -167,6 +197,7 @@ open_as : (path : List ℕ) (m : OpenMode) → OpensAs (call.Open path m) m
 open_as path opens.Read = tt
 open_as path opens.Write = tt
 open_as path (opens.Resolve site) = refl
+open_as path opens.Steady = tt
 
 changes_sound : (words : Call) (free : Option ℕ) (mounts : List Mount) (path : List ℕ) (next : ℕ → Serial → Script) → ((g : ℕ) (p : Serial) (ys : List Answer) → Sound words free (next g p) ys) → (xs : List Answer) → Sound words free (changes_dir mounts path next) xs
 changes_sound words free mounts path next h xs = walked_sound words free mounts (but_last (components path)) (λ dir k rest. opens_dir (last_of (but_last (components path))) (next dir.group) dir k rest)
@@ -188,10 +219,16 @@ path_sound mounts free id (call.Mails path) w h xs = walked_sound (call.Mails pa
 path_sound mounts free id (call.Mend file) w h xs = mend_sound (call.Mend file) free file refl xs
 path_sound mounts free id _ w h xs = absurd w
 
+reopen_sound : (words : Call) (free : Option ℕ) (kept : OneVersion) (last : EpochId) → ReadWords words → (xs : List Answer) → Sound words free (reopen_wants words kept last) xs
+reopen_sound (call.Read fd at len) free kept last r xs = reopens_sound (call.Read fd at len) free r kept last at len xs
+reopen_sound _ free kept last r xs = absurd r
+
 begun_sound : (mounts : List Mount) (free : Option ℕ) (words : Call) (b : Beginning) → BeginsRight words b → HasFree free b words → (xs : List Answer) → Sound words free (begun_wants mounts free words b) xs
 begun_sound mounts free words (begins.Denied why) r h xs = give_sound words free (reply.No why) r xs
 begun_sound mounts free words (begins.Uses e i) r h xs = uses_sound words free i r xs
 begun_sound mounts free words (begins.Walks id) r h xs = path_sound mounts free id words r h xs
+begun_sound mounts free words (begins.Reopens kept last) r h xs = reopen_sound words free kept last r xs
+begun_sound mounts free words begins.Frees r h xs = give_sound words free (reply.Closed None) tt xs
 
 named_sound : (mounts : List Mount) (free : Option ℕ) (words : Call) (b : Beginning) → BeginsRight words b → HasFree free b words → (xs : List Answer) → Sound words free (named_wants mounts free words b) xs
 named_sound mounts free words b r h xs = over (is_badly_named mounts words)

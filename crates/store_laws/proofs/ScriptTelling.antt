@@ -1,7 +1,7 @@
 -- What the records answer fits what was asked.
-use Rattle.std.proofs.Common.{◌≡◌, ℕ, ◌-◌, Bool, true, false, cond, ◌&&◌, List, [], ◌∷◌, ◌++◌, take, Option, Some, None, refl, sym, ◌∙◌, ap, subst}
-use Rattle.std.specs.Option.{option_or}
-use Rattle.role_steps.proofs.of_plain_facts.Options.{some_same}
+use Rattle.std.proofs.Common.{◌≡◌, ℕ, ◌-◌, ◌==◌, Bool, true, false, not, cond, List, [], ◌∷◌, ◌++◌, take, Option, Some, None, refl, sym, ◌∙◌, ap, subst}
+use Rattle.std.specs.Option.{is_none, option_or}
+use Rattle.role_steps.proofs.of_plain_facts.Options.{none_some, some_same}
 use Rattle.role_steps.proofs.of_plain_facts.Tests.{and_first, and_second, true_false}
 use Rattle.locus_ids.specs.declared.config.Config.{Config}
 use Rattle.locus_ids.specs.declared.ids.CallId.{CallId}
@@ -42,13 +42,13 @@ use Rattle.role_steps.specs.Views.{Told, Shown}
 use Rattle.the_run.specs.Worlds.{Line}
 use Rattle.tree_model.specs.declared.instance.Instance.{Instance}
 use Rattle.tree_model.specs.Folds.{Trace}
-use Rattle.tree_model.specs.Given.{gives_refusal, is_unnumbered, only_kept, refuses, served_by}
+use Rattle.tree_model.specs.Given.{gives_grant, gives_refusal, is_unnumbered, only_kept, refuses, served_by}
 use Rattle.tree_model.specs.Histories.{history}
-use Rattle.tree_model.specs.Opening.{held_by, making_set, open_refusal, place_refusal, resolving_site}
+use Rattle.tree_model.specs.Opening.{held_by, is_only, is_placed, making_set, open_refusal, place_refusal, resolving_site}
 use Rattle.tree_model.specs.Packs.{is_good_set}
 use Rattle.lawful_trace.specs.TreeRows.{granted_group}
 use Rattle.tree_model.specs.Same.{is_served, same_served, is_no_inode}
-use Rattle.tree_model.specs.State.{TreeState, has_stamp, has_stamp_of, instance_in, is_make, kept_of, openers}
+use Rattle.tree_model.specs.State.{TreeState, is_granted, has_stamp, has_stamp_of, instance_in, is_make, kept_of, openers}
 use Rattle.tree_model.specs.Tree.{kept_in, tree_of}
 use Rattle.lawful_trace.specs.Progress.{Answers, close_answer, entered, granted_answer, look_answer, outcome_answer}
 use Rattle.lawful_trace.specs.Tables.{call_of_act, call_of_release}
@@ -59,7 +59,8 @@ use Rattle.tree_laws.specs.Printed.{entries}
 use Rattle.tree_laws.specs.Serials.{asked_now}
 use Rattle.tree_laws.proofs.Asking.{StepRecord}
 use Rattle.tree_laws.proofs.Awaiting.{by_own, by_owner, last_same}
-use Rattle.store_laws.proofs.ScriptFitting.{NotChanged, LookFits, OpenFits, MendFits, DoFits, CloseFits, Fits}
+use Rattle.user_laws.proofs.OpenGrants.{TellsVersion, tells_version}
+use Rattle.store_laws.proofs.ScriptFitting.{NotChanged, LookFits, OpenFits, MakeFits, MendFits, DoFits, CloseFits, Fits}
 use Rattle.store_laws.proofs.ScriptResults.{FoundRight, ResultRight, act_right, found_right, refusal_right}
 
 abbrev With : ℕ → Told → List Line → List Line
@@ -102,20 +103,23 @@ look_told c before f (what.Whole asked) (served.At stamp) kept e = tt
 
 -- ---- opens ----
 
-granted_open : (m : OpenMode) (i : Serial) (f : FileId) (kept : List Stamp) → OpenFits (granted_answer (mode_of (opening_of m)) i f kept)
-granted_open opens.Read i f kept = tt
-granted_open opens.Write i f kept = tt
-granted_open (opens.Resolve site) i f kept = tt
+granted_open : (m : OpenMode) (i : Serial) (f : FileId) (stamp : Option Stamp) (kept : List Stamp) → TellsVersion (mode_of (opening_of m)) stamp → OpenFits (granted_answer (mode_of (opening_of m)) i f stamp kept) m
+granted_open opens.Read i f (Some v) kept on = tt
+granted_open opens.Read i f None kept on = absurd (none_some on.0 on.1)
+granted_open opens.Steady i f (Some v) kept on = tt
+granted_open opens.Steady i f None kept on = absurd (none_some on.0 on.1)
+granted_open opens.Write i f stamp kept on = tt
+granted_open (opens.Resolve site) i f stamp kept on = tt
 
-grant_told : (c : Config) (w : Want) (asked : FileId) (it : Opening) (m : Mode) (i : Serial) (f : FileId) (kept : List Stamp) → mode_of it ≡ m → IsOpening c w asked it → Fits w (granted_answer m i f kept)
-grant_told c (want.Open file om) asked it m i f kept is o = subst (λ (y : Mode). OpenFits (granted_answer y i f kept)) (ap mode_of (sym o.1) ∙ is) (granted_open om i f kept)
-grant_told c (want.OpenToMend file) asked it m i f kept is o = subst (λ (y : Mode). MendFits (granted_answer y i f kept)) (ap mode_of (sym o.1) ∙ is) tt
-grant_told c (want.Make group kind sites) asked it m i f kept is o = subst (λ (y : Mode). OpenFits (granted_answer y i f kept)) (ap mode_of (sym o.2) ∙ is) tt
-grant_told c (want.Look file w) asked it m i f kept is o = absurd o
-grant_told c (want.Do j p) asked it m i f kept is o = absurd o
-grant_told c (want.Close j) asked it m i f kept is o = absurd o
-grant_told c (want.Give r) asked it m i f kept is o = absurd o
-grant_told c want.Never asked it m i f kept is o = absurd o
+grant_told : (c : Config) (w : Want) (asked : FileId) (it : Opening) (m : Mode) (i : Serial) (f : FileId) (stamp : Option Stamp) (kept : List Stamp) → TellsVersion m stamp → mode_of it ≡ m → IsOpening c w asked it → Fits w (granted_answer m i f stamp kept)
+grant_told c (want.Open file om) asked it m i f stamp kept on is o = subst (λ (y : Mode). OpenFits (granted_answer y i f stamp kept) om) (ap mode_of (sym o.1) ∙ is) (granted_open om i f stamp kept (subst (λ (y : Mode). TellsVersion y stamp) (sym (ap mode_of (sym o.1) ∙ is)) on))
+grant_told c (want.OpenToMend file) asked it m i f stamp kept on is o = subst (λ (y : Mode). MendFits (granted_answer y i f stamp kept)) (ap mode_of (sym o.1) ∙ is) tt
+grant_told c (want.Make group kind sites) asked it m i f stamp kept on is o = subst (λ (y : Mode). MakeFits (granted_answer y i f stamp kept)) (ap mode_of (sym o.2) ∙ is) tt
+grant_told c (want.Look file w) asked it m i f stamp kept on is o = absurd o
+grant_told c (want.Do j p) asked it m i f stamp kept on is o = absurd o
+grant_told c (want.Close j) asked it m i f stamp kept on is o = absurd o
+grant_told c (want.Give r) asked it m i f stamp kept on is o = absurd o
+grant_told c want.Never asked it m i f stamp kept on is o = absurd o
 
 refused_open : (c : Config) (w : Want) (asked : FileId) (it : Opening) (why : Refusal) → NotChanged why → IsOpening c w asked it → Fits w (answer.Refused why)
 refused_open c (want.Open file om) asked it why h o = h
@@ -217,9 +221,9 @@ told_fits c n r older d a b w xs is asked fit waits = subst (λ (v : Want). Fits
 pub step_fits : (c : Config) (n : ℕ) (r : Record) (older : List Line) (d : CallId) (a : Answer) → MayTell c older (Shown r) → StepRecord (entries older) r d → Waits c (With n (Shown r) older) d a → Fits (asked_now c older d) a
 step_fits c n (says.Look e call request f w result) older d a may step waits = told_fits c n (says.Look e call request f w result) older d a (look_answer c (entries older) f w result) (want.Look f w) (take (request - 1) (heard c older d)) (by_own call d _ (heard c older d) step)
     (subst (λ (y : CallId). asked_now c older y ≡ want.Look f w) step may.in_time.asks.asked) (look_told c (entries older) f w result (kept_of (history c (entries older)) (tree_of c e f.group (entries older)) f) (and_second (tree_of c e f.group (entries older)).started _ may.row.gives)) waits
-step_fits c n (says.Grant e call request i m f stamp ss) older d a may step waits = told_fits c n (says.Grant e call request i m f stamp ss) older d a (granted_answer m i f (kept_in c (entries older) e f)) may.in_time.opens.asks.wanted (heard c older d) (by_own call d _ (heard c older d) step)
+step_fits c n (says.Grant e call request i m f stamp ss) older d a may step waits = told_fits c n (says.Grant e call request i m f stamp ss) older d a (granted_answer m i f stamp (kept_in c (entries older) e f)) may.in_time.opens.asks.wanted (heard c older d) (by_own call d _ (heard c older d) step)
     (subst (λ (y : CallId). asked_now c older y ≡ may.in_time.opens.asks.wanted) step may.in_time.opens.asks.asks.asked)
-    (grant_told c may.in_time.opens.asks.wanted may.in_time.opens.asked may.in_time.opens.it m i f (kept_in c (entries older) e f) may.in_time.opens.mode_is may.in_time.opens.asks.opening_is) waits
+    (grant_told c may.in_time.opens.asks.wanted may.in_time.opens.asked may.in_time.opens.it m i f stamp (kept_in c (entries older) e f) (tells_version (history c (entries older)) (tree_of c e f.group (entries older)) call i m f stamp ss may.row.gives) may.in_time.opens.mode_is may.in_time.opens.asks.opening_is) waits
 step_fits c n (says.Refuse e call request i m f why) older d a may step waits = told_fits c n (says.Refuse e call request i m f why) older d a (answer.Refused why) may.in_time.opens.asks.wanted (heard c older d) (by_own call d _ (heard c older d) step)
     (subst (λ (y : CallId). asked_now c older y ≡ may.in_time.opens.asks.wanted) step may.in_time.opens.asks.asks.asked)
     (refused_open c may.in_time.opens.asks.wanted may.in_time.opens.asked may.in_time.opens.it why (refuses_right (history c (entries older)) (tree_of c e f.group (entries older)) call m f why may.row.gives) may.in_time.opens.asks.opening_is) waits

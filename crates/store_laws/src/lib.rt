@@ -17,7 +17,7 @@ pub use laws::{
     pulls_are_of_known_versions, released_instances_end, store_facts_stay,
 };
 pub use script::{
-    descriptors_stand_for_what_was_opened, opens_are_as_said, scripts_end_rightly,
-    untouched_instances_stand_as_granted, whole_looks_are_of_mends,
+    descriptors_stand_for_what_was_opened, opens_are_as_said, reads_open_again_what_they_read,
+    scripts_end_rightly, untouched_instances_stand_as_granted, whole_looks_are_of_mends,
 };
 pub use storage::{operations_come_in_the_trees_room, what_storage_sites_rest_on};

@@ -1,5 +1,5 @@
 //! Laws of the scripts of calls: what is asked and replied by them, where each told line comes as it may.
-ghost use Rattle.std.specs.Prelude.{ℕ, ◌≡◌, false, List, [], ◌∷◌, ◌++◌, Option, Some};
+ghost use Rattle.std.specs.Prelude.{ℕ, ◌≡◌, false, List, [], ◌∷◌, ◌++◌, Option, None, Some};
 ghost use Rattle.locus_ids.specs.declared.config.Config.{Config};
 ghost use Rattle.locus_ids.specs.declared.ids.CallId.{CallId};
 ghost use Rattle.locus_ids.specs.declared.ids.EpochId.{EpochId};
@@ -9,6 +9,7 @@ ghost use Rattle.locus_ids.specs.declared.ids.Serial.{Serial};
 ghost use Rattle.locus_ids.specs.declared.ids.Stamp.{Stamp};
 ghost use Rattle.locus_ids.specs.declared.refusal.Refusal.TheVariants as refusal;
 ghost use Rattle.trace_book.specs.declared.call.Call.TheVariants as call;
+ghost use Rattle.trace_book.specs.declared.descriptor.Descriptor.{Descriptor};
 ghost use Rattle.trace_book.specs.declared.reply.Reply.TheVariants as reply;
 ghost use Rattle.trace_book.specs.declared.operation.Op.{Op};
 ghost use Rattle.trace_book.specs.declared.operation.Op.TheVariants as op;
@@ -22,7 +23,7 @@ ghost use Rattle.wire_messages.specs.declared.body.Opening.TheVariants as how;
 ghost use Rattle.the_run.specs.Worlds.{Line};
 ghost use Rattle.tree_model.specs.declared.accepted.Waiting.{Waiting};
 ghost use Rattle.tree_model.specs.declared.instance.Instance.{Instance};
-ghost use Rattle.tree_model.specs.Calls.{call_named};
+ghost use Rattle.tree_model.specs.Calls.{call_named, opening_of};
 ghost use Rattle.tree_model.specs.Opening.{site_named};
 ghost use Rattle.sync_laws.specs.Opening.{IsPlainOpening};
 ghost use Rattle.tree_laws.specs.Calls.{log};
@@ -33,7 +34,7 @@ ghost use Rattle.tree_laws.specs.Printed.{entries};
 ghost use Rattle.tree_laws.specs.Serials.{asked_now};
 ghost use Rattle.tree_laws.specs.Users.{taken_whole};
 ghost use Rattle.role_steps.specs.Using.{last_opened, mode_asked, no_serial};
-ghost use Rattle.user_laws.specs.Rests.{HasTaken, IsOpenedAs, gives_now};
+ghost use Rattle.user_laws.specs.Rests.{HasTaken, IsOpenedAs, IsReadAgain, gives_now};
 
 /// Where each told line comes as it may, whole contents are looked at by mends alone, of the versions that were kept when they opened
 /// their directory, one after another; and each such look was served the version that it asked.
@@ -62,7 +63,14 @@ pub fn scripts_end_rightly()
 /// answered last is the one that was granted to it last, in the mode that its words ask and in its epoch, and it has it.
 pub fn descriptors_stand_for_what_was_opened()
     ensures { (c : Config) (trace : List Line) (d : CallId) (caller : Waiting) (e : EpochId) (fd : ℕ) → IsFollowed c trace → HasTaken c trace d caller e → gives_now c trace d caller ≡ want.Give (reply.Opened fd) →
-        IsOpenedAs c trace d fd (record { mode = mode_asked caller.words; epoch = e; inst = last_opened no_serial (log trace d) }) }
+        IsOpenedAs c trace d fd (record { mode = mode_asked caller.words; epoch = e; inst = last_opened no_serial (log trace d); steady = None }) }
+{}
+
+/// Where each told line comes as it may, a read that gives what it read, and was granted something, has opened a version again: it has the
+/// instance that was granted to it last, and has taken what it read by it.
+pub fn reads_open_again_what_they_read()
+    ensures { (c : Config) (trace : List Line) (d : CallId) (caller : Waiting) (e : EpochId) (bytes : List ℕ) (x : Descriptor) → IsFollowed c trace → HasTaken c trace d caller e → gives_now c trace d caller ≡ want.Give (reply.Data bytes) → opening_of (entries trace) d ≡ Some x →
+        IsReadAgain c trace d e x }
 {}
 
 /// Where each told line comes as it may, an instance that is open to write, and of which only the emptiness was asked so far, owes no

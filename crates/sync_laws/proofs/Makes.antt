@@ -93,6 +93,7 @@ unnumbered c (want.Open g m) f set k o = absurd (no_make m o.1)
     no_make words.Read e = cc
     no_make words.Write e = cc
     no_make (words.Resolve site) e = cc
+    no_make words.Steady e = cc
 unnumbered c (want.OpenToMend g) f set k o = absurd (no_mend o.1)
   where
     no_mend : how.Make set k ≡ how.Mend → ⊥

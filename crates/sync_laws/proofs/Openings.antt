@@ -87,6 +87,7 @@ asked_mode : (f g : FileId) (m : OpenMode) → f ≡ g → is_open_of (mode_of (
 asked_mode f g words.Read e = file_own f g e
 asked_mode f g words.Write e = file_own f g e
 asked_mode f g (words.Resolve site) e = file_own f g e
+asked_mode f g words.Steady e = file_own f g e
 
 -- what a call asks is this open
 pub opening_asked : (c : Config) (w : Want) (f : FileId) (q : Opening) → IsOpening c w f q → is_open_of (mode_of q) f w ≡ true

@@ -1,5 +1,5 @@
 -- What follows for one who looks up calls and instances: each is the one of its name, and an operation or a release is a step of one call.
-use Rattle.std.proofs.Common.{◌≡◌, ℕ, zero, suc, ◌==◌, ◌&&◌, ◌≤◌, ◌<◌, not, Bool, true, false, cond, List, [], ◌∷◌, length, filter, map, Some, None, refl, sym, ap, subst, ◌∙◌, arith}
+use Rattle.std.proofs.Common.{◌≡◌, ℕ, zero, suc, ◌+◌, ◌==◌, ◌&&◌, ◌≤◌, ◌<◌, not, Bool, true, false, cond, List, [], ◌∷◌, ◌++◌, length, filter, map, Some, None, refl, sym, ap, subst, ◌∙◌, arith}
 use Rattle.std.proofs.lemmas.Bool.Decides.{nat_tests}
 use Rattle.std.specs.List.{find, AllByRecursion}
 use Rattle.locus_ids.specs.declared.ids.EpochId.{EpochId}
@@ -13,7 +13,9 @@ use Rattle.past_laws.proofs.Changing.{only_one, lost_any}
 use Rattle.row_lists.proofs.ByPlace.{kept_finds, none_changed}
 use Rattle.tidy_laws.specs.Epochs.{EpochStands}
 use Rattle.tidy_laws.specs.Calls.{CallsStand}
-use Rattle.tidy_laws.specs.Users.{is_use, is_closing, down_from, HasTurns, UsersStand}
+use Rattle.tidy_laws.specs.Users.{is_use, is_closing, down_from, first_turn, HasTurns, UsersStand}
+use Rattle.std.proofs.lemmas.List.{length-append}
+use Rattle.row_lists.proofs.Reversed.{filter_append}
 use Rattle.tidy_laws.proofs.Lists.{kept_own}
 
 -- ---- calls by their names ----
@@ -104,10 +106,14 @@ down_few n (suc m) = at (suc m == n) refl (down_few n m)
     at false h later = later
 
 pub one_use : (calls : List CallSoFar) (e : EpochId) (x : Instance) (n : ℕ) → HasTurns calls e x → length (filter (is_use_at e x.grant.inst n) calls) ≤ 1
-one_use calls e x n turns = few (length (filter (is_use_at e x.grant.inst n) calls)) (length (filter (λ t. t == n) (down_from x.uses))) (same calls ∙ ap (λ ts. length (filter (λ t. t == n) ts)) turns) (down_few n x.uses)
+one_use calls e x n turns = few (length (filter (is_use_at e x.grant.inst n) calls)) (length (filter (λ t. t == n) of_calls)) (length (filter (λ t. t == n) (first_turn x))) (length (filter (λ t. t == n) (down_from x.uses))) (same calls)
+    (sym (length-append (filter (λ t. t == n) of_calls) (filter (λ t. t == n) (first_turn x))) ∙ (sym (ap length (filter_append (λ t. t == n) of_calls (first_turn x))) ∙ ap (λ ts. length (filter (λ t. t == n) ts)) turns)) (down_few n x.uses)
   where
-    few : (a b : ℕ) → a ≡ b → b ≤ 1 → a ≤ 1
-    few a b h k = omega (arith, h, k)
+    of_calls : List ℕ
+    of_calls = map (λ (k : CallSoFar). k.turn) (filter (is_use e x.grant.inst) calls)
+
+    few : (a b first all : ℕ) → a ≡ b → b + first ≡ all → all ≤ 1 → a ≤ 1
+    few a b first all h sum k = omega (arith, h, sum, k)
 
     same : (ks : List CallSoFar) → length (filter (is_use_at e x.grant.inst n) ks) ≡ length (filter (λ t. t == n) (map (λ (k : CallSoFar). k.turn) (filter (is_use e x.grant.inst) ks)))
     same [] = refl
@@ -134,11 +140,11 @@ ender_is t i x st found k = any_one (is_named i) (λ (y : Instance). ends t.id y
 
 -- it is a step of one call at most
 pub few_act : (sites : List Site) (calls : List CallSoFar) (e : EpochId) (x : Instance) (n : ℕ) → CallsStand sites calls → HasTurns calls e x → length (filter (acts e x n) calls) ≤ 1
-few_act sites calls e x n st turns = at x.named refl
+few_act sites calls e x n st turns = at (x.named && not (x.again && (n == 1))) refl
   where
-    at : (b : Bool) → x.named ≡ b → length (filter (acts e x n) calls) ≤ 1
-    at true h = rw h (one_use calls e x n turns)
-    at false h = rw h (st.once x.grant.call)
+    at : (b : Bool) → (x.named && not (x.again && (n == 1))) ≡ b → length (filter (acts e x n) calls) ≤ 1
+    at true h = rw (h, acts) (one_use calls e x n turns)
+    at false h = rw (h, acts) (st.once x.grant.call)
 
 pub few_end : (p : Past) (e : EpochId) (x : Instance) → CallsStand p.sites p.calls → UsersStand p → length (filter (ends e x) p.calls) ≤ 1
 few_end p e x st users = at x.named refl

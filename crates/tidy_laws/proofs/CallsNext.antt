@@ -1,5 +1,5 @@
 -- Calls stand by each record that may follow: the records one by one.
-use Rattle.std.proofs.Common.{◌≡◌, ℕ, ◌+◌, ◌-◌, ◌==◌, ◌&&◌, ◌≤◌, ◌<◌, inl, inr, not, nat_lt, Bool, true, false, List, [], ◌∷◌, ◌++◌, length, filter, take, Some, None, refl, sym, ap, subst, ◌∙◌, arith}
+use Rattle.std.proofs.Common.{◌≡◌, ℕ, ◌+◌, ◌-◌, ◌==◌, ◌&&◌, ◌≤◌, ◌<◌, inl, inr, not, nat_lt, Bool, true, false, cond, List, [], ◌∷◌, ◌++◌, length, filter, take, Some, None, refl, sym, ap, subst, ◌∙◌, arith}
 use Rattle.std.proofs.lemmas.Bool.Decides.{nat_tests}
 use Rattle.std.specs.List.{list_any, AllByRecursion}
 use Rattle.locus_ids.specs.declared.config.Config.{Config}
@@ -12,9 +12,11 @@ use Rattle.commit_graph.specs.Versions.{same_file}
 use Rattle.call_rules.specs.declared.answer.Answer.{Answer}
 use Rattle.call_rules.specs.declared.answer.Answer.TheVariants.{Refused}
 use Rattle.call_rules.specs.Descriptors.{beginning}
+use Rattle.call_rules.specs.Opening.{is_steady}
+use Rattle.tree_model.specs.Calls.{version_at}
 use Rattle.lawful_trace.specs.Progress.{granted_answer, outcome_answer}
 use Rattle.promises.specs.Past.{Past, Site, CallSoFar, Copy, nothing_yet, site_at, epoch_at, kept_in, is_named, table}
-use Rattle.promises.specs.After.{after, told_by, change, is_id, is_actor, is_ender, is_freed, begun_call, look_answer, taken_by, with_epoch}
+use Rattle.promises.specs.After.{after, told_by, change, is_id, is_actor, is_ender, is_freed, begun_call, look_answer, taken_by, with_epoch, held_again}
 use Rattle.promises.specs.Rows.{may_follow, may_boot, is_there, waits_at}
 use Rattle.past_laws.proofs.Names.{false_true, both_parts, number_eq, call_eq}
 use Rattle.past_laws.proofs.CallsLists.{each_more}
@@ -152,7 +154,7 @@ calls_next c p (rec.Join site e members) tidy may = subst (λ (ks : List CallSoF
 calls_next c p (rec.Start e group copies) tidy may = tidy.calls
 calls_next c p (rec.Accept site process id words) tidy may = accepted_call c p site process words (begun_call p site process id words (beginning (table p site process) (site_at p site).epoch id words)) (accepts c p site process id words tidy.sites may) refl tidy.calls
 calls_next c p (rec.Look e id request f w result) tidy may = answered_calls p p.sites (is_id id) (λ k. take (request - 1) k.answers ++ look_answer p f w result ∷ []) (kept_so p.sites) tidy.calls
-calls_next c p (rec.Grant e id request i m f stamp ss) tidy may = calls_changed p.sites p.sites p.calls (is_id id) (λ (k : CallSoFar). record k { granted = Some (record { mode = m; epoch = e; inst = i }); answers = k.answers ++ granted_answer m i f (kept_in p (epoch_at p e) f) ∷ [] }) (kept_so p.sites) (record { name = λ k. refl; process = λ k. refl; waits = λ k h. h }) tidy.calls
+calls_next c p (rec.Grant e id request i m f stamp ss) tidy may = calls_changed p.sites p.sites p.calls (is_id id) (λ (k : CallSoFar). record k { granted = Some (record { mode = m; epoch = e; inst = i; steady = cond (is_steady k.words) (version_at f stamp) None }); answers = k.answers ++ granted_answer m i f stamp (kept_in p (epoch_at p e) f) ∷ [] }) (kept_so p.sites) (record { name = λ k. refl; process = λ k. refl; waits = λ k h. h }) tidy.calls
 calls_next c p (rec.Refuse e id request i m f why) tidy may = answered_calls p p.sites (is_id id) (λ k. k.answers ++ Refused why ∷ []) (kept_so p.sites) tidy.calls
 calls_next c p (rec.Act e i n o result) tidy may = answered_calls p p.sites (is_actor (epoch_at p e) i n) (λ k. k.answers ++ outcome_answer result ∷ []) (kept_so p.sites) tidy.calls
 calls_next c p (rec.Commit f site stamp parents content) tidy may = calls_same p.sites _ p.calls (site_changed site (λ s. record s { held = record { file = f; stamp = stamp } ∷ filter (λ (v : Copy). not (same_file v.file f)) s.held }) p.sites (λ s. refl) (λ s. refl) (λ s. refl) (λ s. refl)) tidy.calls
@@ -161,8 +163,8 @@ calls_next c p (rec.Adopt f site stamp) tidy may = calls_same p.sites _ p.calls 
 calls_next c p (rec.Answer site process id r) tidy may = of (answers_one c p site process id r tidy.calls may)
   where
     of : AnswersOne c p site process id r → CallsStand (told_by c (rec.Answer site process id r) p).sites (told_by c (rec.Answer site process id r) p).calls
-    of it = subst (λ (q : Past). CallsStand q.sites q.calls) (sym it.told) (calls_changed p.sites (change (has_number it.call.id.site) (λ s. record s { descriptors = taken_by r it.call ++ s.descriptors }) p.sites) p.calls (is_id it.call.id) (λ (k : CallSoFar). record k { waits = false })
-        (site_changed it.call.id.site (λ s. record s { descriptors = taken_by r it.call ++ s.descriptors }) p.sites (λ s. refl) (λ s. refl) (λ s. refl) (λ s. refl)) no_more tidy.calls)
+    of it = subst (λ (q : Past). CallsStand q.sites q.calls) (sym it.told) (calls_changed p.sites (change (has_number it.call.id.site) (λ s. record s { descriptors = taken_by r it.call ++ held_again r it.call s.descriptors }) p.sites) p.calls (is_id it.call.id) (λ (k : CallSoFar). record k { waits = false })
+        (site_changed it.call.id.site (λ s. record s { descriptors = taken_by r it.call ++ held_again r it.call s.descriptors }) p.sites (λ s. refl) (λ s. refl) (λ s. refl) (λ s. refl)) no_more tidy.calls)
 calls_next c p (rec.Packet number from to kind) tidy may = tidy.calls
 calls_next c p rec.Void tidy may = tidy.calls
 calls_next c p rec.Budget tidy may = tidy.calls

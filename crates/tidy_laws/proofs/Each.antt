@@ -8,11 +8,15 @@ use Rattle.commit_graph.specs.Versions.{same_file}
 use Rattle.locus_ids.specs.declared.ids.EpochId.{EpochId}
 use Rattle.locus_ids.specs.declared.ids.FileId.{FileId}
 use Rattle.locus_ids.specs.declared.ids.Stamp.{Stamp}
+use Rattle.trace_book.specs.declared.descriptor.Descriptor.{Descriptor}
+use Rattle.trace_book.specs.declared.descriptor.OneVersion.{OneVersion}
 use Rattle.trace_book.specs.declared.record.Record.{Record}
 use Rattle.trace_book.specs.declared.record.Record.TheVariants as rec
 use Rattle.call_rules.specs.declared.answer.Answer.{Answer}
 use Rattle.call_rules.specs.declared.answer.Answer.TheVariants.{Refused}
 use Rattle.call_rules.specs.Descriptors.{beginning}
+use Rattle.call_rules.specs.Opening.{is_steady}
+use Rattle.tree_model.specs.Calls.{version_at}
 use Rattle.lawful_trace.specs.Progress.{granted_answer, outcome_answer}
 use Rattle.file_effects.specs.Works.{committed}
 use Rattle.file_effects.specs.declared.work.Work.{Work}
@@ -22,13 +26,16 @@ use Rattle.tree_model.specs.Epochs.{is_in}
 use Rattle.tree_model.specs.State.{is_make}
 use Rattle.promises.specs.Tree.{work_after}
 use Rattle.promises.specs.Past.{Past, Site, Epoch, CallSoFar, Instance, Left, Make, Copy, Named, site_at, epoch_at, unformed, kept_in, is_named, is_writer, table}
-use Rattle.promises.specs.After.{after, told_by, change, is_id, is_epoch, is_actor, is_ender, is_freed, begun_call, look_answer, close_answer, taken_by, with_epoch, with_all_known, is_home_of, uses, opened_as, process_of, acted, begun_make, released, left_unmended}
+use Rattle.promises.specs.After.{after, told_by, change, is_id, is_epoch, is_actor, is_ender, is_freed, begun_call, look_answer, close_answer, taken_by, with_epoch, with_all_known, is_home_of, uses, opened_as, process_of, acted, begun_make, released, left_unmended, named_by, once_named, held_again}
 use Rattle.promises.specs.Rows.{may_follow}
 use Rattle.past_laws.proofs.Names.{number_eq, call_eq}
-use Rattle.past_laws.proofs.CallsLists.{each_both, each_changed}
+use Rattle.row_lists.proofs.Truth.{true_false}
+use Rattle.past_laws.proofs.CallsLists.{each_both, each_changed, each_found}
 use Rattle.past_laws.proofs.SitesSay.{has_number, change_twice}
+use Rattle.tidy_laws.specs.Ties.{CallTied}
 use Rattle.tidy_laws.specs.Tidy.{IsTidy}
 use Rattle.tidy_laws.proofs.Epochs.{epochs_are}
+use Rattle.tidy_laws.proofs.Naming.{epochs_own, fresh, IsFresh, takes_there}
 use Rattle.tidy_laws.proofs.Answers.{AnswersOne, answers_one, closed_as, epoch_sites, epoch_calls}
 
 changed_each : {X : Type 0} (P : X → Type 0) (which : X → Bool) (f : X → X) → ((x : X) → which x ≡ true → P x → P (f x)) → (xs : List X) → AllByRecursion P xs → AllByRecursion P (change which f xs)
@@ -44,7 +51,7 @@ SiteSteps P c p (rec.Join site e members) = (s : Site) → s.number ≡ site →
 SiteSteps P c p (rec.Accept site process id words) = (s : Site) → P s → P (record s { accepted = s.accepted + 1; descriptors = filter (λ d. not (is_freed words process d)) s.descriptors })
 SiteSteps P c p (rec.Commit f site stamp parents content) = (s : Site) (vs : List Copy) → P s → P (record s { held = vs })
 SiteSteps P c p (rec.Adopt f site stamp) = (s : Site) (vs : List Copy) → P s → P (record s { held = vs })
-SiteSteps P c p (rec.Answer site process id r) = (it : AnswersOne c p site process id r) (s : Site) → P s → P (record s { descriptors = taken_by r it.call ++ s.descriptors })
+SiteSteps P c p (rec.Answer site process id r) = (it : AnswersOne c p site process id r) (s : Site) → P s → P (record s { descriptors = taken_by r it.call ++ held_again r it.call s.descriptors })
 SiteSteps P c p _ = Unit {0}
 
 has_now_each : (P : Site → Type 0) (site : ℕ) (new : Copy) (sites : List Site) → ((s : Site) (vs : List Copy) → P s → P (record s { held = vs })) → AllByRecursion P sites
@@ -68,7 +75,7 @@ sites_each P c p (rec.Adopt f site stamp) tidy may steps h = has_now_each P site
 sites_each P c p (rec.Answer site process id r) tidy may steps h = of (answers_one c p site process id r tidy.calls may)
   where
     of : AnswersOne c p site process id r → AllByRecursion P (told_by c (rec.Answer site process id r) p).sites
-    of it = subst (λ (q : Past). AllByRecursion P q.sites) (sym it.told) (changed_each P (has_number it.call.id.site) (λ s. record s { descriptors = taken_by r it.call ++ s.descriptors })
+    of it = subst (λ (q : Past). AllByRecursion P q.sites) (sym it.told) (changed_each P (has_number it.call.id.site) (λ s. record s { descriptors = taken_by r it.call ++ held_again r it.call s.descriptors })
         (λ s e k. steps it s k) p.sites h)
 sites_each P c p (rec.Packet number from to kind) tidy may steps h = h
 sites_each P c p rec.Void tidy may steps h = h
@@ -80,7 +87,7 @@ abbrev pub CallSteps : (CallSoFar → Type 0) → Past → Record → Type 0
 CallSteps P p (rec.Stopped site cause) = (k : CallSoFar) → P k → P (record k { waits = false })
 CallSteps P p (rec.Accept site process id words) = P (begun_call p site process id words (beginning (table p site process) (site_at p site).epoch id words))
 CallSteps P p (rec.Look e id request f w result) = (k : CallSoFar) (answers : List Answer) → P k → P (record k { answers = answers })
-CallSteps P p (rec.Grant e id request i m f stamp ss) = (k : CallSoFar) (answers : List Answer) → k.id ≡ id → P k → P (record k { granted = Some (record { mode = m; epoch = e; inst = i }); answers = answers })
+CallSteps P p (rec.Grant e id request i m f stamp ss) = (k : CallSoFar) (steady : Option OneVersion) (answers : List Answer) → k.id ≡ id → P k → P (record k { granted = Some (record { mode = m; epoch = e; inst = i; steady = steady }); answers = answers })
 CallSteps P p (rec.Refuse e id request i m f why) = (k : CallSoFar) (answers : List Answer) → P k → P (record k { answers = answers })
 CallSteps P p (rec.Act e i n o result) = (k : CallSoFar) (answers : List Answer) → P k → P (record k { answers = answers })
 CallSteps P p (rec.Release e i f stamp) = (k : CallSoFar) (answers : List Answer) → P k → P (record k { answers = answers })
@@ -103,8 +110,8 @@ calls_each P c p (rec.Join site e members) tidy may steps h = subst (AllByRecurs
 calls_each P c p (rec.Start e group copies) tidy may steps h = h
 calls_each P c p (rec.Accept site process id words) tidy may steps h = (steps, h)
 calls_each P c p (rec.Look e id request f w result) tidy may steps h = answered_each P (is_id id) (λ k. take (request - 1) k.answers ++ look_answer p f w result ∷ []) p.calls steps h
-calls_each P c p (rec.Grant e id request i m f stamp ss) tidy may steps h = changed_each P (is_id id) (λ (k : CallSoFar). record k { granted = Some (record { mode = m; epoch = e; inst = i }); answers = k.answers ++ granted_answer m i f (kept_in p (epoch_at p e) f) ∷ [] })
-    (λ k t s. steps k (k.answers ++ granted_answer m i f (kept_in p (epoch_at p e) f) ∷ []) (call_eq k.id id t) s) p.calls h
+calls_each P c p (rec.Grant e id request i m f stamp ss) tidy may steps h = changed_each P (is_id id) (λ (k : CallSoFar). record k { granted = Some (record { mode = m; epoch = e; inst = i; steady = cond (is_steady k.words) (version_at f stamp) None }); answers = k.answers ++ granted_answer m i f stamp (kept_in p (epoch_at p e) f) ∷ [] })
+    (λ k t s. steps k (cond (is_steady k.words) (version_at f stamp) None) (k.answers ++ granted_answer m i f stamp (kept_in p (epoch_at p e) f) ∷ []) (call_eq k.id id t) s) p.calls h
 calls_each P c p (rec.Refuse e id request i m f why) tidy may steps h = answered_each P (is_id id) (λ k. k.answers ++ Refused why ∷ []) p.calls steps h
 calls_each P c p (rec.Act e i n o result) tidy may steps h = answered_each P (is_actor (epoch_at p e) i n) (λ k. k.answers ++ outcome_answer result ∷ []) p.calls steps h
 calls_each P c p (rec.Commit f site stamp parents content) tidy may steps h = h
@@ -131,7 +138,7 @@ EpochSteps P p (rec.Refuse e id request i m f why) = (t : Epoch) (makes : List M
 EpochSteps P p (rec.Act e i n o result) = (t : Epoch) (which : Instance → Bool) (work : Instance → Work) (makes : List Make) → P t → P (record t { opened = change which (λ (x : Instance). record x { work = work x }) t.opened; makes = makes })
 EpochSteps P p (rec.Commit f site stamp parents content) = (t : Epoch) (which : Instance → Bool) (work : Instance → Work) → P t → P (record t { opened = change which (λ (x : Instance). record x { work = work x }) t.opened })
 EpochSteps P p (rec.Release e i f stamp) = (t : Epoch) (known : List Copy) (which : Instance → Bool) (makes : List Make) → P t → P (record t { known = known; opened = filter which t.opened; makes = makes })
-EpochSteps P p (rec.Answer site process id r) = (t : Epoch) (which : Instance → Bool) (unmended : List FileId) → P t → P (record t { opened = change which (λ (x : Instance). record x { named = true }) t.opened; unmended = unmended })
+EpochSteps P p (rec.Answer site process id r) = (t : Epoch) (which : Instance → Bool) (unmended : List FileId) → AllByRecursion (λ (x : Instance). which x ≡ true → IsFresh p.calls t.id id x) t.opened → P t → P (record t { opened = change which (once_named r) t.opened; unmended = unmended })
 EpochSteps P p _ = Unit {0}
 
 left_each : (P : Epoch → Type 0) (p : Past) (site : ℕ) → ((t : Epoch) (left : List Left) → P t → P (record t { left = left })) → AllByRecursion P p.epochs
@@ -171,13 +178,20 @@ epochs_each P c p (rec.Adopt f site stamp) tidy may steps h = h
 epochs_each P c p (rec.Answer site process id r) tidy may steps h = of (answers_one c p site process id r tidy.calls may)
   where
     of : AnswersOne c p site process id r → AllByRecursion P (told_by c (rec.Answer site process id r) p).epochs
-    of it = subst (λ (q : Past). AllByRecursion P q.epochs) (sym it.told) (changed_each P (λ t. true) answer (λ t w k. steps t (takes t) (cond (is_in it.call.epoch t.id) (left_unmended r it.call.words) [] ++ t.unmended) k) p.epochs h)
+    of it = subst (λ (q : Past). AllByRecursion P q.epochs) (sym it.told) (each_changed Own P (λ t. true) answer (λ t w k. steps t (takes t) (cond (is_in it.call.epoch t.id) (left_unmended r it.call.words) [] ++ t.unmended) (fresh c p site process id r tidy it tied t k.0) k.1) (λ t w k. true_false w) p.epochs
+        (each_both (λ (t : Epoch). epoch_at p t.id ≡ t) P Own (λ t a b. (a, b)) p.epochs (epochs_own p tidy.epochs) h))
       where
+        Own : Epoch → Type 0
+        Own t = (epoch_at p t.id ≡ t) × P t
+
+        tied : CallTied p.epochs it.call
+        tied = (each_found (CallTied p.epochs) (is_id id) p.calls it.call it.found tidy.ties.calls).0
+
         takes : Epoch → Instance → Bool
-        takes t x = list_any (λ (d : Named). is_in (Some d.names.epoch) t.id && is_named d.names.inst x) (taken_by r it.call)
+        takes t x = takes_there (named_by r it.call) t x
 
         answer : Epoch → Epoch
-        answer t = record t { opened = change (takes t) (λ (x : Instance). record x { named = true }) t.opened; unmended = cond (is_in it.call.epoch t.id) (left_unmended r it.call.words) [] ++ t.unmended }
+        answer t = record t { opened = change (takes t) (once_named r) t.opened; unmended = cond (is_in it.call.epoch t.id) (left_unmended r it.call.words) [] ++ t.unmended }
 epochs_each P c p (rec.Packet number from to kind) tidy may steps h = h
 epochs_each P c p rec.Void tidy may steps h = h
 epochs_each P c p rec.Budget tidy may steps h = h

@@ -6,9 +6,11 @@ use Rattle.locus_ids.specs.declared.ids.EpochId.{EpochId}
 use Rattle.locus_ids.specs.declared.ids.FileId.{FileId}
 use Rattle.locus_ids.specs.declared.ids.Serial.{Serial}
 use Rattle.trace_book.specs.Same.{same_epoch, same_serial}
+use Rattle.trace_book.specs.declared.reply.Reply.{Reply}
+use Rattle.trace_book.specs.declared.reply.Reply.TheVariants as reply
 use Rattle.tree_model.specs.declared.instance.Granted.{Granted}
 use Rattle.promises.specs.Past.{Past, Epoch, Instance, Left, Make, Copy, epoch_at, unformed, is_named, is_number}
-use Rattle.promises.specs.After.{change, is_epoch, with_all_known}
+use Rattle.promises.specs.After.{change, is_epoch, with_all_known, once_named}
 use Rattle.past_laws.proofs.Names.{false_true, number_eq, serial_eq, serial_own, serial_test}
 use Rattle.past_laws.proofs.CallsLists.{each_more, each_both, each_changed, each_filter, each_added, many_changed, many_left}
 use Rattle.past_laws.proofs.TreesKnown.{all_known_ascends}
@@ -46,6 +48,15 @@ epoch_moved p e f keep again st = record {
 }
 
 -- instances that are changed, and what has nothing to do with grants
+-- what a reply makes of an instance that it names
+pub once_grant : (r : Reply) (x : Instance) → (once_named r x).grant ≡ x.grant
+once_grant (reply.Data bytes) x = refl
+once_grant _ x = refl
+
+pub once_is_named : (r : Reply) (x : Instance) → (once_named r x).named ≡ true
+once_is_named (reply.Data bytes) x = refl
+once_is_named _ x = refl
+
 pub instances_moved : (t : Epoch) (which : Instance → Bool) (f : Instance → Instance) (started : List ℕ) (makes : List Make) (unmended : List FileId) → ((x : Instance) → (f x).grant ≡ x.grant) → EpochStands t → EpochStands (record t { opened = change which f t.opened; started = started; makes = makes; unmended = unmended })
 instances_moved t which f started makes unmended keep st = record {
   grants = st.grants;

@@ -12,6 +12,7 @@ use Rattle.locus_ids.specs.declared.ids.Serial.{Serial}
 use Rattle.locus_ids.specs.declared.ids.Stamp.{Stamp}
 use Rattle.file_effects.specs.Works.{committed}
 use Rattle.trace_book.specs.Same.{same_call}
+use Rattle.trace_book.specs.declared.descriptor.Descriptor.{Descriptor}
 use Rattle.trace_book.specs.declared.record.Record.{Record}
 use Rattle.trace_book.specs.declared.record.Record.TheVariants as rec
 use Rattle.tree_model.specs.declared.instance.Granted.{Granted}
@@ -19,7 +20,7 @@ use Rattle.tree_model.specs.Epochs.{is_in}
 use Rattle.tree_model.specs.State.{is_make}
 use Rattle.tree_model.specs.Working.{list_of}
 use Rattle.promises.specs.Past.{Past, Epoch, CallSoFar, Instance, Make, Named, nothing_yet, site_at, epoch_at, unformed, is_named, is_number, is_writer, table}
-use Rattle.promises.specs.After.{after, told_by, change, is_epoch, is_home_of, with_epoch, with_all_known, acted, begun_make, released, uses, begun_call, taken_by, left_unmended, opened_as, process_of, is_ender}
+use Rattle.promises.specs.After.{after, told_by, change, is_epoch, is_home_of, with_epoch, with_all_known, acted, begun_make, released, uses, begun_call, taken_by, left_unmended, opened_as, process_of, is_ender, named_by, once_named}
 use Rattle.promises.specs.Tree.{work_after}
 use Rattle.promises.specs.Rows.{may_follow, may_join, may_grant, is_synced}
 use Rattle.call_rules.specs.Descriptors.{beginning}
@@ -31,7 +32,7 @@ use Rattle.tidy_laws.specs.Epochs.{EpochsStand, is_grant}
 use Rattle.tidy_laws.specs.Tidy.{IsTidy}
 use Rattle.tidy_laws.proofs.Sites.{site_stands}
 use Rattle.tidy_laws.proofs.Answers.{AnswersOne, answers_one, closed_as}
-use Rattle.tidy_laws.proofs.Epochs.{unformed_stands, epochs_moved, epoch_moved, instances_moved, others_moved, left_epoch, joined_epoch, granted_epoch, released_epoch}
+use Rattle.tidy_laws.proofs.Epochs.{unformed_stands, epochs_moved, epoch_moved, instances_moved, others_moved, left_epoch, joined_epoch, granted_epoch, released_epoch, once_grant}
 
 -- an epoch that is listed from its first join on
 pub with_epoch_stands : (e : EpochId) (members : Members) (p : Past) → EpochsStand p.epochs → EpochsStand (with_epoch e members p).epochs
@@ -92,13 +93,13 @@ epochs_next c p (rec.Answer site process id r) tidy may = of (answers_one c p si
   where
     of : AnswersOne c p site process id r → EpochsStand (told_by c (rec.Answer site process id r) p).epochs
     of it = subst (λ (q : Past). EpochsStand q.epochs) (sym it.told) (epochs_moved p.epochs (λ t. true) answer (λ t. refl)
-        (λ t k. instances_moved t (takes t) (λ (x : Instance). record x { named = true }) t.started t.makes (cond (is_in it.call.epoch t.id) (left_unmended r it.call.words) [] ++ t.unmended) (λ x. refl) k) tidy.epochs)
+        (λ t k. instances_moved t (takes t) (once_named r) t.started t.makes (cond (is_in it.call.epoch t.id) (left_unmended r it.call.words) [] ++ t.unmended) (once_grant r) k) tidy.epochs)
       where
         takes : Epoch → Instance → Bool
-        takes t x = list_any (λ (d : Named). is_in (Some d.names.epoch) t.id && is_named d.names.inst x) (taken_by r it.call)
+        takes t x = list_any (λ (d : Descriptor). is_in (Some d.epoch) t.id && is_named d.inst x) (named_by r it.call)
 
         answer : Epoch → Epoch
-        answer t = record t { opened = change (takes t) (λ (x : Instance). record x { named = true }) t.opened; unmended = cond (is_in it.call.epoch t.id) (left_unmended r it.call.words) [] ++ t.unmended }
+        answer t = record t { opened = change (takes t) (once_named r) t.opened; unmended = cond (is_in it.call.epoch t.id) (left_unmended r it.call.words) [] ++ t.unmended }
 epochs_next c p (rec.Packet number from to kind) tidy may = tidy.epochs
 epochs_next c p rec.Void tidy may = tidy.epochs
 epochs_next c p rec.Budget tidy may = tidy.epochs

@@ -20,7 +20,7 @@ use Rattle.trace_book.specs.declared.record.Record.TheVariants as rec
 use Rattle.call_rules.specs.Descriptors.{beginning}
 use Rattle.tree_model.specs.Working.{list_of}
 use Rattle.promises.specs.Past.{Past, Site, CallSoFar, Copy, Named, site_at, epoch_at, table, is_on, is_close, is_named}
-use Rattle.promises.specs.After.{after, change, is_freed, begun_call, is_ender, taken_by}
+use Rattle.promises.specs.After.{after, change, is_freed, begun_call, is_ender, taken_by, held_again, is_reading}
 use Rattle.promises.specs.Rows.{may_follow}
 use Rattle.past_laws.proofs.Names.{false_true, none_some, some_same, both_parts, epoch_eq, epoch_test, serial_eq, serial_test}
 use Rattle.past_laws.proofs.CallsLists.{each_more, many_left}
@@ -32,10 +32,11 @@ use Rattle.past_laws.proofs.TreesLists.{length_map}
 use Rattle.past_laws.proofs.SitesSay.{has_number}
 use Rattle.plain_facts.proofs.Tests.{and_true}
 use Rattle.tidy_laws.specs.Calls.{site_of}
-use Rattle.tidy_laws.specs.Users.{is_closing, describes, described, handles}
+use Rattle.tidy_laws.specs.Users.{is_closing, is_fd, describes, described, handles, numbers}
 use Rattle.tidy_laws.specs.Tidy.{IsTidy}
 use Rattle.tidy_laws.proofs.Sites.{sites_are, one_site}
 use Rattle.tidy_laws.proofs.Answers.{AnswersOne, closed_as, epoch_sites}
+use Rattle.tidy_laws.proofs.Numbers.{numbers_split, freed_fewer, freed_one, is_of, taken, answer_numbers}
 use Rattle.tidy_laws.proofs.Beginnings.{BeginsOn, begins_so}
 use Rattle.tidy_laws.proofs.Calls.{accepts}
 use Rattle.tidy_laws.proofs.Turns.{turns_last, IsNoAccept}
@@ -98,7 +99,7 @@ closers_same e i c p r tidy may n = sym (length_map (λ (k : CallSoFar). k.turn)
 -- ---- descriptors ----
 
 abbrev named_at : EpochId → Serial → Site → ℕ
-named_at e i s = length (filter (describes e i) s.descriptors)
+named_at e i s = numbers e i s.descriptors
 
 abbrev pub IsNoAnswer : Record → Type 0
 IsNoAnswer (rec.Answer site process id r) = ⊥
@@ -106,9 +107,6 @@ IsNoAnswer _ = Unit {0}
 
 described_kept : (e : EpochId) (i : Serial) (n : ℕ) (f : Site → Site) (sites : List Site) → ((s : Site) → named_at e i (f s) ≤ named_at e i s) → described e i (change (has_number n) f sites) ≤ described e i sites
 described_kept e i n f sites less = sum_less (named_at e i) (has_number n) f less sites
-
-freed_less : (e : EpochId) (i : Serial) (words : Call) (process : ℕ) (s : Site) → length (filter (describes e i) (filter (λ d. not (is_freed words process d)) s.descriptors)) ≤ length (filter (describes e i) s.descriptors)
-freed_less e i words process s = many_left (describes e i) (λ d. not (is_freed words process d)) s.descriptors
 
 through : (a b d : ℕ) → a ≤ b → b ≤ d → a ≤ d
 through a b d h k = omega (arith, h, k)
@@ -121,7 +119,7 @@ described_fewer e i c p (rec.Stopped site cause) n = through (described e i (aft
 described_fewer e i c p (rec.Leave site d) n = described_kept e i site (λ s. record s { epoch = None }) p.sites (λ s. at_most_self (named_at e i s))
 described_fewer e i c p (rec.Join site d members) n = subst (λ ss. described e i (change (has_number site) (λ s. record s { epoch = Some d; joined = Some d }) ss) ≤ described e i p.sites) (sym (epoch_sites d members p)) (described_kept e i site (λ s. record s { epoch = Some d; joined = Some d }) p.sites (λ s. at_most_self (named_at e i s)))
 described_fewer e i c p (rec.Start d group copies) n = at_most_self (described e i p.sites)
-described_fewer e i c p (rec.Accept site process id words) n = described_kept e i site (λ s. record s { accepted = s.accepted + 1; descriptors = filter (λ d. not (is_freed words process d)) s.descriptors }) p.sites (freed_less e i words process)
+described_fewer e i c p (rec.Accept site process id words) n = described_kept e i site (λ s. record s { accepted = s.accepted + 1; descriptors = filter (λ d. not (is_freed words process d)) s.descriptors }) p.sites (λ s. freed_fewer e i words process s.descriptors)
 described_fewer e i c p (rec.Look d id request f w result) n = at_most_self (described e i p.sites)
 described_fewer e i c p (rec.Grant d id request j m f stamp ss) n = at_most_self (described e i p.sites)
 described_fewer e i c p (rec.Refuse d id request j m f why) n = at_most_self (described e i p.sites)
@@ -136,35 +134,18 @@ described_fewer e i c p rec.Budget n = at_most_self (described e i p.sites)
 
 -- ---- a close ----
 
--- one that passes is taken out
-one_out : {X : Type 0} (q out : X → Bool) (xs : List X) → list_any (λ x. q x && out x) xs ≡ true → length (filter q (filter (λ x. not (out x)) xs)) + 1 ≤ length (filter q xs)
-one_out q out [] h = false_true h
-one_out {X} q out (x ∷ xs) h = at (one_out q out xs) (q x) (out x) refl refl h
-  where
-    gone : length (filter q (filter (λ y. not (out y)) xs)) + 1 ≤ suc (length (filter q xs))
-    gone = omega (arith, many_left q (λ y. not (out y)) xs)
-
-    both_more : (a b : ℕ) → a + 1 ≤ b → suc a + 1 ≤ suc b
-    both_more a b k = omega (arith, k)
-
-    at : (list_any (λ y. q y && out y) xs ≡ true → length (filter q (filter (λ y. not (out y)) xs)) + 1 ≤ length (filter q xs)) → (a b : Bool) → q x ≡ a → out x ≡ b → ((a && b) || list_any (λ y. q y && out y) xs) ≡ true
-        → length (filter q (filter (λ y. not (out y)) (x ∷ xs))) + 1 ≤ length (filter q (x ∷ xs))
-    at later true true e g k = rw (e, g) gone
-    at later true false e g k = rw (g, e) (both_more (length (filter q (filter (λ y. not (out y)) xs))) (length (filter q xs)) (later k))
-    at later false true e g k = rw (e, g) (later k)
-    at later false false e g k = rw (g, e) (later k)
-
 -- the descriptor that a close frees is one of the instance
-close_frees : (e : EpochId) (i : Serial) (p : Past) (site process : ℕ) (words : Call) → BeginsOn (table p site process) (site_at p site).epoch words e i → is_close words ≡ true → length (filter (describes e i) (filter (λ d. not (is_freed words process d)) (site_at p site).descriptors)) + 1 ≤ length (filter (describes e i) (site_at p site).descriptors)
-close_frees e i p site process words it closes = one_out (describes e i) (is_freed words process) (site_at p site).descriptors (at (find (λ (d : Named). (d.process == process) && (d.fd == it.fd)) (site_at p site).descriptors) refl it.found)
+close_frees : (e : EpochId) (i : Serial) (p : Past) (site process : ℕ) (words : Call) → BeginsOn (table p site process) (site_at p site).epoch words e i → is_close words ≡ true → numbers e i (filter (λ d. not (is_freed words process d)) (site_at p site).descriptors) + 1 ≤ numbers e i (site_at p site).descriptors
+close_frees e i p site process words it closes = subst (λ (w : Call). numbers e i (filter (λ d. not (is_freed w process d)) (site_at p site).descriptors) + 1 ≤ numbers e i (site_at p site).descriptors) (sym (it.closes closes))
+    (freed_one e i process it.fd (site_at p site).descriptors (at (find (is_fd process it.fd) (site_at p site).descriptors) refl it.found))
   where
-    at : (o : Option Named) → find (λ (d : Named). (d.process == process) && (d.fd == it.fd)) (site_at p site).descriptors ≡ o → option_map (λ (d : Named). d.names) o ≡ Some it.names → list_any (λ d. describes e i d && is_freed words process d) (site_at p site).descriptors ≡ true
+    at : (o : Option Named) → find (is_fd process it.fd) (site_at p site).descriptors ≡ o → option_map (λ (d : Named). d.names) o ≡ Some it.names → list_any (λ d. describes e i d && is_fd process it.fd d) (site_at p site).descriptors ≡ true
     at None f g = none_some it.names g
     at (Some d) f g = (let is : d.names ≡ it.names = some_same d.names it.names g in
-        found_any (λ (x : Named). (x.process == process) && (x.fd == it.fd)) (λ x. describes e i x && is_freed words process x) (site_at p site).descriptors d f
-        (and_true (describes e i d) (is_freed words process d)
+        found_any (is_fd process it.fd) (λ x. describes e i x && is_fd process it.fd x) (site_at p site).descriptors d f
+        (and_true (describes e i d) (is_fd process it.fd d)
         (and_true (same_epoch d.names.epoch e) (same_serial d.names.inst i) (epoch_test d.names.epoch e (ap (λ (x : Descriptor). x.epoch) is ∙ it.epoch_is)) (serial_test d.names.inst i (ap (λ (x : Descriptor). x.inst) is ∙ it.inst_is)))
-        (subst (λ (w : Call). is_freed w process d ≡ true) (sym (it.closes closes)) (found_passes (λ (x : Named). (x.process == process) && (x.fd == it.fd)) (site_at p site).descriptors d f))))
+        (found_passes (is_fd process it.fd) (site_at p site).descriptors d f)))
 
 -- ---- accepted calls ----
 
@@ -181,9 +162,9 @@ accept_fewer e i c p site process id words tidy may = at (is_on k.begins e i) (i
     fewer = described_fewer e i c p (rec.Accept site process id words) tt
 
     drops : is_on k.begins e i ≡ true → is_close words ≡ true → described e i new + 1 ≤ described e i p.sites
-    drops on closes = sum_drops (named_at e i) (has_number site) (λ s. record s { accepted = s.accepted + 1; descriptors = filter (λ d. not (is_freed words process d)) s.descriptors }) (freed_less e i words process) p.sites
-        (each_more (λ (s : Site). has_number site s ≡ true → site_of p.sites site ≡ s) (λ (s : Site). has_number site s ≡ true → length (filter (describes e i) (filter (λ d. not (is_freed words process d)) s.descriptors)) + 1 ≤ named_at e i s)
-        (λ s h g. subst (λ (x : Site). length (filter (describes e i) (filter (λ d. not (is_freed words process d)) x.descriptors)) + 1 ≤ length (filter (describes e i) x.descriptors)) (h g) (close_frees e i p site process words (begins_so (table p site process) (site_at p site).epoch id words e i on) closes))
+    drops on closes = sum_drops (named_at e i) (has_number site) (λ s. record s { accepted = s.accepted + 1; descriptors = filter (λ d. not (is_freed words process d)) s.descriptors }) (λ s. freed_fewer e i words process s.descriptors) p.sites
+        (each_more (λ (s : Site). has_number site s ≡ true → site_of p.sites site ≡ s) (λ (s : Site). has_number site s ≡ true → numbers e i (filter (λ d. not (is_freed words process d)) s.descriptors) + 1 ≤ named_at e i s)
+        (λ s h g. subst (λ (x : Site). numbers e i (filter (λ d. not (is_freed words process d)) x.descriptors) + 1 ≤ numbers e i x.descriptors) (h g) (close_frees e i p site process words (begins_so (table p site process) (site_at p site).epoch id words e i on) closes))
         p.sites (sites_are c p.sites tidy.sites site))
         (accepts c p site process id words tidy.sites may).there
 
@@ -227,41 +208,36 @@ handles_fewer e i c p rec.Budget tidy may m = other_fewer e i c p rec.Budget tid
 
 -- ---- replies ----
 
--- what a reply adds
-abbrev pub taken : EpochId → Serial → Reply → CallSoFar → ℕ
-taken e i r k = length (filter (describes e i) (taken_by r k))
-
 pub answer_handles : (e : EpochId) (i : Serial) (c : Config) (p : Past) (site process : ℕ) (id : CallId) (r : Reply) → IsTidy c p → may_follow c p (rec.Answer site process id r) ≡ true → (it : AnswersOne c p site process id r) → handles e i (after c (rec.Answer site process id r) p) ≤ handles e i p + taken e i r it.call
 answer_handles e i c p site process id r tidy may it = sums (length (filter (is_closing e i) (after c (rec.Answer site process id r) p).calls)) (length (filter (is_closing e i) p.calls)) (described e i (after c (rec.Answer site process id r) p).sites) (described e i p.sites)
     (closers_same e i c p (rec.Answer site process id r) tidy may tt)
     (subst (λ (q : Past). described e i q.sites ≤ described e i p.sites + taken e i r it.call) (sym it.told)
-    (sum_grows (named_at e i) (has_number it.call.id.site) (λ s. record s { descriptors = taken_by r it.call ++ s.descriptors }) (taken e i r it.call) (λ s. grows s) p.sites (one_site c p.sites tidy.sites.numbers it.call.id.site)))
+    (sum_grows (named_at e i) (has_number it.call.id.site) (λ s. record s { descriptors = taken_by r it.call ++ held_again r it.call s.descriptors }) (taken e i r it.call) (λ s. answer_numbers e i r it.call s.descriptors) p.sites (one_site c p.sites tidy.sites.numbers it.call.id.site)))
   where
     sums : (a b x y : ℕ) → a ≡ b → x ≤ y + taken e i r it.call → a + x ≤ (b + y) + taken e i r it.call
     sums a b x y h k = omega (arith, h, k)
 
-    grows : (s : Site) → length (filter (describes e i) (taken_by r it.call ++ s.descriptors)) ≤ named_at e i s + taken e i r it.call
-    grows s = omega (arith, ap length (filter_append (describes e i) (taken_by r it.call) s.descriptors), length-append (filter (describes e i) (taken_by r it.call)) (filter (describes e i) s.descriptors))
-
--- what a reply takes is of the instance that was granted to its call
+-- what a reply names is the instance that was granted to its call
 pub record TakesIt (e : EpochId) (i : Serial) (k : CallSoFar) : Type 0 where
   pub names : Descriptor
   pub granted : k.granted ≡ Some names
   pub epoch_is : names.epoch ≡ e
   pub inst_is : names.inst ≡ i
 
-pub takes_it : (e : EpochId) (i : Serial) (r : Reply) (k : CallSoFar) → (taken e i r k ≡ 0) ⊎ ((taken e i r k ≤ 1) × TakesIt e i k)
-takes_it e i (reply.Opened fd) k = by k.granted refl
+grants_it : (e : EpochId) (i : Serial) (k : CallSoFar) (o : Option Descriptor) → k.granted ≡ o → (length (filter (is_of e i) (list_of o)) ≡ 0) ⊎ ((length (filter (is_of e i) (list_of o)) ≤ 1) × TakesIt e i k)
+grants_it e i k None g = inl refl
+grants_it e i k (Some d) g = at (is_of e i d) refl
   where
-    by : (o : Option Descriptor) → k.granted ≡ o → (length (filter (describes e i) (map (λ d. record { process = k.process; fd = fd; names = d }) (list_of o))) ≡ 0) ⊎ ((length (filter (describes e i) (map (λ d. record { process = k.process; fd = fd; names = d }) (list_of o))) ≤ 1) × TakesIt e i k)
-    by None g = inl refl
-    by (Some d) g = at (same_epoch d.epoch e && same_serial d.inst i) refl
-      where
-        named : Named
-        named = record { process = k.process; fd = fd; names = d }
+    at : (b : Bool) → is_of e i d ≡ b → (length (cond b (d ∷ []) []) ≡ 0) ⊎ ((length (cond b (d ∷ []) []) ≤ 1) × TakesIt e i k)
+    at true h = (let parts : (same_epoch d.epoch e ≡ true) × (same_serial d.inst i ≡ true) = both_parts (same_epoch d.epoch e) (same_serial d.inst i) h in
+        inr (omega arith, record { names = d; granted = g; epoch_is = epoch_eq d.epoch e parts.0; inst_is = serial_eq d.inst i parts.1 }))
+    at false h = inl refl
 
-        at : (b : Bool) → (same_epoch d.epoch e && same_serial d.inst i) ≡ b → (length (cond b (named ∷ []) []) ≡ 0) ⊎ ((length (cond b (named ∷ []) []) ≤ 1) × TakesIt e i k)
-        at true h = (let parts : (same_epoch d.epoch e ≡ true) × (same_serial d.inst i ≡ true) = both_parts (same_epoch d.epoch e) (same_serial d.inst i) h in
-            inr (omega arith, record { names = d; granted = g; epoch_is = epoch_eq d.epoch e parts.0; inst_is = serial_eq d.inst i parts.1 }))
-        at false h = inl refl
+pub takes_it : (e : EpochId) (i : Serial) (r : Reply) (k : CallSoFar) → (taken e i r k ≡ 0) ⊎ ((taken e i r k ≤ 1) × TakesIt e i k)
+takes_it e i (reply.Opened fd) k = grants_it e i k k.granted refl
+takes_it e i (reply.Data bytes) k = by (is_reading k.words)
+  where
+    by : (b : Bool) → (length (filter (is_of e i) (cond b (list_of k.granted) [])) ≡ 0) ⊎ ((length (filter (is_of e i) (cond b (list_of k.granted) [])) ≤ 1) × TakesIt e i k)
+    by true = grants_it e i k k.granted refl
+    by false = inl refl
 takes_it e i r k = inl refl

@@ -23,14 +23,16 @@ use Rattle.past_laws.proofs.Finding.{found_only}
 use Rattle.plain_facts.proofs.Tests.{and_first, and_second}
 use Rattle.tidy_laws.specs.Epochs.{is_grant}
 use Rattle.tidy_laws.specs.Ties.{has_epoch, has_granted, has_named, SiteTied, CallTied}
-use Rattle.tidy_laws.specs.Users.{is_closing, describes, described, handles, IsUnhandled}
+use Rattle.tidy_laws.specs.Users.{is_closing, describes, described, handles, IsUnhandled, numbers}
 use Rattle.tidy_laws.specs.Tidy.{IsTidy}
 use Rattle.tidy_laws.proofs.Answers.{AnswersOne, answers_one}
 use Rattle.tidy_laws.proofs.Each.{CallSteps, calls_each}
 use Rattle.tidy_laws.proofs.Epochs.{epoch_stands}
 use Rattle.tidy_laws.proofs.EpochsNext.{grants_new}
-use Rattle.tidy_laws.proofs.TurnsNext.{has_at, unused}
-use Rattle.tidy_laws.proofs.Handles.{handles_fewer, IsNoAnswer, taken, answer_handles, TakesIt, takes_it}
+use Rattle.tidy_laws.proofs.Naming.{has_at}
+use Rattle.tidy_laws.proofs.TurnsNext.{unused}
+use Rattle.tidy_laws.proofs.Numbers.{numbers_most, taken}
+use Rattle.tidy_laws.proofs.Handles.{handles_fewer, IsNoAnswer, answer_handles, TakesIt, takes_it}
 
 none_left : (a b : ℕ) → a ≤ b → b ≡ 0 → a ≡ 0
 none_left a b h e = omega (arith, h, e)
@@ -40,8 +42,8 @@ none_left a b h e = omega (arith, h, e)
 abbrev IsNotGranted : Past → EpochId → Serial → Type 0
 IsNotGranted p e i = has_epoch (has_named i) e p.epochs ≡ true → ⊥
 
-none_names : (p : Past) (e : EpochId) (i : Serial) → IsNotGranted p e i → (s : Site) → SiteTied p.epochs s → length (filter (describes e i) s.descriptors) ≡ 0
-none_names p e i new s tied = ap length (none_pass (describes e i) s.descriptors (each_more (λ (d : Named). has_epoch (has_named d.names.inst) d.names.epoch p.epochs ≡ true) (λ (d : Named). describes e i d ≡ false) apart s.descriptors tied.names))
+none_names : (p : Past) (e : EpochId) (i : Serial) → IsNotGranted p e i → (s : Site) → SiteTied p.epochs s → numbers e i s.descriptors ≡ 0
+none_names p e i new s tied = none_left (numbers e i s.descriptors) (length (filter (describes e i) s.descriptors)) (numbers_most e i s.descriptors) (ap length (none_pass (describes e i) s.descriptors (each_more (λ (d : Named). has_epoch (has_named d.names.inst) d.names.epoch p.epochs ≡ true) (λ (d : Named). describes e i d ≡ false) apart s.descriptors tied.names)))
   where
     apart : (d : Named) → has_epoch (has_named d.names.inst) d.names.epoch p.epochs ≡ true → describes e i d ≡ false
     apart d h = at (describes e i d) refl
@@ -61,7 +63,7 @@ sum_none h (s ∷ sites) k = sum_by-cons h s sites ∙ both (h s) (sum_by h site
 new_unhandled : (c : Config) (p : Past) (e : EpochId) (i : Serial) → IsTidy c p → list_any (is_grant i) (epoch_at p e).granted ≡ false → handles e i p ≡ 0
 new_unhandled c p e i tidy new = both (length (filter (is_closing e i) p.calls)) (described e i p.sites)
     (ap length (none_pass (is_closing e i) p.calls (each_more (CallTied p.epochs) (λ (k : CallSoFar). is_closing e i k ≡ false) (λ k h. ap (λ b. b && is_close k.words) (unused p e i tidy.epochs new k h)) p.calls tidy.ties.calls)))
-    (sum_none (λ (s : Site). length (filter (describes e i) s.descriptors)) p.sites (each_more (SiteTied p.epochs) (λ (s : Site). length (filter (describes e i) s.descriptors) ≡ 0) (none_names p e i out) p.sites tidy.ties.sites))
+    (sum_none (λ (s : Site). numbers e i s.descriptors) p.sites (each_more (SiteTied p.epochs) (λ (s : Site). numbers e i s.descriptors ≡ 0) (none_names p e i out) p.sites tidy.ties.sites))
   where
     both : (a b : ℕ) → a ≡ 0 → b ≡ 0 → a + b ≡ 0
     both a b g f = omega (arith, g, f)
@@ -130,7 +132,7 @@ unhandled_steps c p (rec.Join site e members) tidy may n = tt
 unhandled_steps c p (rec.Start e group copies) tidy may n = tt
 unhandled_steps c p (rec.Accept site process id words) tidy may n = λ w d g. none_some d g
 unhandled_steps c p (rec.Look e id request f w result) tidy may n = λ k answers un w d g. un w d g
-unhandled_steps c p (rec.Grant e id request i m f stamp ss) tidy may n = λ k answers is un w d g. subst (λ (x : Descriptor). handles x.epoch x.inst (after c (rec.Grant e id request i m f stamp ss) p) ≡ 0) (some_same (record { mode = m; epoch = e; inst = i }) d g)
+unhandled_steps c p (rec.Grant e id request i m f stamp ss) tidy may n = λ k steady answers is un w d g. subst (λ (x : Descriptor). handles x.epoch x.inst (after c (rec.Grant e id request i m f stamp ss) p) ≡ 0) (some_same (record { mode = m; epoch = e; inst = i; steady = steady }) d g)
     (none_left (handles e i (after c (rec.Grant e id request i m f stamp ss) p)) (handles e i p) (handles_fewer e i c p (rec.Grant e id request i m f stamp ss) tidy may tt) (new_unhandled c p e i tidy (grants_new c p (epoch_at p e) id request i m f stamp ss may)))
 unhandled_steps c p (rec.Refuse e id request i m f why) tidy may n = λ k answers un w d g. un w d g
 unhandled_steps c p (rec.Act e i a o result) tidy may n = λ k answers un w d g. un w d g

@@ -9,6 +9,7 @@ use Rattle.locus_ids.specs.declared.ids.FileId.{FileId}
 use Rattle.locus_ids.specs.declared.ids.Serial.{Serial}
 use Rattle.file_effects.specs.Works.{committed}
 use Rattle.trace_book.specs.Same.{same_call, same_epoch, same_serial}
+use Rattle.trace_book.specs.declared.descriptor.Descriptor.{Descriptor}
 use Rattle.trace_book.specs.declared.record.Record.{Record}
 use Rattle.trace_book.specs.declared.record.Record.TheVariants as rec
 use Rattle.tree_model.specs.declared.instance.Granted.{Granted}
@@ -16,7 +17,7 @@ use Rattle.tree_model.specs.Epochs.{is_in}
 use Rattle.tree_model.specs.State.{is_make}
 use Rattle.call_rules.specs.Descriptors.{beginning}
 use Rattle.promises.specs.Past.{Past, Epoch, CallSoFar, Instance, Left, Make, Copy, Named, site_at, epoch_at, unformed, is_named, is_number, is_writer, table}
-use Rattle.promises.specs.After.{after, told_by, change, is_epoch, is_home_of, with_epoch, with_all_known, acted, begun_make, released, uses, begun_call, taken_by, left_unmended, opened_as, process_of, is_ender}
+use Rattle.promises.specs.After.{after, told_by, change, is_epoch, is_home_of, with_epoch, with_all_known, acted, begun_make, released, uses, begun_call, taken_by, left_unmended, opened_as, process_of, is_ender, named_by, once_named}
 use Rattle.promises.specs.Tree.{work_after}
 use Rattle.promises.specs.Rows.{may_follow}
 use Rattle.plain_facts.proofs.Tests.{and_first, and_second, and_true, or_second}
@@ -28,7 +29,7 @@ use Rattle.tidy_laws.specs.Epochs.{is_grant}
 use Rattle.tidy_laws.specs.Ties.{has_epoch, is_named_there}
 use Rattle.tidy_laws.specs.Tidy.{IsTidy}
 use Rattle.tidy_laws.proofs.Answers.{AnswersOne, answers_one, closed_as}
-use Rattle.tidy_laws.proofs.Epochs.{epochs_are}
+use Rattle.tidy_laws.proofs.Epochs.{epochs_are, once_grant, once_is_named}
 use Rattle.tidy_laws.proofs.EpochsNext.{grants_new}
 
 pub record Later (t u : Epoch) : Type 0 where
@@ -147,13 +148,13 @@ later_next c p (rec.Answer site process id r) tidy may = of (answers_one c p sit
   where
     of : AnswersOne c p site process id r → EpochsLater p.epochs (told_by c (rec.Answer site process id r) p).epochs
     of it = subst (λ (q : Past). EpochsLater p.epochs q.epochs) (sym it.told) (all_later p.epochs (λ t. true) answer
-        (λ t. opened_later t (takes t) (λ (x : Instance). record x { named = true }) t.started t.makes t.left (cond (is_in it.call.epoch t.id) (left_unmended r it.call.words) [] ++ t.unmended) (λ x. refl) (λ x h. refl)))
+        (λ t. opened_later t (takes t) (once_named r) t.started t.makes t.left (cond (is_in it.call.epoch t.id) (left_unmended r it.call.words) [] ++ t.unmended) (once_grant r) (λ x h. once_is_named r x)))
       where
         takes : Epoch → Instance → Bool
-        takes t x = list_any (λ (d : Named). is_in (Some d.names.epoch) t.id && is_named d.names.inst x) (taken_by r it.call)
+        takes t x = list_any (λ (d : Descriptor). is_in (Some d.epoch) t.id && is_named d.inst x) (named_by r it.call)
 
         answer : Epoch → Epoch
-        answer t = record t { opened = change (takes t) (λ (x : Instance). record x { named = true }) t.opened; unmended = cond (is_in it.call.epoch t.id) (left_unmended r it.call.words) [] ++ t.unmended }
+        answer t = record t { opened = change (takes t) (once_named r) t.opened; unmended = cond (is_in it.call.epoch t.id) (left_unmended r it.call.words) [] ++ t.unmended }
 later_next c p (rec.Packet number from to kind) tidy may = same_later p.epochs
 later_next c p rec.Void tidy may = same_later p.epochs
 later_next c p rec.Budget tidy may = same_later p.epochs

@@ -5,6 +5,7 @@ pub mod Calls
 pub mod CallsNext
 pub mod Epochs
 pub mod EpochsNext
+pub mod Naming
 pub mod Each
 pub mod Later
 pub mod Beginnings
@@ -15,6 +16,8 @@ pub mod TiesGrants
 pub mod Ties
 pub mod Turns
 pub mod TurnsNext
+pub mod NamedNext
+pub mod Numbers
 pub mod Handles
 pub mod HandlesNext
 pub mod Users

@@ -15,7 +15,7 @@ use Rattle.trace_book.specs.declared.record.Record.TheVariants as rec
 use Rattle.tree_model.specs.Histories.{format_stamp}
 use Rattle.tree_model.specs.Packs.{has_pack}
 use Rattle.promises.specs.Past.{Past, Site, Copy, Named, first_site, groups, no_site, nothing_yet, site_at, epoch_at, is_named}
-use Rattle.promises.specs.After.{after, told_by, change, taken_by, is_freed, is_ender}
+use Rattle.promises.specs.After.{after, told_by, change, taken_by, is_freed, is_ender, held_again}
 use Rattle.promises.specs.Rows.{may_follow, may_boot, may_join, is_there}
 use Rattle.plain_facts.proofs.Tests.{and_first}
 use Rattle.past_laws.proofs.Names.{false_true, none_some, both_parts, file_eq, file_test}
@@ -133,8 +133,8 @@ sites_next c p (rec.Adopt f site stamp) tidy may = sites_changed c p.sites site 
 sites_next c p (rec.Answer site process id r) tidy may = of (answers_one c p site process id r tidy.calls may)
   where
     of : AnswersOne c p site process id r → SitesStand c (told_by c (rec.Answer site process id r) p).sites
-    of it = subst (λ (q : Past). SitesStand c q.sites) (sym it.told) (sites_changed c p.sites it.call.id.site (λ s. record s { descriptors = taken_by r it.call ++ s.descriptors }) tidy.sites (λ s. refl)
-        (λ s h k. opens (taken_by r it.call ++ s.descriptors) s (ap (λ (x : Site). x.up) (sym h) ∙ it.stands.up it.waits) k))
+    of it = subst (λ (q : Past). SitesStand c q.sites) (sym it.told) (sites_changed c p.sites it.call.id.site (λ s. record s { descriptors = taken_by r it.call ++ held_again r it.call s.descriptors }) tidy.sites (λ s. refl)
+        (λ s h k. opens (taken_by r it.call ++ held_again r it.call s.descriptors) s (ap (λ (x : Site). x.up) (sym h) ∙ it.stands.up it.waits) k))
 sites_next c p (rec.Packet number from to kind) tidy may = tidy.sites
 sites_next c p rec.Void tidy may = tidy.sites
 sites_next c p rec.Budget tidy may = tidy.sites

@@ -12,6 +12,7 @@ use Rattle.locus_ids.specs.declared.ids.Stamp.{Stamp}
 use Rattle.trace_book.specs.Same.{same_call}
 use Rattle.trace_book.specs.declared.call.Call.{Call}
 use Rattle.trace_book.specs.declared.descriptor.Descriptor.{Descriptor}
+use Rattle.trace_book.specs.declared.descriptor.OneVersion.{OneVersion}
 use Rattle.trace_book.specs.declared.record.Record.{Record}
 use Rattle.trace_book.specs.declared.record.Record.TheVariants as rec
 use Rattle.call_rules.specs.declared.answer.Answer.{Answer}
@@ -134,7 +135,7 @@ not_grant c p r tidy ties may n = calls_each (CallTied (after c r p).epochs) c p
 
 pub tied_calls : (c : Config) (p : Past) (r : Record) → IsTidy c p → TiesStand p → may_follow c p r ≡ true → AllByRecursion (CallTied (after c r p).epochs) (after c r p).calls
 tied_calls c p (rec.Grant e id request i m f stamp ss) tidy ties may = each_more P (CallTied new) (λ k h. h.0) (after c (rec.Grant e id request i m f stamp ss) p).calls
-    (calls_each P c p (rec.Grant e id request i m f stamp ss) tidy may (λ k answers is t. (granted_tied k answers is t, t.1))
+    (calls_each P c p (rec.Grant e id request i m f stamp ss) tidy may (λ k steady answers is t. (granted_tied k steady answers is t, t.1))
     (each_both (CallTied new) (λ (k : CallSoFar). k.id ≡ id → is_in k.epoch e ≡ true) P (λ k a b. (a, b)) p.calls (old_tied c p (rec.Grant e id request i m f stamp ss) tidy ties may) (granted_calls c p e id request i m f stamp ss tidy ties may)))
   where
     new : List Epoch
@@ -143,11 +144,11 @@ tied_calls c p (rec.Grant e id request i m f stamp ss) tidy ties may = each_more
     P : CallSoFar → Type 0
     P k = CallTied new k × (k.id ≡ id → is_in k.epoch e ≡ true)
 
-    granted_tied : (k : CallSoFar) (answers : List Answer) → k.id ≡ id → P k → CallTied new (record k { granted = Some (record { mode = m; epoch = e; inst = i }); answers = answers })
-    granted_tied k answers is t = record {
+    granted_tied : (k : CallSoFar) (steady : Option OneVersion) (answers : List Answer) → k.id ≡ id → P k → CallTied new (record k { granted = Some (record { mode = m; epoch = e; inst = i; steady = steady }); answers = answers })
+    granted_tied k steady answers is t = record {
       epoch = t.0.epoch;
-      granted = λ d h. subst (λ (x : Descriptor). is_in k.epoch x.epoch ≡ true) (some_same (record { mode = m; epoch = e; inst = i }) d h) (t.1 is);
-      has_it = λ d h. subst (λ (x : Descriptor). has_epoch (has_granted x.inst k.id) x.epoch new ≡ true) (some_same (record { mode = m; epoch = e; inst = i }) d h) (subst (λ (x : CallId). has_epoch (has_granted i x) e new ≡ true) (sym is) (grant_there c p e id request i m f stamp ss tidy ties may));
+      granted = λ d h. subst (λ (x : Descriptor). is_in k.epoch x.epoch ≡ true) (some_same (record { mode = m; epoch = e; inst = i; steady = steady }) d h) (t.1 is);
+      has_it = λ d h. subst (λ (x : Descriptor). has_epoch (has_granted x.inst k.id) x.epoch new ≡ true) (some_same (record { mode = m; epoch = e; inst = i; steady = steady }) d h) (subst (λ (x : CallId). has_epoch (has_granted i x) e new ≡ true) (sym is) (grant_there c p e id request i m f stamp ss tidy ties may));
       within = t.0.within;
       uses = t.0.uses;
     }

@@ -1,5 +1,5 @@
 -- A grant finds its call, by each record that may follow.
-use Rattle.std.proofs.Common.{◌≡◌, ℕ, ◌-◌, ◌==◌, ◌&&◌, Bool, true, false, List, [], ◌∷◌, ◌++◌, filter, take, Option, Some, refl, sym, ap, subst, ◌∙◌}
+use Rattle.std.proofs.Common.{◌≡◌, ℕ, ◌-◌, ◌==◌, ◌&&◌, ◌||◌, ◌⊎◌, inl, inr, Bool, true, false, cond, List, [], ◌∷◌, ◌++◌, filter, take, Option, Some, None, refl, sym, ap, subst, ◌∙◌}
 use Rattle.std.specs.Prelude.{fold}
 use Rattle.std.specs.List.{list_any, AllByRecursion}
 use Rattle.locus_ids.specs.declared.config.Config.{Config}
@@ -12,16 +12,19 @@ use Rattle.locus_ids.specs.declared.ids.Stamp.{Stamp}
 use Rattle.trace_book.specs.Same.{same_call}
 use Rattle.trace_book.specs.declared.record.Record.{Record}
 use Rattle.trace_book.specs.declared.record.Record.TheVariants as rec
+use Rattle.call_rules.specs.declared.answer.Answer.{Answer}
 use Rattle.call_rules.specs.declared.answer.Answer.TheVariants.{Refused}
+use Rattle.call_rules.specs.Opening.{is_steady}
+use Rattle.tree_model.specs.Calls.{version_at}
 use Rattle.lawful_trace.specs.Progress.{granted_answer, outcome_answer}
 use Rattle.tree_model.specs.declared.instance.Granted.{Granted}
 use Rattle.tree_model.specs.Epochs.{is_in}
 use Rattle.promises.specs.Past.{Past, Epoch, CallSoFar, Instance, epoch_at, kept_in, is_number, is_named}
 use Rattle.promises.specs.After.{after, told_by, change, is_id, is_actor, is_ender, look_answer, close_answer, process_of}
 use Rattle.promises.specs.Rows.{may_follow, is_synced}
-use Rattle.plain_facts.proofs.Tests.{and_first, and_second, and_true, or_second}
-use Rattle.past_laws.proofs.Names.{number_eq, number_own, call_own}
-use Rattle.past_laws.proofs.Changing.{any_changed, found_any}
+use Rattle.plain_facts.proofs.Tests.{and_first, and_second, and_true, or_either, or_first, or_second}
+use Rattle.past_laws.proofs.Names.{false_true, number_eq, number_own, call_own}
+use Rattle.past_laws.proofs.Changing.{found_any}
 use Rattle.past_laws.proofs.CallsLists.{each_more}
 use Rattle.tidy_laws.specs.Ties.{is_called, GrantStands, TiesStand}
 use Rattle.tidy_laws.specs.Tidy.{IsTidy}
@@ -33,42 +36,64 @@ use Rattle.tidy_laws.proofs.TiesParts.{GrantsOne, grants_one, epoch_id}
 abbrev pub IsOfCall : (CallSoFar → Bool) → Type 0
 IsOfCall q = (k l : CallSoFar) → l.id ≡ k.id → l.process ≡ k.process → l.words ≡ k.words → l.epoch ≡ k.epoch → l.begins ≡ k.begins → l.turn ≡ k.turn → q l ≡ q k
 
-pub kept_any : (q : CallSoFar → Bool) (which : CallSoFar → Bool) (f : CallSoFar → CallSoFar) → ((k : CallSoFar) → q (f k) ≡ q k) → (calls : List CallSoFar) → list_any q calls ≡ true → list_any q (change which f calls) ≡ true
-kept_any q which f keep calls h = any_changed q which f (λ k e. keep k) calls ∙ h
+-- a test of a call that passes as long as it does no more than answer, be granted and stop to wait
+abbrev pub IsLastingCall : (CallSoFar → Bool) → Type 0
+IsLastingCall q = (k l : CallSoFar) → l.id ≡ k.id → l.process ≡ k.process → l.words ≡ k.words → l.epoch ≡ k.epoch → l.begins ≡ k.begins → l.turn ≡ k.turn → (l.waits ≡ true → k.waits ≡ true) → q k ≡ true → q l ≡ true
 
-closed_any : (q : CallSoFar → Bool) → IsOfCall q → (which : CallSoFar → Bool) (stamp : Option Stamp) (xs : List Instance) (calls : List CallSoFar) → list_any q calls ≡ true → list_any q (fold (λ (ks : List CallSoFar) (x : Instance). change which (λ (k : CallSoFar). record k { answers = k.answers ++ close_answer stamp x ∷ [] }) ks) calls xs) ≡ true
-closed_any q of_call which stamp [] calls h = h
-closed_any q of_call which stamp (x ∷ xs) calls h = closed_any q of_call which stamp xs (change which (λ (k : CallSoFar). record k { answers = k.answers ++ close_answer stamp x ∷ [] }) calls)
-    (kept_any q which (λ (k : CallSoFar). record k { answers = k.answers ++ close_answer stamp x ∷ [] }) (λ k. of_call k (record k { answers = k.answers ++ close_answer stamp x ∷ [] }) refl refl refl refl refl refl) calls h)
+of_call_lasts : (q : CallSoFar → Bool) → IsOfCall q → IsLastingCall q
+of_call_lasts q of_call k l name process words epoch begins turn waits h = of_call k l name process words epoch begins turn ∙ h
+
+kept_any : (q : CallSoFar → Bool) (which : CallSoFar → Bool) (f : CallSoFar → CallSoFar) → ((k : CallSoFar) → q k ≡ true → q (f k) ≡ true) → (calls : List CallSoFar) → list_any q calls ≡ true → list_any q (change which f calls) ≡ true
+kept_any q which f keep [] h = h
+kept_any q which f keep (k ∷ ks) h = at (kept_any q which f keep ks) (or_either (q k) (list_any q ks) h)
+  where
+    now : (b : Bool) → q k ≡ true → q (cond b (f k) k) ≡ true
+    now true e = keep k e
+    now false e = e
+
+    at : (list_any q ks ≡ true → list_any q (change which f ks) ≡ true) → (q k ≡ true) ⊎ (list_any q ks ≡ true) → (q (cond (which k) (f k) k) || list_any q (change which f ks)) ≡ true
+    at later (inl e) = or_first (q (cond (which k) (f k) k)) (list_any q (change which f ks)) (now (which k) e)
+    at later (inr e) = or_second (q (cond (which k) (f k) k)) (list_any q (change which f ks)) (later e)
+
+-- what it is answered doesn't matter
+answered_any : (q : CallSoFar → Bool) → IsLastingCall q → (which : CallSoFar → Bool) (g : CallSoFar → List Answer) (calls : List CallSoFar) → list_any q calls ≡ true → list_any q (change which (λ (k : CallSoFar). record k { answers = g k }) calls) ≡ true
+answered_any q lasts which g calls h = kept_any q which (λ (k : CallSoFar). record k { answers = g k }) (λ k e. lasts k (record k { answers = g k }) refl refl refl refl refl refl (λ w. w) e) calls h
+
+closed_any : (q : CallSoFar → Bool) → IsLastingCall q → (which : CallSoFar → Bool) (stamp : Option Stamp) (xs : List Instance) (calls : List CallSoFar) → list_any q calls ≡ true → list_any q (fold (λ (ks : List CallSoFar) (x : Instance). change which (λ (k : CallSoFar). record k { answers = k.answers ++ close_answer stamp x ∷ [] }) ks) calls xs) ≡ true
+closed_any q lasts which stamp [] calls h = h
+closed_any q lasts which stamp (x ∷ xs) calls h = closed_any q lasts which stamp xs (change which (λ (k : CallSoFar). record k { answers = k.answers ++ close_answer stamp x ∷ [] }) calls) (answered_any q lasts which (λ k. k.answers ++ close_answer stamp x ∷ []) calls h)
+
+waits_no_more : (q : CallSoFar → Bool) → IsLastingCall q → (which : CallSoFar → Bool) (calls : List CallSoFar) → list_any q calls ≡ true → list_any q (change which (λ (k : CallSoFar). record k { waits = false }) calls) ≡ true
+waits_no_more q lasts which calls h = kept_any q which (λ (k : CallSoFar). record k { waits = false }) (λ k e. lasts k (record k { waits = false }) refl refl refl refl refl refl (λ w. false_true w) e) calls h
 
 -- a call that was accepted stays
-pub calls_last : (q : CallSoFar → Bool) → IsOfCall q → (c : Config) (p : Past) (r : Record) → IsTidy c p → may_follow c p r ≡ true → list_any q p.calls ≡ true → list_any q (after c r p).calls ≡ true
-calls_last q of_call c p (rec.Up site boot) tidy may h = h
-calls_last q of_call c p (rec.Stopped site cause) tidy may h = kept_any q (λ (k : CallSoFar). k.id.site == site) (λ (k : CallSoFar). record k { waits = false }) (λ k. of_call k (record k { waits = false }) refl refl refl refl refl refl) p.calls h
-calls_last q of_call c p (rec.Leave site e) tidy may h = h
-calls_last q of_call c p (rec.Join site e members) tidy may h = subst (λ (ks : List CallSoFar). list_any q ks ≡ true) (sym (epoch_calls e members p)) h
-calls_last q of_call c p (rec.Start e group copies) tidy may h = h
-calls_last q of_call c p (rec.Accept site process id words) tidy may h = or_second _ (list_any q p.calls) h
-calls_last q of_call c p (rec.Look e id request f w result) tidy may h = kept_any q (is_id id) (λ (k : CallSoFar). record k { answers = take (request - 1) k.answers ++ look_answer p f w result ∷ [] }) (λ k. of_call k (record k { answers = take (request - 1) k.answers ++ look_answer p f w result ∷ [] }) refl refl refl refl refl refl) p.calls h
-calls_last q of_call c p (rec.Grant e id request i m f stamp ss) tidy may h = kept_any q (is_id id) (λ (k : CallSoFar). record k { granted = Some (record { mode = m; epoch = e; inst = i }); answers = k.answers ++ granted_answer m i f (kept_in p (epoch_at p e) f) ∷ [] })
-    (λ k. of_call k (record k { granted = Some (record { mode = m; epoch = e; inst = i }); answers = k.answers ++ granted_answer m i f (kept_in p (epoch_at p e) f) ∷ [] }) refl refl refl refl refl refl) p.calls h
-calls_last q of_call c p (rec.Refuse e id request i m f why) tidy may h = kept_any q (is_id id) (λ (k : CallSoFar). record k { answers = k.answers ++ Refused why ∷ [] }) (λ k. of_call k (record k { answers = k.answers ++ Refused why ∷ [] }) refl refl refl refl refl refl) p.calls h
-calls_last q of_call c p (rec.Act e i n o result) tidy may h = kept_any q (is_actor (epoch_at p e) i n) (λ (k : CallSoFar). record k { answers = k.answers ++ outcome_answer result ∷ [] }) (λ k. of_call k (record k { answers = k.answers ++ outcome_answer result ∷ [] }) refl refl refl refl refl refl) p.calls h
-calls_last q of_call c p (rec.Commit f site stamp parents content) tidy may h = h
-calls_last q of_call c p (rec.Release e i f stamp) tidy may h = subst (λ (x : Past). list_any q x.calls ≡ true) (sym (closed_as (is_ender (epoch_at p e) i) stamp p (filter (is_named i) (epoch_at p e).opened))) (closed_any q of_call (is_ender (epoch_at p e) i) stamp (filter (is_named i) (epoch_at p e).opened) p.calls h)
-calls_last q of_call c p (rec.Adopt f site stamp) tidy may h = h
-calls_last q of_call c p (rec.Answer site process id r) tidy may h = of (answers_one c p site process id r tidy.calls may)
+pub calls_last : (q : CallSoFar → Bool) → IsLastingCall q → (c : Config) (p : Past) (r : Record) → IsTidy c p → may_follow c p r ≡ true → list_any q p.calls ≡ true → list_any q (after c r p).calls ≡ true
+calls_last q lasts c p (rec.Up site boot) tidy may h = h
+calls_last q lasts c p (rec.Stopped site cause) tidy may h = waits_no_more q lasts (λ (k : CallSoFar). k.id.site == site) p.calls h
+calls_last q lasts c p (rec.Leave site e) tidy may h = h
+calls_last q lasts c p (rec.Join site e members) tidy may h = subst (λ (ks : List CallSoFar). list_any q ks ≡ true) (sym (epoch_calls e members p)) h
+calls_last q lasts c p (rec.Start e group copies) tidy may h = h
+calls_last q lasts c p (rec.Accept site process id words) tidy may h = or_second _ (list_any q p.calls) h
+calls_last q lasts c p (rec.Look e id request f w result) tidy may h = answered_any q lasts (is_id id) (λ k. take (request - 1) k.answers ++ look_answer p f w result ∷ []) p.calls h
+calls_last q lasts c p (rec.Grant e id request i m f stamp ss) tidy may h = kept_any q (is_id id) (λ (k : CallSoFar). record k { granted = Some (record { mode = m; epoch = e; inst = i; steady = cond (is_steady k.words) (version_at f stamp) None }); answers = k.answers ++ granted_answer m i f stamp (kept_in p (epoch_at p e) f) ∷ [] })
+    (λ k t. lasts k (record k { granted = Some (record { mode = m; epoch = e; inst = i; steady = cond (is_steady k.words) (version_at f stamp) None }); answers = k.answers ++ granted_answer m i f stamp (kept_in p (epoch_at p e) f) ∷ [] }) refl refl refl refl refl refl (λ w. w) t) p.calls h
+calls_last q lasts c p (rec.Refuse e id request i m f why) tidy may h = answered_any q lasts (is_id id) (λ k. k.answers ++ Refused why ∷ []) p.calls h
+calls_last q lasts c p (rec.Act e i n o result) tidy may h = answered_any q lasts (is_actor (epoch_at p e) i n) (λ k. k.answers ++ outcome_answer result ∷ []) p.calls h
+calls_last q lasts c p (rec.Commit f site stamp parents content) tidy may h = h
+calls_last q lasts c p (rec.Release e i f stamp) tidy may h = subst (λ (x : Past). list_any q x.calls ≡ true) (sym (closed_as (is_ender (epoch_at p e) i) stamp p (filter (is_named i) (epoch_at p e).opened))) (closed_any q lasts (is_ender (epoch_at p e) i) stamp (filter (is_named i) (epoch_at p e).opened) p.calls h)
+calls_last q lasts c p (rec.Adopt f site stamp) tidy may h = h
+calls_last q lasts c p (rec.Answer site process id r) tidy may h = of (answers_one c p site process id r tidy.calls may)
   where
     of : AnswersOne c p site process id r → list_any q (told_by c (rec.Answer site process id r) p).calls ≡ true
-    of it = subst (λ (x : Past). list_any q x.calls ≡ true) (sym it.told) (kept_any q (is_id it.call.id) (λ (k : CallSoFar). record k { waits = false }) (λ k. of_call k (record k { waits = false }) refl refl refl refl refl refl) p.calls h)
-calls_last q of_call c p (rec.Packet number from to kind) tidy may h = h
-calls_last q of_call c p rec.Void tidy may h = h
-calls_last q of_call c p rec.Budget tidy may h = h
+    of it = subst (λ (x : Past). list_any q x.calls ≡ true) (sym it.told) (waits_no_more q lasts (is_id it.call.id) p.calls h)
+calls_last q lasts c p (rec.Packet number from to kind) tidy may h = h
+calls_last q lasts c p rec.Void tidy may h = h
+calls_last q lasts c p rec.Budget tidy may h = h
 
 -- ---- grants ----
 
-called_of : (e : EpochId) (g : Granted) → IsOfCall (is_called e g)
-called_of e g k l name process words epoch begins turn = λ i. is_id g.call (record k { id = name i }) && ((process i == g.process) && is_in (epoch i) e)
+called_of : (e : EpochId) (g : Granted) → IsLastingCall (is_called e g)
+called_of e g = of_call_lasts (is_called e g) (λ k l name process words epoch begins turn i. is_id g.call (record k { id = name i }) && ((process i == g.process) && is_in (epoch i) e))
 
 abbrev pub GrantsStand : List CallSoFar → Epoch → Type 0
 GrantsStand calls t = AllByRecursion (GrantStands calls t.id) t.granted
@@ -111,7 +136,7 @@ grant_steps c p (rec.Act e i n o result) tidy may = λ t which work makes k. k
 grant_steps c p (rec.Commit f site stamp parents content) tidy may = λ t which work k. k
 grant_steps c p (rec.Release e i f stamp) tidy may = λ t known which makes k. k
 grant_steps c p (rec.Adopt f site stamp) tidy may = tt
-grant_steps c p (rec.Answer site process id r) tidy may = λ t which unmended k. k
+grant_steps c p (rec.Answer site process id r) tidy may = λ t which unmended fresh k. k
 grant_steps c p (rec.Packet number from to kind) tidy may = tt
 grant_steps c p rec.Void tidy may = tt
 grant_steps c p rec.Budget tidy may = tt

@@ -8,6 +8,8 @@ use Rattle.locus_ids.specs.declared.ids.Serial.{Serial}
 use Rattle.commit_graph.specs.Vectors.{numbers_from}
 use Rattle.trace_book.specs.Same.{same_call}
 use Rattle.trace_book.specs.declared.descriptor.Descriptor.{Descriptor}
+use Rattle.trace_book.specs.declared.call.Call.{Call}
+use Rattle.trace_book.specs.declared.call.Call.TheVariants as call
 use Rattle.trace_book.specs.declared.reply.Reply.{Reply}
 use Rattle.trace_book.specs.declared.reply.Reply.TheVariants as reply
 use Rattle.trace_book.specs.declared.record.Record.{Record}
@@ -16,11 +18,13 @@ use Rattle.tree_model.specs.declared.instance.Granted.{Granted}
 use Rattle.tree_model.specs.Epochs.{is_in}
 use Rattle.tree_model.specs.Working.{list_of}
 use Rattle.promises.specs.Past.{Past, Site, Epoch, CallSoFar, Instance, Named, first_site, no_site, nothing_yet, site_at, is_named}
-use Rattle.promises.specs.After.{after, change, is_epoch, is_id, is_freed, taken_by, left_unmended, with_epoch, with_all_known}
+use Rattle.promises.specs.After.{after, change, is_epoch, is_id, is_freed, held_again, held_by, is_read_by, is_reading, named_by, once_named, taken_by, left_unmended, with_epoch, with_all_known}
 use Rattle.promises.specs.Rows.{may_follow}
 use Rattle.plain_facts.proofs.Tests.{and_true, or_first, or_second}
-use Rattle.past_laws.proofs.Names.{none_some, some_same, number_own, epoch_eq, epoch_test}
+use Rattle.past_laws.proofs.Names.{none_some, some_same, number_own, epoch_eq, epoch_test, false_true}
 use Rattle.past_laws.proofs.CallsLists.{each_more, each_filter, each_found}
+use Rattle.tidy_laws.proofs.Epochs.{once_is_named}
+use Rattle.tidy_laws.proofs.Naming.{takes_there}
 use Rattle.tidy_laws.specs.Epochs.{is_grant}
 use Rattle.tidy_laws.specs.Ties.{has_epoch, has_member, has_granted, has_named, is_named_there, SiteTied, CallTied, TiesStand}
 use Rattle.tidy_laws.specs.Tidy.{IsTidy}
@@ -46,26 +50,26 @@ each_joined P [] ys h k = k
 each_joined P (x ∷ xs) ys h k = (h.0, each_joined P xs ys h.1 k)
 
 -- the epoch as a reply leaves it
-abbrev takes_there : List Named → Epoch → Instance → Bool
-takes_there ds t x = list_any (λ (d : Named). is_in (Some d.names.epoch) t.id && is_named d.names.inst x) ds
-
 abbrev answered_epoch : Reply → CallSoFar → Epoch → Epoch
-answered_epoch r k t = record t { opened = change (takes_there (taken_by r k) t) (λ (x : Instance). record x { named = true }) t.opened; unmended = cond (is_in k.epoch t.id) (left_unmended r k.words) [] ++ t.unmended }
+answered_epoch r k t = record t { opened = change (takes_there (named_by r k) t) (once_named r) t.opened; unmended = cond (is_in k.epoch t.id) (left_unmended r k.words) [] ++ t.unmended }
 
 -- an instance that was granted is named, once a descriptor is one of it
-names_it : (d : Named) (t : Epoch) → is_epoch d.names.epoch t ≡ true → (xs : List Instance) → list_all (is_named_there d.names.inst) (change (takes_there (d ∷ []) t) (λ (x : Instance). record x { named = true }) xs) ≡ true
-names_it d t e [] = refl
-names_it d t e (x ∷ xs) = and_true _ (list_all (is_named_there d.names.inst) (change (takes_there (d ∷ []) t) (λ (y : Instance). record y { named = true }) xs)) (at (is_named d.names.inst x) refl) (names_it d t e xs)
+names_it : (r : Reply) (d : Descriptor) (t : Epoch) → is_epoch d.epoch t ≡ true → (xs : List Instance) → list_all (is_named_there d.inst) (change (takes_there (d ∷ []) t) (once_named r) xs) ≡ true
+names_it r d t e [] = refl
+names_it r d t e (x ∷ xs) = and_true _ (list_all (is_named_there d.inst) (change (takes_there (d ∷ []) t) (once_named r) xs)) (at (is_named d.inst x) refl) (names_it r d t e xs)
   where
-    own : is_in (Some d.names.epoch) t.id ≡ true
-    own = epoch_test d.names.epoch t.id (sym (epoch_eq t.id d.names.epoch e))
+    own : is_in (Some d.epoch) t.id ≡ true
+    own = epoch_test d.epoch t.id (sym (epoch_eq t.id d.epoch e))
 
-    at : (b : Bool) → is_named d.names.inst x ≡ b → is_named_there d.names.inst (cond (takes_there (d ∷ []) t x) (record x { named = true }) x) ≡ true
-    at true h = rw (own, h) (or_second _ true refl)
+    named : is_named_there d.inst (once_named r x) ≡ true
+    named = or_second (not (is_named d.inst (once_named r x))) (once_named r x).named (once_is_named r x)
+
+    at : (b : Bool) → is_named d.inst x ≡ b → is_named_there d.inst (cond (takes_there (d ∷ []) t x) (once_named r x) x) ≡ true
+    at true h = rw (own, h) named
     at false h = kept (takes_there (d ∷ []) t x)
       where
-        kept : (b : Bool) → is_named_there d.names.inst (cond b (record x { named = true }) x) ≡ true
-        kept true = rw h refl
+        kept : (b : Bool) → is_named_there d.inst (cond b (once_named r x) x) ≡ true
+        kept true = named
         kept false = rw h refl
 
 has_granted_grant : (i : Serial) (id : CallId) (gs : List Granted) → list_any (λ (g : Granted). is_grant i g && same_call g.call id) gs ≡ true → list_any (is_grant i) gs ≡ true
@@ -77,17 +81,17 @@ has_granted_grant i id (g ∷ gs) h = at (has_granted_grant i id gs) (is_grant i
     at later false b k = later k
 
 -- it is so in the epoch that is left by the reply
-opened_named : (r : Reply) (k : CallSoFar) (d : Named) (id : CallId) → taken_by r k ≡ d ∷ [] → (epochs : List Epoch) → has_epoch (has_granted d.names.inst id) d.names.epoch epochs ≡ true → has_epoch (has_named d.names.inst) d.names.epoch (change (λ t. true) (answered_epoch r k) epochs) ≡ true
+opened_named : (r : Reply) (k : CallSoFar) (d : Descriptor) (id : CallId) → named_by r k ≡ d ∷ [] → (epochs : List Epoch) → has_epoch (has_granted d.inst id) d.epoch epochs ≡ true → has_epoch (has_named d.inst) d.epoch (change (λ t. true) (answered_epoch r k) epochs) ≡ true
 opened_named r k d id is [] h = h
-opened_named r k d id is (t ∷ ts) h = at (opened_named r k d id is ts) (is_epoch d.names.epoch t) (has_granted d.names.inst id t) refl refl h
+opened_named r k d id is (t ∷ ts) h = at (opened_named r k d id is ts) (is_epoch d.epoch t) (has_granted d.inst id t) refl refl h
   where
     rest : Bool
-    rest = has_epoch (has_named d.names.inst) d.names.epoch (change (λ u. true) (answered_epoch r k) ts)
+    rest = has_epoch (has_named d.inst) d.epoch (change (λ u. true) (answered_epoch r k) ts)
 
-    at : (has_epoch (has_granted d.names.inst id) d.names.epoch ts ≡ true → has_epoch (has_named d.names.inst) d.names.epoch (change (λ u. true) (answered_epoch r k) ts) ≡ true) → (a b : Bool) → is_epoch d.names.epoch t ≡ a → has_granted d.names.inst id t ≡ b
-        → ((a && b) || has_epoch (has_granted d.names.inst id) d.names.epoch ts) ≡ true → has_epoch (has_named d.names.inst) d.names.epoch (change (λ u. true) (answered_epoch r k) (t ∷ ts)) ≡ true
-    at later true true e g j = or_first _ rest (and_true (is_epoch d.names.epoch t) (has_named d.names.inst (answered_epoch r k t)) e (and_true (list_any (is_grant d.names.inst) t.granted) (list_all (is_named_there d.names.inst) (answered_epoch r k t).opened) (has_granted_grant d.names.inst id t.granted g)
-        (subst (λ (ds : List Named). list_all (is_named_there d.names.inst) (change (takes_there ds t) (λ (x : Instance). record x { named = true }) t.opened) ≡ true) (sym is) (names_it d t e t.opened))))
+    at : (has_epoch (has_granted d.inst id) d.epoch ts ≡ true → has_epoch (has_named d.inst) d.epoch (change (λ u. true) (answered_epoch r k) ts) ≡ true) → (a b : Bool) → is_epoch d.epoch t ≡ a → has_granted d.inst id t ≡ b
+        → ((a && b) || has_epoch (has_granted d.inst id) d.epoch ts) ≡ true → has_epoch (has_named d.inst) d.epoch (change (λ u. true) (answered_epoch r k) (t ∷ ts)) ≡ true
+    at later true true e g j = or_first _ rest (and_true (is_epoch d.epoch t) (has_named d.inst (answered_epoch r k t)) e (and_true (list_any (is_grant d.inst) t.granted) (list_all (is_named_there d.inst) (answered_epoch r k t).opened) (has_granted_grant d.inst id t.granted g)
+        (subst (λ (ds : List Descriptor). list_all (is_named_there d.inst) (change (takes_there ds t) (once_named r) t.opened) ≡ true) (sym is) (names_it r d t e t.opened))))
     at later true false e g j = or_second _ rest (later j)
     at later false b e g j = or_second _ rest (later j)
 
@@ -97,8 +101,32 @@ taken_names epochs (reply.Opened fd) k tied = at k.granted refl
   where
     at : (o : Option Descriptor) → k.granted ≡ o → AllByRecursion (λ (d : Named). has_epoch (has_named d.names.inst) d.names.epoch (change (λ t. true) (answered_epoch (reply.Opened fd) k) epochs) ≡ true) (map (λ d. record { process = k.process; fd = fd; names = d }) (list_of o))
     at None g = tt
-    at (Some d) g = (opened_named (reply.Opened fd) k (record { process = k.process; fd = fd; names = d }) k.id (ap (λ o. map (λ x. record { process = k.process; fd = fd; names = x }) (list_of o)) g) epochs (tied.has_it d g), tt)
+    at (Some d) g = (opened_named (reply.Opened fd) k d k.id (ap list_of g) epochs (tied.has_it d g), tt)
 taken_names epochs r k tied = tt
+
+-- and what a read makes held again
+reads_so : (words : Call) (process : ℕ) (d : Named) → is_read_by words process d ≡ true → is_reading words ≡ true
+reads_so (call.Read fd at len) process d h = refl
+reads_so _ process d h = false_true h
+
+abbrev NamesThere : List Epoch → Reply → CallSoFar → Named → Type 0
+NamesThere epochs r k d = has_epoch (has_named d.names.inst) d.names.epoch (change (λ t. true) (answered_epoch r k) epochs) ≡ true
+
+held_names : (epochs : List Epoch) (r : Reply) (k : CallSoFar) → CallTied epochs k → (ds : List Named) → AllByRecursion (NamesThere epochs r k) ds → AllByRecursion (NamesThere epochs r k) (held_again r k ds)
+held_names epochs (reply.Data bytes) k tied ds h = each ds h
+  where
+    one : (d : Named) → NamesThere epochs (reply.Data bytes) k d → (b : Bool) → is_read_by k.words k.process d ≡ b → NamesThere epochs (reply.Data bytes) k (cond b (held_by k.granted d) d)
+    one d n false e = n
+    one d n true e = by k.granted refl
+      where
+        by : (o : Option Descriptor) → k.granted ≡ o → NamesThere epochs (reply.Data bytes) k (held_by o d)
+        by None g = n
+        by (Some opening) g = opened_named (reply.Data bytes) k opening k.id (rw (reads_so k.words k.process d e, g) refl) epochs (tied.has_it opening g)
+
+    each : (xs : List Named) → AllByRecursion (NamesThere epochs (reply.Data bytes) k) xs → AllByRecursion (NamesThere epochs (reply.Data bytes) k) (change (is_read_by k.words k.process) (held_by k.granted) xs)
+    each [] n = tt
+    each (d ∷ rest) n = (one d n.0 (is_read_by k.words k.process d) refl, each rest n.1)
+held_names epochs r k tied ds h = h
 
 -- ---- the records ----
 
@@ -121,9 +149,9 @@ site_steps c p (rec.Release e i f stamp) tidy ties may = tt
 site_steps c p (rec.Adopt f site stamp) tidy ties may = λ s vs k. record { inside = k.inside; names = k.names }
 site_steps c p (rec.Answer site process id r) tidy ties may = λ it s k. record {
   inside = k.inside;
-  names = each_joined (λ (d : Named). has_epoch (has_named d.names.inst) d.names.epoch (after c (rec.Answer site process id r) p).epochs ≡ true) (taken_by r it.call) s.descriptors
+  names = each_joined (λ (d : Named). has_epoch (has_named d.names.inst) d.names.epoch (after c (rec.Answer site process id r) p).epochs ≡ true) (taken_by r it.call) (held_again r it.call s.descriptors)
       (subst (λ (q : Past). AllByRecursion (λ (d : Named). has_epoch (has_named d.names.inst) d.names.epoch q.epochs ≡ true) (taken_by r it.call)) (sym it.told) (taken_names p.epochs r it.call (each_found (CallTied p.epochs) (is_id id) p.calls it.call it.found ties.calls).0))
-      k.names;
+      (subst (λ (q : Past). AllByRecursion (λ (d : Named). has_epoch (has_named d.names.inst) d.names.epoch q.epochs ≡ true) (held_again r it.call s.descriptors)) (sym it.told) (held_names p.epochs r it.call (each_found (CallTied p.epochs) (is_id id) p.calls it.call it.found ties.calls).0 s.descriptors (subst (λ (q : Past). AllByRecursion (λ (d : Named). has_epoch (has_named d.names.inst) d.names.epoch q.epochs ≡ true) s.descriptors) it.told k.names)));
 }
 site_steps c p (rec.Packet number from to kind) tidy ties may = tt
 site_steps c p rec.Void tidy ties may = tt

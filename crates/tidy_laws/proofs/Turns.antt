@@ -1,5 +1,5 @@
 -- The turns of those who use an open instance, by each record that may follow.
-use Rattle.std.proofs.Common.{◌≡◌, ℕ, ◌+◌, ◌-◌, ◌==◌, ◌&&◌, ◌≤◌, not, Bool, true, false, cond, List, [], ◌∷◌, ◌++◌, length, filter, map, take, Option, Some, refl, sym, ap, ◌∙◌, arith}
+use Rattle.std.proofs.Common.{◌≡◌, ℕ, ◌+◌, ◌-◌, ◌==◌, ◌&&◌, ◌≤◌, not, Bool, true, false, cond, List, [], ◌∷◌, ◌++◌, length, filter, map, take, Option, Some, None, refl, sym, ap, ◌∙◌, arith}
 use Rattle.std.specs.Prelude.{fold, sum_by}
 use Rattle.std.specs.List.{find, AllByRecursion}
 use Rattle.std.proofs.lemmas.List.Sums.{sum_by-cons}
@@ -14,6 +14,8 @@ use Rattle.trace_book.specs.declared.descriptor.Beginning.TheVariants as begins
 use Rattle.trace_book.specs.declared.record.Record.{Record}
 use Rattle.trace_book.specs.declared.record.Record.TheVariants as rec
 use Rattle.call_rules.specs.declared.answer.Answer.TheVariants.{Refused}
+use Rattle.call_rules.specs.Opening.{is_steady}
+use Rattle.tree_model.specs.Calls.{version_at}
 use Rattle.lawful_trace.specs.Progress.{granted_answer, outcome_answer}
 use Rattle.promises.specs.Past.{Past, Epoch, CallSoFar, Instance, epoch_at, kept_in, is_named, is_on, is_close}
 use Rattle.promises.specs.After.{after, told_by, change, is_id, is_epoch, is_actor, is_ender, uses, turn_of, look_answer, close_answer}
@@ -62,6 +64,8 @@ few_uses t (begins.Uses e i) words st = omega (arith, st.single i, fewer_pass (u
     named x h = serial_test x.grant.inst i (sym (serial_eq i x.grant.inst (both_parts (same_epoch e t.id) (same_serial i x.grant.inst) (both_parts (is_on (begins.Uses e i) t.id x.grant.inst) (not (is_close words)) h).0).1))
 few_uses t (begins.Denied why) words st = omega (arith, st.single (record { us = 0; serial = 0 }), fewer_pass (uses (begins.Denied why) words t.id) (is_named (record { us = 0; serial = 0 })) (λ x h. false_true h) t.opened)
 few_uses t (begins.Walks id) words st = omega (arith, st.single (record { us = 0; serial = 0 }), fewer_pass (uses (begins.Walks id) words t.id) (is_named (record { us = 0; serial = 0 })) (λ x h. false_true h) t.opened)
+few_uses t (begins.Reopens kept last) words st = omega (arith, st.single (record { us = 0; serial = 0 }), fewer_pass (uses (begins.Reopens kept last) words t.id) (is_named (record { us = 0; serial = 0 })) (λ x h. false_true h) t.opened)
+few_uses t begins.Frees words st = omega (arith, st.single (record { us = 0; serial = 0 }), fewer_pass (uses begins.Frees words t.id) (is_named (record { us = 0; serial = 0 })) (λ x h. false_true h) t.opened)
 
 -- and they are of one epoch
 one_epoch : (b : Beginning) (words : Call) (t u : Epoch) (x y : Instance) → uses b words t.id x ≡ true → uses b words u.id y ≡ true → is_epoch t.id u ≡ true
@@ -71,6 +75,8 @@ one_epoch (begins.Uses e i) words t u x y h k = epoch_test u.id t.id (sym (of u 
     of v z g = epoch_eq e v.id (both_parts (same_epoch e v.id) (same_serial i z.grant.inst) (both_parts (is_on (begins.Uses e i) v.id z.grant.inst) (not (is_close words)) g).0).0
 one_epoch (begins.Denied why) words t u x y h k = false_true h
 one_epoch (begins.Walks id) words t u x y h k = false_true h
+one_epoch (begins.Reopens kept last) words t u x y h k = false_true h
+one_epoch begins.Frees words t u x y h k = false_true h
 
 abbrev counts : Instance → ℕ
 counts x = x.uses + 1
@@ -120,8 +126,8 @@ turns_last q of_call c p (rec.Join site e members) tidy may n = ap (λ (ks : Lis
 turns_last q of_call c p (rec.Start e group copies) tidy may n = refl
 turns_last q of_call c p (rec.Accept site process id words) tidy may n = absurd n
 turns_last q of_call c p (rec.Look e id request f w result) tidy may n = turns_kept q (is_id id) (λ (k : CallSoFar). record k { answers = take (request - 1) k.answers ++ look_answer p f w result ∷ [] }) (λ k. of_call k (record k { answers = take (request - 1) k.answers ++ look_answer p f w result ∷ [] }) refl refl refl refl refl refl) (λ k. refl) p.calls
-turns_last q of_call c p (rec.Grant e id request i m f stamp ss) tidy may n = turns_kept q (is_id id) (λ (k : CallSoFar). record k { granted = Some (record { mode = m; epoch = e; inst = i }); answers = k.answers ++ granted_answer m i f (kept_in p (epoch_at p e) f) ∷ [] })
-    (λ k. of_call k (record k { granted = Some (record { mode = m; epoch = e; inst = i }); answers = k.answers ++ granted_answer m i f (kept_in p (epoch_at p e) f) ∷ [] }) refl refl refl refl refl refl) (λ k. refl) p.calls
+turns_last q of_call c p (rec.Grant e id request i m f stamp ss) tidy may n = turns_kept q (is_id id) (λ (k : CallSoFar). record k { granted = Some (record { mode = m; epoch = e; inst = i; steady = cond (is_steady k.words) (version_at f stamp) None }); answers = k.answers ++ granted_answer m i f stamp (kept_in p (epoch_at p e) f) ∷ [] })
+    (λ k. of_call k (record k { granted = Some (record { mode = m; epoch = e; inst = i; steady = cond (is_steady k.words) (version_at f stamp) None }); answers = k.answers ++ granted_answer m i f stamp (kept_in p (epoch_at p e) f) ∷ [] }) refl refl refl refl refl refl) (λ k. refl) p.calls
 turns_last q of_call c p (rec.Refuse e id request i m f why) tidy may n = turns_kept q (is_id id) (λ (k : CallSoFar). record k { answers = k.answers ++ Refused why ∷ [] }) (λ k. of_call k (record k { answers = k.answers ++ Refused why ∷ [] }) refl refl refl refl refl refl) (λ k. refl) p.calls
 turns_last q of_call c p (rec.Act e i m o result) tidy may n = turns_kept q (is_actor (epoch_at p e) i m) (λ (k : CallSoFar). record k { answers = k.answers ++ outcome_answer result ∷ [] }) (λ k. of_call k (record k { answers = k.answers ++ outcome_answer result ∷ [] }) refl refl refl refl refl refl) (λ k. refl) p.calls
 turns_last q of_call c p (rec.Commit f site stamp parents content) tidy may n = refl

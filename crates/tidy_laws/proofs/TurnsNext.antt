@@ -1,5 +1,5 @@
 -- The turns of those who use an open instance, by each record that may follow: the records one by one.
-use Rattle.std.proofs.Common.{◌≡◌, ℕ, suc, ◌+◌, ◌&&◌, not, Bool, true, false, List, [], ◌∷◌, filter, map, Option, refl, sym, ap, subst, ◌∙◌, arith}
+use Rattle.std.proofs.Common.{◌≡◌, ℕ, zero, suc, ◌+◌, ◌&&◌, not, Bool, true, false, cond, List, [], ◌∷◌, ◌++◌, filter, map, Option, refl, sym, ap, subst, ◌∙◌, arith}
 use Rattle.std.specs.List.{list_any, AllByRecursion}
 use Rattle.locus_ids.specs.declared.config.Config.{Config}
 use Rattle.locus_ids.specs.declared.ids.CallId.{CallId}
@@ -8,23 +8,24 @@ use Rattle.locus_ids.specs.declared.ids.FileId.{FileId}
 use Rattle.locus_ids.specs.declared.ids.Mode.{Mode}
 use Rattle.locus_ids.specs.declared.ids.Serial.{Serial}
 use Rattle.locus_ids.specs.declared.ids.Stamp.{Stamp}
+use Rattle.trace_book.specs.declared.reply.Reply.{Reply}
+use Rattle.trace_book.specs.declared.reply.Reply.TheVariants as reply
 use Rattle.trace_book.specs.declared.record.Record.{Record}
 use Rattle.trace_book.specs.declared.record.Record.TheVariants as rec
 use Rattle.call_rules.specs.Descriptors.{beginning}
 use Rattle.tree_model.specs.declared.instance.Granted.{Granted}
 use Rattle.tree_model.specs.Epochs.{is_in}
-use Rattle.promises.specs.Past.{Past, Epoch, CallSoFar, Instance, epoch_at, unformed, site_at, table, is_on, is_close}
-use Rattle.promises.specs.After.{after, change, is_epoch, uses, turn_of, begun_call, opened_as}
+use Rattle.promises.specs.Past.{Past, Epoch, CallSoFar, Instance, epoch_at, site_at, table, is_on, is_close}
+use Rattle.promises.specs.After.{after, change, uses, turn_of, begun_call, opened_as, once_named}
 use Rattle.promises.specs.Rows.{may_follow}
 use Rattle.past_laws.proofs.Names.{false_true, epoch_own}
-use Rattle.past_laws.proofs.Changing.{any_finds, Finds, first_found}
-use Rattle.past_laws.proofs.Finding.{found_only}
 use Rattle.past_laws.proofs.CallsLists.{each_more, each_both, each_changed, each_filter, each_added, none_pass}
-use Rattle.plain_facts.proofs.Tests.{and_first, and_second}
+use Rattle.plain_facts.proofs.Tests.{and_first}
 use Rattle.tidy_laws.specs.Epochs.{is_grant, EpochsStand}
-use Rattle.tidy_laws.specs.Ties.{has_epoch, has_named, CallTied}
-use Rattle.tidy_laws.specs.Users.{is_use, down_from, HasTurns}
+use Rattle.tidy_laws.specs.Ties.{has_named, CallTied}
+use Rattle.tidy_laws.specs.Users.{is_use, down_from, first_turn, HasTurns}
 use Rattle.tidy_laws.specs.Tidy.{IsTidy}
+use Rattle.tidy_laws.proofs.Naming.{has_at, IsFresh}
 use Rattle.tidy_laws.proofs.Each.{EpochSteps, epochs_each}
 use Rattle.tidy_laws.proofs.EpochsNext.{grants_new}
 use Rattle.tidy_laws.proofs.TiesParts.{epoch_id}
@@ -35,15 +36,6 @@ abbrev pub TurnsStand : List CallSoFar → Epoch → Type 0
 TurnsStand calls t = AllByRecursion (HasTurns calls t.id) t.opened
 
 -- ---- a grant ----
-
--- what an epoch has that is there, it has
-pub has_at : (q : Epoch → Bool) (p : Past) (e : EpochId) → EpochsStand p.epochs → has_epoch q e p.epochs ≡ true → q (epoch_at p e) ≡ true
-has_at q p e st h = of (any_finds (λ (t : Epoch). is_epoch e t && q t) p.epochs h)
-  where
-    of : Finds (λ (t : Epoch). is_epoch e t && q t) p.epochs → q (epoch_at p e) ≡ true
-    of it = subst (λ (t : Epoch). q t ≡ true)
-        (sym (first_found (unformed e) (is_epoch e) p.epochs it.one (found_only (is_epoch e) (λ (t : Epoch). is_epoch e t && q t) (λ t k. and_first (is_epoch e t) (q t) k) p.epochs it.one (st.once e) it.found)))
-        (and_second (is_epoch e it.one) (q it.one) it.passes)
 
 -- no call is on an instance that isn't granted yet
 pub unused : (p : Past) (e : EpochId) (i : Serial) → EpochsStand p.epochs → list_any (is_grant i) (epoch_at p e).granted ≡ false → (k : CallSoFar) → CallTied p.epochs k → is_on k.begins e i ≡ false
@@ -58,8 +50,8 @@ none_uses p e i st tied new = none_pass (is_use e i) p.calls (each_more (CallTie
 
 grant_turns : (c : Config) (p : Past) (e : EpochId) (id : CallId) (request : ℕ) (i : Serial) (m : Mode) (f : FileId) (stamp : Option Stamp) (ss : ℕ) → IsTidy c p → may_follow c p (rec.Grant e id request i m f stamp ss) ≡ true → (t : Epoch) → epoch_at p e ≡ t → (g : Granted) → g.inst ≡ i
     → HasTurns (after c (rec.Grant e id request i m f stamp ss) p).calls t.id (opened_as p g stamp)
-grant_turns c p e id request i m f stamp ss tidy may t at g is = turns_last (is_use t.id g.inst) (use_of t.id g.inst) c p (rec.Grant e id request i m f stamp ss) tidy may tt
-    ∙ ap (map (λ (k : CallSoFar). k.turn)) (subst (λ (d : EpochId). filter (is_use d g.inst) p.calls ≡ []) (sym (epoch_id p e) ∙ ap (λ (u : Epoch). u.id) at) (subst (λ (j : Serial). filter (is_use e j) p.calls ≡ []) (sym is) (none_uses p e i tidy.epochs tidy.ties.calls (grants_new c p (epoch_at p e) id request i m f stamp ss may))))
+grant_turns c p e id request i m f stamp ss tidy may t at g is = ap (λ (ts : List ℕ). ts ++ []) (turns_last (is_use t.id g.inst) (use_of t.id g.inst) c p (rec.Grant e id request i m f stamp ss) tidy may tt
+    ∙ ap (map (λ (k : CallSoFar). k.turn)) (subst (λ (d : EpochId). filter (is_use d g.inst) p.calls ≡ []) (sym (epoch_id p e) ∙ ap (λ (u : Epoch). u.id) at) (subst (λ (j : Serial). filter (is_use e j) p.calls ≡ []) (sym is) (none_uses p e i tidy.epochs tidy.ties.calls (grants_new c p (epoch_at p e) id request i m f stamp ss may)))))
 
 -- ---- a call more ----
 
@@ -67,7 +59,7 @@ more_down : (n : ℕ) → down_from (n + 1) ≡ (n + 1) ∷ down_from n
 more_down n = subst (λ m. down_from m ≡ m ∷ down_from n) (let e : suc n ≡ n + 1 = omega arith in e) refl
 
 used_turns : (calls : List CallSoFar) (k : CallSoFar) (e : EpochId) (x : Instance) → uses k.begins k.words e x ≡ true → k.turn ≡ x.uses + 1 → HasTurns calls e x → HasTurns (k ∷ calls) e (record x { uses = x.uses + 1 })
-used_turns calls k e x h turn old = rw h (ap (λ n. n ∷ map (λ (l : CallSoFar). l.turn) (filter (is_use e x.grant.inst) calls)) turn ∙ (ap (λ ns. (x.uses + 1) ∷ ns) old ∙ sym (more_down x.uses)))
+used_turns calls k e x h turn old = rw h (ap (λ n. n ∷ (map (λ (l : CallSoFar). l.turn) (filter (is_use e x.grant.inst) calls) ++ first_turn x)) turn ∙ (ap (λ ns. (x.uses + 1) ∷ ns) old ∙ sym (more_down x.uses)))
 
 unused_turns : (calls : List CallSoFar) (k : CallSoFar) (e : EpochId) (x : Instance) → uses k.begins k.words e x ≡ false → HasTurns calls e x → HasTurns (k ∷ calls) e x
 unused_turns calls k e x h old = rw h old
@@ -98,6 +90,34 @@ accept_turns p k tied turn st old = each_changed Both (TurnsStand (k ∷ p.calls
         at x true u = false_true (sym w ∙ (ap (λ o. is_in o t.id) (tied.within t.id x.grant.inst (and_first (is_on k.begins t.id x.grant.inst) (not (is_close k.words)) u)) ∙ epoch_own t.id))
         at x false u = refl
 
+-- ---- a reply ----
+
+none_down : (n : ℕ) → [] ≡ down_from n → n ≡ 0
+none_down zero h = refl
+none_down (suc n) h = absurd (none h)
+  where
+    none : ◌≡◌ {A = List ℕ} [] (suc n ∷ down_from n) → ⊥
+    none k = cc
+
+-- a read that opens a version again is its first use
+once_turns : (calls : List CallSoFar) (e : EpochId) (r : Reply) (x : Instance) → x.again ≡ false → map (λ (k : CallSoFar). k.turn) (filter (is_use e x.grant.inst) calls) ≡ [] → HasTurns calls e x → HasTurns calls e (once_named r x)
+once_turns calls e (reply.Data bytes) x again unused old = ap (λ (ts : List ℕ). ts ++ 1 ∷ []) unused ∙ sym (ap (λ n. down_from (n + 1)) (none_down x.uses (sym (ap (λ (ts : List ℕ). ts ++ first_turn x) unused ∙ ap (λ b. cond b (1 ∷ []) []) again) ∙ old)))
+once_turns calls e r x again unused old = old
+
+answer_turns : (c : Config) (p : Past) (site process : ℕ) (id : CallId) (r : Reply) → IsTidy c p → may_follow c p (rec.Answer site process id r) ≡ true → (t : Epoch) (which : Instance → Bool) → AllByRecursion (λ (x : Instance). which x ≡ true → IsFresh p.calls t.id id x) t.opened
+    → AllByRecursion (HasTurns (after c (rec.Answer site process id r) p).calls t.id) t.opened → AllByRecursion (HasTurns (after c (rec.Answer site process id r) p).calls t.id) (change which (once_named r) t.opened)
+answer_turns c p site process id r tidy may t which fresh old = each_changed Both Turns which (once_named r) (λ x w h. now x (h.0 w) h.1) (λ x w h. h.1) t.opened (each_both (λ (x : Instance). which x ≡ true → IsFresh p.calls t.id id x) Turns Both (λ x a b. (a, b)) t.opened fresh old)
+  where
+    Turns : Instance → Type 0
+    Turns x = HasTurns (after c (rec.Answer site process id r) p).calls t.id x
+
+    Both : Instance → Type 0
+    Both x = (which x ≡ true → IsFresh p.calls t.id id x) × Turns x
+
+    now : (x : Instance) → IsFresh p.calls t.id id x → Turns x → Turns (once_named r x)
+    now x is h = once_turns (after c (rec.Answer site process id r) p).calls t.id r x is.again
+        (turns_last (is_use t.id x.grant.inst) (use_of t.id x.grant.inst) c p (rec.Answer site process id r) tidy may tt ∙ ap (map (λ (k : CallSoFar). k.turn)) is.unused) h
+
 -- ---- the records ----
 
 turn_steps : (c : Config) (p : Past) (r : Record) → IsTidy c p → may_follow c p r ≡ true → IsNoAccept r → EpochSteps (TurnsStand (after c r p).calls) p r
@@ -114,13 +134,13 @@ turn_steps c p (rec.Act e i a o result) tidy may n = λ t which work makes k. ea
 turn_steps c p (rec.Commit f site stamp parents content) tidy may n = λ t which work k. each_changed (HasTurns p.calls t.id) (HasTurns p.calls t.id) which (λ (x : Instance). record x { work = work x }) (λ x w h. h) (λ x w h. h) t.opened k
 turn_steps c p (rec.Release e i f stamp) tidy may n = λ t known which makes k. each_filter (HasTurns (after c (rec.Release e i f stamp) p).calls t.id) which t.opened k
 turn_steps c p (rec.Adopt f site stamp) tidy may n = tt
-turn_steps c p (rec.Answer site process id r) tidy may n = λ t which unmended k. each_changed (HasTurns (after c (rec.Answer site process id r) p).calls t.id) (HasTurns (after c (rec.Answer site process id r) p).calls t.id) which (λ (x : Instance). record x { named = true }) (λ x w h. h) (λ x w h. h) t.opened k
+turn_steps c p (rec.Answer site process id r) tidy may n = λ t which unmended fresh k. answer_turns c p site process id r tidy may t which fresh k
 turn_steps c p (rec.Packet number from to kind) tidy may n = tt
 turn_steps c p rec.Void tidy may n = tt
 turn_steps c p rec.Budget tidy may n = tt
 
 turns_later : (c : Config) (p : Past) (r : Record) → IsTidy c p → may_follow c p r ≡ true → IsNoAccept r → (t : Epoch) → TurnsStand p.calls t → TurnsStand (after c r p).calls t
-turns_later c p r tidy may n t h = each_more (HasTurns p.calls t.id) (HasTurns (after c r p).calls t.id) (λ x k. turns_last (is_use t.id x.grant.inst) (use_of t.id x.grant.inst) c p r tidy may n ∙ k) t.opened h
+turns_later c p r tidy may n t h = each_more (HasTurns p.calls t.id) (HasTurns (after c r p).calls t.id) (λ x k. ap (λ (ts : List ℕ). ts ++ first_turn x) (turns_last (is_use t.id x.grant.inst) (use_of t.id x.grant.inst) c p r tidy may n) ∙ k) t.opened h
 
 other_turns : (c : Config) (p : Past) (r : Record) → IsTidy c p → AllByRecursion (TurnsStand p.calls) p.epochs → may_follow c p r ≡ true → IsNoAccept r → AllByRecursion (TurnsStand (after c r p).calls) (after c r p).epochs
 other_turns c p r tidy old may n = epochs_each (TurnsStand (after c r p).calls) c p r tidy may (turn_steps c p r tidy may n) (each_more (TurnsStand p.calls) (TurnsStand (after c r p).calls) (turns_later c p r tidy may n) p.epochs old)

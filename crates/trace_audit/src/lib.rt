@@ -5,7 +5,9 @@
 mod audit;
 mod call_steps;
 mod judging;
+mod kinds;
 mod meaning;
+mod records;
 mod site_steps;
 mod tree_steps;
 mod verdict;

@@ -159,6 +159,7 @@ abbrev pub opening_text : OpenMode → List ℕ
 opening_text opening.Read = codes "r"
 opening_text opening.Write = codes "w"
 opening_text (opening.Resolve site) = codes "x " ++ number site
+opening_text opening.Steady = codes "s"
 
 abbrev pub call_words : Call → List ℕ
 call_words (call.Create path None) = codes "create " ++ path

@@ -9,6 +9,8 @@ pub enum OpenMode {
     Write,
     /// Settles a conflict, beginning from the version of this site.
     Resolve { site: u8 },
+    /// Reads one version, and outlives changes of partition.
+    Steady,
 }
 
 /// A call of a process. A path is kept as it was written.

@@ -12,7 +12,7 @@ mod record;
 mod reply;
 
 pub use call::{Call, OpenMode};
-pub use descriptor::{Beginning, Descriptor};
+pub use descriptor::{Beginning, Descriptor, OneVersion};
 pub use entry::Entry;
 pub use operation::{Op, Outcome, Served, What};
 pub use packet_kind::PacketKind;

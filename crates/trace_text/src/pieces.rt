@@ -86,6 +86,7 @@ pub fn push_opening(out: &mut Bytes, mode: OpenMode) -> Result<(), NoMemory>
     match mode {
         OpenMode::Read => out.append(b"r"),
         OpenMode::Write => out.append(b"w"),
+        OpenMode::Steady => out.append(b"s"),
         OpenMode::Resolve { site } => {
             out.append(b"x ")?;
             push_number(out, u32::from(site))

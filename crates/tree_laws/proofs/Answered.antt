@@ -1,4 +1,4 @@
--- A call that was answered by a descriptor is over: it doesn't wait, and asks nothing.
+-- A call whose answer has named an instance is over: it doesn't wait, and asks nothing.
 use Rattle.std.proofs.Common.{◌≡◌, ℕ, ◌==◌, Bool, true, false, not, ◌&&◌, ◌||◌, List, [], ◌∷◌, Some, refl, sym, ◌∙◌, ap, subst}
 use Rattle.the_run.proofs.of_plain_facts.Tests.{true_false}
 use Rattle.locus_ids.specs.declared.config.Config.{Config}
@@ -7,22 +7,22 @@ use Rattle.trace_book.specs.Same.{same_call}
 use Rattle.trace_book.specs.declared.record.Record.{Record}
 use Rattle.trace_book.specs.declared.record.Record.TheVariants as says
 use Rattle.trace_book.specs.declared.reply.Reply.{Reply}
-use Rattle.trace_book.specs.declared.reply.Reply.TheVariants as reply
 use Rattle.the_run.specs.of_role_steps.Views.{Told, Shown}
 use Rattle.the_run.specs.Worlds.{Line}
 use Rattle.tree_model.specs.declared.accepted.Waiting.{Waiting}
 use Rattle.tree_model.specs.Calls.{call_named, waiting}
 use Rattle.lawful_trace.specs.CallRows.{is_this}
-use Rattle.lawful_trace.specs.Tables.{is_opened, has_named}
+use Rattle.lawful_trace.specs.Tables.{names_instance, has_named}
 use Rattle.tree_laws.specs.Printed.{entries}
 use Rattle.tree_laws.specs.Calls.{is_request}
 use Rattle.tree_laws.specs.Serials.{asked_now}
-use Rattle.tree_laws.specs.Following.{MayTell, IsFollowed, AnswersInTime}
+use Rattle.tree_laws.specs.Following.{MayTell, IsFollowed}
 use Rattle.tree_laws.specs.Processes.{IsOver}
 use Rattle.tree_laws.proofs.Boots.{every_passes, found_every}
 use Rattle.tree_laws.proofs.Counting.{asked_same}
 use Rattle.tree_laws.proofs.Later.{over_stays}
 use Rattle.tree_laws.proofs.Names.{same_call_eq, same_call_own}
+use Rattle.tree_laws.proofs.Owners.{naming_reply}
 use Rattle.tree_laws.proofs.Scripts.{named_stays}
 use Rattle.tree_laws.proofs.Waiting.{accepted}
 
@@ -51,12 +51,8 @@ third true true false t = absurd (true_false (sym t))
 third true false false t = absurd (true_false (sym t))
 third false q false t = absurd (true_false (sym t))
 
-opened_reply : (c : Config) (older : List Line) (d : CallId) (r : Reply) → AnswersInTime c older d r → is_opened r ≡ true → is_request (asked_now c older d) ≡ false
-opened_reply c older d (reply.Opened fd) t e = t.replies.nothing_asked
-opened_reply c older d _ t e = absurd (true_false (sym e))
-
 done_answer : (c : Config) (n s process : ℕ) (call : CallId) (r : Reply) (older : List Line) → IsFollowed c older → MayTell c older (Shown (says.Answer s process call r)) → AllDone c older → AllDone c (With n (Shown (says.Answer s process call r)) older)
-done_answer c n s process call r older h may k d t = at (same_call call d) (is_opened r) refl refl t
+done_answer c n s process call r older h may k d t = at (same_call call d) (names_instance r) refl refl t
   where
     found : (call_named (entries older) may.row.caller.call ≡ Some may.row.caller) × (is_this s process call may.row.caller ≡ true)
     found = found_every (λ (w : Waiting). call_named (entries older) w.call ≡ Some w) (is_this s process call) (waiting (entries older)) may.row.caller may.row.waits (accepted c older h).waits
@@ -70,17 +66,17 @@ done_answer c n s process call r older h may k d t = at (same_call call d) (is_o
     apart : (w : Waiting) → not (same_call w.call call) ≡ true → w.call ≡ call → ⊥
     apart w p same = true_false (sym p ∙ ap not (subst (λ (x : CallId). same_call x call ≡ true) (sym same) (same_call_own call)))
 
-    own : is_opened r ≡ true → IsDone c (With n (Shown (says.Answer s process call r)) older) call
+    own : names_instance r ≡ true → IsDone c (With n (Shown (says.Answer s process call r)) older) call
     own o = record {
       caller = may.row.caller;
       named = named;
       over = record {
         quiet = every_passes (λ (w : Waiting). w.call ≡ call → ⊥) (λ (w : Waiting). not (same_call w.call call)) apart (waiting (entries older));
-        asks_nothing = ap is_request (asked_same c older n (Shown (says.Answer s process call r)) call h may (may.row.caller, named) refl) ∙ opened_reply c older call r may.in_time o;
+        asks_nothing = ap is_request (asked_same c older n (Shown (says.Answer s process call r)) call h may (may.row.caller, named) refl) ∙ (naming_reply c older call r may.in_time o).replies.nothing_asked;
       };
     }
 
-    at : (a b : Bool) → same_call call d ≡ a → is_opened r ≡ b → (a && b || has_named (entries older) d) ≡ true → IsDone c (With n (Shown (says.Answer s process call r)) older) d
+    at : (a b : Bool) → same_call call d ≡ a → names_instance r ≡ b → (a && b || has_named (entries older) d) ≡ true → IsDone c (With n (Shown (says.Answer s process call r)) older) d
     at true true p q u = subst (IsDone c (With n (Shown (says.Answer s process call r)) older)) (same_call_eq call d p) (own q)
     at true false p q u = done_stays c n (Shown (says.Answer s process call r)) older d h may (k d u)
     at false b p q u = done_stays c n (Shown (says.Answer s process call r)) older d h may (k d u)

@@ -70,6 +70,7 @@ With n x older = record { number = n; told = x } ∷ older
 
 abbrev pub OpensIt : Answer → Serial → Type 0
 OpensIt (answer.Opened inst ino) i = inst ≡ i
+OpensIt (answer.Reading inst version) i = inst ≡ i
 OpensIt (answer.Merging inst kept) i = inst ≡ i
 OpensIt _ i = ⊥
 
@@ -100,12 +101,13 @@ close_opens stamp (Some x) i k = over x.work.owes k
     over true m = m
     over false m = m
 
-pub grant_opens : (m : Mode) (inst : Serial) (f : FileId) (kept : List Stamp) (i : Serial) → OpensIt (granted_answer m inst f kept) i → inst ≡ i
-grant_opens mode.Mend inst f kept i k = k
-grant_opens mode.Read inst f kept i k = k
-grant_opens mode.Write inst f kept i k = k
-grant_opens mode.Resolve inst f kept i k = k
-grant_opens mode.Make inst f kept i k = k
+pub grant_opens : (m : Mode) (inst : Serial) (f : FileId) (stamp : Option Stamp) (kept : List Stamp) (i : Serial) → OpensIt (granted_answer m inst f stamp kept) i → inst ≡ i
+grant_opens mode.Mend inst f stamp kept i k = k
+grant_opens mode.Read inst f (Some at) kept i k = k
+grant_opens mode.Read inst f None kept i k = k
+grant_opens mode.Write inst f stamp kept i k = k
+grant_opens mode.Resolve inst f stamp kept i k = k
+grant_opens mode.Make inst f stamp kept i k = k
 
 -- the last of a list
 pub last_same : (xs ys : Answers) (a b : Answer) → xs ++ a ∷ [] ≡ ys ++ b ∷ [] → a ≡ b
@@ -216,14 +218,14 @@ awaits_step c n (says.Release e i f stamp) older d a h may named step k waits = 
 awaits_step c n (says.Grant e call request inst m f stamp ss) older d a h may named step k waits = record {
   asked = ap is_request (asked_same c older n x d h may named refl) ∙ subst (λ (y : CallId). is_request (asked_now c older y) ≡ true) step (asking c older call may.in_time.opens.asks.wanted may.in_time.opens.asks.asks);
   opens = λ i o. ap is_open_want (asked_same c older n x d h may named refl) ∙ subst (λ (y : CallId). is_open_want (asked_now c older y) ≡ true) step (asks_opens c older e call request inst.serial may.in_time.opens.asked may.in_time.opens.it may.in_time.opens.asks);
-  opened = λ i o. opened i (grant_opens m inst f (kept_in c (entries older) e f) i (subst (λ (y : Answer). OpensIt y i) is o));
+  opened = λ i o. opened i (grant_opens m inst f stamp (kept_in c (entries older) e f) i (subst (λ (y : Answer). OpensIt y i) is o));
 }
   where
     x : Told
     x = Shown (says.Grant e call request inst m f stamp ss)
 
-    is : a ≡ granted_answer m inst f (kept_in c (entries older) e f)
-    is = last_same (log older d) (heard c older d) a (granted_answer m inst f (kept_in c (entries older) e f)) (sym waits ∙ by_own call d (heard c older d ++ granted_answer m inst f (kept_in c (entries older) e f) ∷ []) (heard c older d) step)
+    is : a ≡ granted_answer m inst f stamp (kept_in c (entries older) e f)
+    is = last_same (log older d) (heard c older d) a (granted_answer m inst f stamp (kept_in c (entries older) e f)) (sym waits ∙ by_own call d (heard c older d ++ granted_answer m inst f stamp (kept_in c (entries older) e f) ∷ []) (heard c older d) step)
 
     inside : IsCallIn (entries older) e d
     inside = subst (IsCallIn (entries older) e) step may.row.opens.step
@@ -263,18 +265,18 @@ awaits_old c n x older d a h may named k waits = over x may waits (same_told c o
 
 -- ---- what a call has ----
 
+opened_or_old : (inst : Serial) (own : Instances) (i : Serial) → (same_serial inst i || own i) ≡ true → (inst ≡ i) ⊎ (own i ≡ true)
+opened_or_old inst own i h = over (same_serial inst i) refl h
+  where
+    over : (b : Bool) → same_serial inst i ≡ b → (b || own i) ≡ true → (inst ≡ i) ⊎ (own i ≡ true)
+    over true e k = inl (same_serial_eq inst i e)
+    over false e k = inr k
+
 -- what is had after an answer is what it opened, or was had before
 pub had_from : (w : Want) (a : Answer) (own : Instances) (i : Serial) → had_after w a own i ≡ true → OpensIt a i ⊎ (own i ≡ true)
-had_from w (answer.Opened inst ino) own i h = over (same_serial inst i) refl h
-  where
-    over : (b : Bool) → same_serial inst i ≡ b → (b || own i) ≡ true → (inst ≡ i) ⊎ (own i ≡ true)
-    over true e k = inl (same_serial_eq inst i e)
-    over false e k = inr k
-had_from w (answer.Merging inst kept) own i h = over (same_serial inst i) refl h
-  where
-    over : (b : Bool) → same_serial inst i ≡ b → (b || own i) ≡ true → (inst ≡ i) ⊎ (own i ≡ true)
-    over true e k = inl (same_serial_eq inst i e)
-    over false e k = inr k
+had_from w (answer.Opened inst ino) own i h = opened_or_old inst own i h
+had_from w (answer.Reading inst version) own i h = opened_or_old inst own i h
+had_from w (answer.Merging inst kept) own i h = opened_or_old inst own i h
 had_from w _ own i h = inr (closed_from w own i h)
   where
     closed_from : (w : Want) (own : Instances) (i : Serial) → closed_by w own i ≡ true → own i ≡ true
@@ -316,6 +318,8 @@ begun_uses (begins.Uses e inst) i t = (e, both (same_epoch e e) (same_serial ins
     both false b p q = p
 begun_uses (begins.Denied why) i t = absurd (true_false (sym t))
 begun_uses (begins.Walks id) i t = absurd (true_false (sym t))
+begun_uses (begins.Reopens version last) i t = absurd (true_false (sym t))
+begun_uses begins.Frees i t = absurd (true_false (sym t))
 
 held_new : (c : Config) (n s process : ℕ) (new : CallId) (words : Call) (older : List Line) (i : Serial) → IsFollowed c older → MayTell c older (Shown (says.Accept s process new words)) → Untaken c older new → has_instances c (With n (Shown (says.Accept s process new words)) older) new i ≡ true → IsHeldBy (With n (Shown (says.Accept s process new words)) older) new i
 held_new c n s process new words older i h may u has = record { epoch = b.0; inside = user.inside; held = inr user }

@@ -83,7 +83,7 @@ module _ (c : Config) (n : ℕ) (x : Told) (older : List Line) (h : IsFollowed c
   opened_stays e ss i (opened.No why) o = (o.0, (makes_stay c n x older h may versions).none e ss i o.1)
 
   open_done_stays : (e : EpochId) (us serial : ℕ) (a : Granted) → OpenDoneFact c older e us serial a → OpenDoneFact c (More n x older) e us serial a
-  open_done_stays e us serial (granted.Open ss ino size stamp vector) o = record { call = o.call; request = o.request; mode = o.mode; file = o.file; stamp = o.stamp; was_granted = inr o.was_granted; number_is = o.number_is; sees = sees_stay c older (More n x older) versions o.file o.mode o.stamp vector o.sees }
+  open_done_stays e us serial (granted.Open ss ino size stamp vector) o = record { call = o.call; request = o.request; mode = o.mode; file = o.file; stamp = o.stamp; was_granted = inr o.was_granted; number_is = o.number_is; told_is = o.told_is; sees = sees_stay c older (More n x older) versions o.file o.mode o.stamp vector o.sees }
   open_done_stays e us serial (granted.No why) o = (o.0, o.1, o.2, inr o.3)
 
   op_stays : (e : EpochId) (ss : ℕ) (i : Serial) (k : ℕ) (o : Op) (seen : List ℕ) → OpFact c older e ss i k o seen → OpFact c (More n x older) e ss i k o seen

@@ -17,11 +17,12 @@ use Rattle.trace_book.specs.declared.call.Call.TheVariants as call
 use Rattle.trace_book.specs.declared.descriptor.Beginning.{Beginning}
 use Rattle.trace_book.specs.declared.descriptor.Beginning.TheVariants as begins
 use Rattle.trace_book.specs.declared.descriptor.Descriptor.{Descriptor}
+use Rattle.trace_book.specs.declared.descriptor.OneVersion.{OneVersion}
 use Rattle.trace_book.specs.declared.record.Record.{Record}
 use Rattle.trace_book.specs.declared.record.Record.TheVariants as says
 use Rattle.trace_book.specs.declared.reply.Reply.{Reply}
 use Rattle.trace_book.specs.declared.reply.Reply.TheVariants as reply
-use Rattle.call_rules.specs.Descriptors.{is_in, begins_on, begins_walk, begins_open, beginning, lowest_free}
+use Rattle.call_rules.specs.Descriptors.{is_in, held_or, stale_or, begins_again, begins_read, begins_close, begins_change, begins_walk, begins_open, beginning, lowest_free}
 use Rattle.call_rules.specs.Words.{is_too_long}
 use Rattle.the_run.specs.of_role_steps.Own.{Every}
 use Rattle.the_run.specs.of_role_steps.Views.{Told, Shown}
@@ -31,43 +32,21 @@ use Rattle.tree_model.specs.Calls.{call_named, accepted_as, granted_to, opening_
 use Rattle.tree_model.specs.Epochs.{epoch_of}
 use Rattle.tree_model.specs.Folds.{Trace}
 use Rattle.lawful_trace.specs.CallRows.{is_this}
-use Rattle.lawful_trace.specs.Tables.{begins_now, closed_by, opened_by, descriptor, is_close, uses_by, uses_of, close_of, is_opened, has_named}
+use Rattle.lawful_trace.specs.Tables.{begins_now, closed_by, opened_by, descriptor, is_close, uses_by, is_opening, uses_of, close_of, names_instance, has_named}
 use Rattle.lawful_trace.specs.TreeRows.{IsCallIn}
 use Rattle.tree_laws.specs.Printed.{entries, onto_entries}
 use Rattle.tree_laws.specs.Following.{MayTell, IsFollowed}
+use Rattle.tree_laws.specs.Processes.{IsMend}
 use Rattle.tree_laws.proofs.Boots.{every_both, found_every}
 use Rattle.tree_laws.proofs.Fresh.{numbered}
-use Rattle.tree_laws.proofs.Names.{same_call_eq, same_call_own, same_epoch_eq, same_epoch_own, same_serial_eq, same_serial_own}
+use Rattle.tree_laws.proofs.Naming.{IsNamedBy, all_opening, named_granted, open_inside, opened_left}
+use Rattle.tree_laws.proofs.Names.{same_call_eq, same_call_own, same_epoch_eq, same_serial_eq}
 use Rattle.tree_laws.proofs.Owners.{granted_same, named_more}
 use Rattle.tree_laws.proofs.Scripts.{named_stays}
 use Rattle.tree_laws.proofs.Waiting.{accepted}
 
 abbrev With : ℕ → Record → Trace → Trace
 With n r before = record { line = n; what = r } ∷ before
-
--- ---- what was granted last ----
-
-abbrev AllOpening : Trace → Type 0
-AllOpening before = (d : CallId) (x : Descriptor) → opening_of before d ≡ Some x → granted_to before x.epoch x.inst ≡ Some d
-
-opening_record : (c : Config) (older : List Line) (n : ℕ) (r : Record) → MayTell c older (Shown r) → AllOpening (entries older) → AllOpening (With n r (entries older))
-opening_record c older n (says.Grant at call request inst m f stamp ss) may k d x h = over (same_call call d) refl h
-  where
-    own : (g : CallId) (o : Option CallId) → cond (same_epoch at at && same_serial inst inst) (Some g) o ≡ Some g
-    own g o = ap (λ (b : Bool). cond (b && same_serial inst inst) (Some g) o) (same_epoch_own at) ∙ ap (λ (b : Bool). cond b (Some g) o) (same_serial_own inst)
-
-    over : (b : Bool) → same_call call d ≡ b → cond b (Some (record { mode = m; epoch = at; inst = inst })) (opening_of (entries older) d) ≡ Some x → granted_to (With n (says.Grant at call request inst m f stamp ss) (entries older)) x.epoch x.inst ≡ Some d
-    over true p q = subst (λ (y : Descriptor). granted_to (With n (says.Grant at call request inst m f stamp ss) (entries older)) y.epoch y.inst ≡ Some d) (some_same (record { mode = m; epoch = at; inst = inst }) x q) (own call (granted_to (entries older) at inst) ∙ ap Some (same_call_eq call d p))
-    over false p q = granted_same c older n (says.Grant at call request inst m f stamp ss) x.epoch x.inst d may (k d x q)
-opening_record c older n r may k d x h = granted_same c older n r x.epoch x.inst d may (k d x h)
-
-opening_told : (c : Config) (older : List Line) (n : ℕ) (x : Told) → MayTell c older x → AllOpening (entries older) → AllOpening (onto_entries n x (entries older))
-opening_told c older n (Shown r) may k = opening_record c older n r may k
-opening_told c older n _ may k = k
-
-pub all_opening : (c : Config) (trace : List Line) → IsFollowed c trace → AllOpening (entries trace)
-all_opening c [] h = λ d x k. absurd (none_some x k)
-all_opening c (x ∷ older) h = opening_told c older x.number x.told h.0 (all_opening c older h.1)
 
 -- ---- descriptors ----
 
@@ -79,7 +58,7 @@ pub record GrantedFor (before : Trace) (e : EpochId) (i : Serial) (s process : �
   pub named : call_named before granted ≡ Some caller
   pub site_is : caller.site ≡ s
   pub process_is : caller.process ≡ process
-  -- the call was answered by a descriptor
+  -- the call was answered by a descriptor, or by what it has read of a version that it has opened again
   pub answered : has_named before granted ≡ true
 
 for_stays : (c : Config) (older : List Line) (n : ℕ) (r : Record) (e : EpochId) (i : Serial) (s process : ℕ) → IsFollowed c older → MayTell c older (Shown r) → GrantedFor (entries older) e i s process → GrantedFor (With n r (entries older)) e i s process
@@ -104,20 +83,15 @@ closed_left (call.Close n) fd old x h = over (n == fd) h
     over false k = k
 closed_left _ fd old x h = h
 
--- a descriptor that a reply may open
-pub opened_left : (r : Reply) (fd : ℕ) (opening old : Option Descriptor) (x : Descriptor) (P : Type 0) → (r ≡ reply.Opened fd → opening ≡ Some x → P) → (old ≡ Some x → P) → opened_by r fd opening old ≡ Some x → P
-opened_left (reply.Opened n) fd opening old x P new was h = over (n == fd) refl h
-  where
-    over : (b : Bool) → (n == fd) ≡ b → cond b opening old ≡ Some x → P
-    over true e k = new (ap reply.Opened (equal n fd e)) k
-    over false e k = was k
-opened_left _ fd opening old x P new was h = was h
-
 parts : (a b c : Bool) → (a && b && c) ≡ true → (a ≡ true) × ((b ≡ true) × (c ≡ true))
 parts true true true t = (refl, (refl, refl))
 parts true true false t = absurd (true_false (sym t))
 parts true false c t = absurd (true_false (sym t))
 parts false b c t = absurd (true_false (sym t))
+
+-- the call has named what was granted to it
+answered_names : (before : Trace) (n s process : ℕ) (d : CallId) (r : Reply) → names_instance r ≡ true → has_named (With n (says.Answer s process d r) before) d ≡ true
+answered_names before n s process d r o = ap (λ (b : Bool). b && names_instance r || has_named before d) (same_call_own d) ∙ ap (λ (b : Bool). b || has_named before d) o
 
 stand_answer : (c : Config) (older : List Line) (n s process : ℕ) (d : CallId) (r : Reply) → IsFollowed c older → MayTell c older (Shown (says.Answer s process d r)) → AllStandFor (entries older) → AllStandFor (With n (says.Answer s process d r) (entries older))
 stand_answer c older n s process d r h may k site user fd x e = over (s == site) (process == user) refl refl e
@@ -128,25 +102,22 @@ stand_answer c older n s process d r h may k site user fd x e = over (s == site)
     is : (may.row.caller.site == s ≡ true) × ((may.row.caller.process == process ≡ true) × (same_call may.row.caller.call d ≡ true))
     is = parts (may.row.caller.site == s) (may.row.caller.process == process) (same_call may.row.caller.call d) found.1
 
-    is_answered : is_opened r ≡ true → has_named (With n (says.Answer s process d r) (entries older)) d ≡ true
-    is_answered o = ap (λ (b : Bool). b && is_opened r || has_named (entries older) d) (same_call_own d) ∙ ap (λ (b : Bool). b || has_named (entries older) d) o
-
-    new : (s == site) ≡ true → (process == user) ≡ true → r ≡ reply.Opened fd → opening_of (entries older) d ≡ Some x → GrantedFor (With n (says.Answer s process d r) (entries older)) x.epoch x.inst site user
-    new p q opens o = record {
+    new : (s == site) ≡ true → (process == user) ≡ true → IsNamedBy (entries older) d r fd x → GrantedFor (With n (says.Answer s process d r) (entries older)) x.epoch x.inst site user
+    new p q o = record {
       granted = d;
-      is_granted = granted_same c older n (says.Answer s process d r) x.epoch x.inst d may (all_opening c older h d x o);
+      is_granted = granted_same c older n (says.Answer s process d r) x.epoch x.inst d may (named_granted c older h d r fd x o);
       caller = may.row.caller;
       named = ap (call_named (entries older)) (sym (same_call_eq may.row.caller.call d is.1.1)) ∙ found.0;
       site_is = equal may.row.caller.site s is.0 ∙ equal s site p;
       process_is = equal may.row.caller.process process is.1.0 ∙ equal process user q;
-      answered = is_answered (ap is_opened opens);
+      answered = answered_names (entries older) n s process d r o.names;
     }
 
     at : GrantedFor (entries older) x.epoch x.inst site user → GrantedFor (With n (says.Answer s process d r) (entries older)) x.epoch x.inst site user
     at g = for_stays c older n (says.Answer s process d r) x.epoch x.inst site user h may g
 
-    over : (a b : Bool) → (s == site) ≡ a → (process == user) ≡ b → cond (a && b) (opened_by r fd (opening_of (entries older) d) (descriptor (entries older) site user fd)) (descriptor (entries older) site user fd) ≡ Some x → GrantedFor (With n (says.Answer s process d r) (entries older)) x.epoch x.inst site user
-    over true true p q o = opened_left r fd (opening_of (entries older) d) (descriptor (entries older) site user fd) x (GrantedFor (With n (says.Answer s process d r) (entries older)) x.epoch x.inst site user) (new p q) (λ m. at (k site user fd x m)) o
+    over : (a b : Bool) → (s == site) ≡ a → (process == user) ≡ b → cond (a && b) (opened_by r (entries older) d fd (descriptor (entries older) site user fd)) (descriptor (entries older) site user fd) ≡ Some x → GrantedFor (With n (says.Answer s process d r) (entries older)) x.epoch x.inst site user
+    over true true p q o = opened_left r (entries older) d fd (descriptor (entries older) site user fd) x (GrantedFor (With n (says.Answer s process d r) (entries older)) x.epoch x.inst site user) (new p q) (λ m. at (k site user fd x m)) o
     over true false p q o = at (k site user fd x o)
     over false b p q o = at (k site user fd x o)
 
@@ -217,31 +188,65 @@ in_now : (now : Option EpochId) (e : EpochId) → is_in now e ≡ true → now �
 in_now None e t = absurd (true_false (sym t))
 in_now (Some at) e t = ap Some (same_epoch_eq at e t)
 
-on_uses : (changes : Bool) (table : ℕ → Option Descriptor) (now : Option EpochId) (fd : ℕ) (words : Call) (e : EpochId) (i : Serial) → IsPlain words → ClosesNumber words fd → (o : Option Descriptor) → table fd ≡ o → begins_on changes now o ≡ begins.Uses e i → FromDescriptor table now words e i
-on_uses changes table now fd words e i plain number None is k = absurd (denied_uses _ e i k)
-on_uses changes table now fd words e i plain number (Some x) is k = at changes (is_in now x.epoch) (is_read x.mode) refl refl k
-  where
-    from : is_in now x.epoch ≡ true → begins.Uses x.epoch x.inst ≡ begins.Uses e i → FromDescriptor table now words e i
-    from t u = record { fd = fd; stands = x; found = is; epoch_is = uses_epoch x.epoch e x.inst i u; serial_is = uses_serial x.epoch e x.inst i u; inside = in_now now x.epoch t ∙ ap Some (uses_epoch x.epoch e x.inst i u); plain = plain; closes = number }
+frees_uses : (e : EpochId) (i : Serial) → begins.Frees ≡ begins.Uses e i → ⊥
+frees_uses e i k = cc
 
-    at : (c a b : Bool) → is_in now x.epoch ≡ a → is_read x.mode ≡ b → begins_on c now (Some x) ≡ begins.Uses e i → FromDescriptor table now words e i
-    at true true true p q k = absurd (denied_uses _ e i (rw q at (rw p at k)))
-    at true true false p q k = from p (rw q at (rw p at k))
-    at false true b p q k = from p (rw p at k)
-    at c false b p q k = absurd (denied_uses _ e i (rw p at k))
+-- what isn't held begins at no instance
+stale_uses : (steady : OneVersion → Beginning) (last : EpochId) (o : Option OneVersion) (e : EpochId) (i : Serial) → ((v : OneVersion) → steady v ≡ begins.Uses e i → ⊥) → stale_or steady last o ≡ begins.Uses e i → ⊥
+stale_uses steady last None e i none k = denied_uses _ e i k
+stale_uses steady last (Some v) e i none k = none v k
+
+again_uses : (now : Option EpochId) (last : EpochId) (v : OneVersion) (e : EpochId) (i : Serial) → begins_again now last v ≡ begins.Uses e i → ⊥
+again_uses None last v e i k = denied_uses _ e i k
+again_uses (Some at) last v e i k = other k
+  where
+    other : begins.Reopens v last ≡ begins.Uses e i → ⊥
+    other m = cc
+
+module _ (table : ℕ → Option Descriptor) (now : Option EpochId) (fd : ℕ) (words : Call) (e : EpochId) (i : Serial) (plain : IsPlain words) (number : ClosesNumber words fd) where
+  from_held : (x : Descriptor) → table fd ≡ Some x → is_in now x.epoch ≡ true → begins.Uses x.epoch x.inst ≡ begins.Uses e i → FromDescriptor table now words e i
+  from_held x is t u = record { fd = fd; stands = x; found = is; epoch_is = uses_epoch x.epoch e x.inst i u; serial_is = uses_serial x.epoch e x.inst i u; inside = in_now now x.epoch t ∙ ap Some (uses_epoch x.epoch e x.inst i u); plain = plain; closes = number }
+
+  held_uses : (x : Descriptor) → table fd ≡ Some x → (otherwise : Beginning) → (otherwise ≡ begins.Uses e i → ⊥) → held_or now x otherwise ≡ begins.Uses e i → FromDescriptor table now words e i
+  held_uses x is otherwise none k = over (is_in now x.epoch) refl k
+    where
+      over : (b : Bool) → is_in now x.epoch ≡ b → cond b (begins.Uses x.epoch x.inst) otherwise ≡ begins.Uses e i → FromDescriptor table now words e i
+      over true t m = from_held x is t m
+      over false t m = absurd (none m)
+
+  read_uses : (o : Option Descriptor) → table fd ≡ o → begins_read now o ≡ begins.Uses e i → FromDescriptor table now words e i
+  read_uses None is k = absurd (denied_uses _ e i k)
+  read_uses (Some x) is k = held_uses x is (stale_or (begins_again now x.epoch) x.epoch x.steady) (stale_uses (begins_again now x.epoch) x.epoch x.steady e i (λ v m. again_uses now x.epoch v e i m)) k
+
+  close_uses : (o : Option Descriptor) → table fd ≡ o → begins_close now o ≡ begins.Uses e i → FromDescriptor table now words e i
+  close_uses None is k = absurd (denied_uses _ e i k)
+  close_uses (Some x) is k = held_uses x is (stale_or (λ v. begins.Frees) x.epoch x.steady) (stale_uses (λ v. begins.Frees) x.epoch x.steady e i (λ v m. frees_uses e i m)) k
+
+  change_uses : (o : Option Descriptor) → table fd ≡ o → begins_change now o ≡ begins.Uses e i → FromDescriptor table now words e i
+  change_uses None is k = absurd (denied_uses _ e i k)
+  change_uses (Some x) is k = by x.steady refl
+    where
+      at : x.steady ≡ None → (a b : Bool) → is_in now x.epoch ≡ a → is_read x.mode ≡ b → FromDescriptor table now words e i
+      at s true true p q = absurd (denied_uses _ e i (rw q at (rw p at (rw s at k))))
+      at s true false p q = from_held x is p (rw q at (rw p at (rw s at k)))
+      at s false b p q = absurd (denied_uses _ e i (rw p at (rw s at k)))
+
+      by : (o : Option OneVersion) → x.steady ≡ o → FromDescriptor table now words e i
+      by None s = at s (is_in now x.epoch) (is_read x.mode) refl refl
+      by (Some v) s = absurd (denied_uses _ e i (rw s at k))
 
 pub uses_from : (table : ℕ → Option Descriptor) (now : Option EpochId) (id : CallId) (words : Call) (e : EpochId) (i : Serial) → beginning table now id words ≡ begins.Uses e i → FromDescriptor table now words e i
 uses_from table now id (call.Open path mode) e i k = absurd (open_uses id now (lowest_free table) e i k)
-uses_from table now id (call.Read fd at len) e i k = on_uses false table now fd (call.Read fd at len) e i tt tt (table fd) refl k
+uses_from table now id (call.Read fd at len) e i k = read_uses table now fd (call.Read fd at len) e i tt tt (table fd) refl k
 uses_from table now id (call.Write fd at bytes) e i k = over (is_too_long (call.Write fd at bytes)) k
   where
-    over : (b : Bool) → cond b (begins.Denied refusal.TooLong) (begins_on true now (table fd)) ≡ begins.Uses e i → FromDescriptor table now (call.Write fd at bytes) e i
+    over : (b : Bool) → cond b (begins.Denied refusal.TooLong) (begins_change now (table fd)) ≡ begins.Uses e i → FromDescriptor table now (call.Write fd at bytes) e i
     over true m = absurd (denied_uses _ e i m)
-    over false m = on_uses true table now fd (call.Write fd at bytes) e i tt tt (table fd) refl m
-uses_from table now id (call.Cut fd len) e i k = on_uses true table now fd (call.Cut fd len) e i tt tt (table fd) refl k
-uses_from table now id (call.Commit fd) e i k = on_uses true table now fd (call.Commit fd) e i tt tt (table fd) refl k
-uses_from table now id (call.Abort fd) e i k = on_uses true table now fd (call.Abort fd) e i tt tt (table fd) refl k
-uses_from table now id (call.Close fd) e i k = on_uses false table now fd (call.Close fd) e i tt refl (table fd) refl k
+    over false m = change_uses table now fd (call.Write fd at bytes) e i tt tt (table fd) refl m
+uses_from table now id (call.Cut fd len) e i k = change_uses table now fd (call.Cut fd len) e i tt tt (table fd) refl k
+uses_from table now id (call.Commit fd) e i k = change_uses table now fd (call.Commit fd) e i tt tt (table fd) refl k
+uses_from table now id (call.Abort fd) e i k = change_uses table now fd (call.Abort fd) e i tt tt (table fd) refl k
+uses_from table now id (call.Close fd) e i k = close_uses table now fd (call.Close fd) e i tt refl (table fd) refl k
 uses_from table now id (call.Create path sites) e i k = absurd (walk_uses id now e i k)
 uses_from table now id (call.MakeDir path) e i k = absurd (walk_uses id now e i k)
 uses_from table now id (call.Unlink path) e i k = absurd (walk_uses id now e i k)
@@ -262,6 +267,8 @@ uses_is (begins.Uses at inst) e i t = over (same_epoch at e) (same_serial inst i
     over false b p q u = absurd (true_false (sym u))
 uses_is (begins.Denied why) e i t = absurd (true_false (sym t))
 uses_is (begins.Walks id) e i t = absurd (true_false (sym t))
+uses_is (begins.Reopens version last) e i t = absurd (true_false (sym t))
+uses_is begins.Frees e i t = absurd (true_false (sym t))
 
 -- ---- who uses an instance ----
 
@@ -331,8 +338,58 @@ users_accept c older n s process new words e i h may k = record { uses = uses (n
     closes d true t o = subst (IsUser (With n r (entries older)) e i) (some_same new d o) (user_accepted c older n s process new words e i h may (second (is_close words) (uses_by (begins_now (entries older) s process new words) e i) t))
     closes d false t o = user_stays c older n r e i d h may (k.closes d o)
 
+plain_words : (words : Call) → (IsMend words → ⊥) → IsPlain words
+plain_words (call.Mend file) k = k tt
+plain_words _ k = tt
+
+pub opening_is : (o : Option Descriptor) (e : EpochId) (i : Serial) → is_opening o e i ≡ true → (x : Descriptor) × (o ≡ Some x) × (x.epoch ≡ e) × (x.inst ≡ i)
+opening_is None e i t = absurd (true_false (sym t))
+opening_is (Some x) e i t = over (same_epoch x.epoch e) (same_serial x.inst i) refl refl t
+  where
+    over : (a b : Bool) → same_epoch x.epoch e ≡ a → same_serial x.inst i ≡ b → a && b ≡ true → (y : Descriptor) × (◌≡◌ {A = Option Descriptor} (Some x) (Some y)) × (y.epoch ≡ e) × (y.inst ≡ i)
+    over true true p q u = (x, refl, same_epoch_eq x.epoch e p, same_serial_eq x.inst i q)
+    over true false p q u = absurd (true_false (sym u))
+    over false b p q u = absurd (true_false (sym u))
+
+-- a read that has opened a version again is the first user of what it has opened
+users_read : (c : Config) (older : List Line) (n s process : ℕ) (d : CallId) (bytes : List ℕ) (e : EpochId) (i : Serial) → IsFollowed c older → MayTell c older (Shown (says.Answer s process d (reply.Data bytes))) → AreUsers (entries older) e i → AreUsers (With n (says.Answer s process d (reply.Data bytes)) (entries older)) e i
+users_read c older n s process d bytes e i h may k = record { uses = uses (is_opening (opening_of (entries older) d) e i) refl; closes = λ g o. user_stays c older n r e i g h may (k.closes g o) }
+  where
+    r : Record
+    r = says.Answer s process d (reply.Data bytes)
+
+    stay : Every (IsUser (With n r (entries older)) e i) (uses_of (entries older) e i)
+    stay = every_both (IsUser (entries older) e i) (IsUser (With n r (entries older)) e i) (uses_of (entries older) e i) (λ g u. user_stays c older n r e i g h may u) k.uses
+
+    user : (x : Descriptor) × (opening_of (entries older) d ≡ Some x) × (x.epoch ≡ e) × (x.inst ≡ i) → IsUser (With n r (entries older)) e i d
+    user o = record {
+      inside = record { accepted = inside.accepted; named = inside.named; made_in = inside.made_in };
+      site_is = site;
+      plain = plain_words inside.accepted.words (may.in_time.plain o.0 inside.accepted o.1 inside.named);
+      for = record {
+        granted = d;
+        is_granted = granted_same c older n r e i d may (subst (λ (j : Serial). granted_to (entries older) e j ≡ Some d) o.3 (subst (λ (y : EpochId). granted_to (entries older) y o.0.inst ≡ Some d) o.2 (all_opening c older h d o.0 o.1)));
+        caller = inside.accepted;
+        named = inside.named;
+        site_is = site;
+        process_is = refl;
+        answered = answered_names (entries older) n s process d (reply.Data bytes) refl;
+      };
+    }
+      where
+        inside : IsCallIn (entries older) e d
+        inside = subst (λ (y : EpochId). IsCallIn (entries older) y d) o.2 (open_inside c older h d o.0 o.1)
+
+        site : inside.accepted.site ≡ d.site
+        site = ((accepted c older h).named d inside.accepted inside.named).site_is
+
+    uses : (b : Bool) → is_opening (opening_of (entries older) d) e i ≡ b → Every (IsUser (With n r (entries older)) e i) (cond b (d ∷ uses_of (entries older) e i) (uses_of (entries older) e i))
+    uses true t = (user (opening_is (opening_of (entries older) d) e i t), stay)
+    uses false t = stay
+
 users_record : (c : Config) (older : List Line) (n : ℕ) (r : Record) (e : EpochId) (i : Serial) → IsFollowed c older → MayTell c older (Shown r) → AreUsers (entries older) e i → AreUsers (With n r (entries older)) e i
 users_record c older n (says.Accept s process new words) e i h may k = users_accept c older n s process new words e i h may k
+users_record c older n (says.Answer s process d (reply.Data bytes)) e i h may k = users_read c older n s process d bytes e i h may k
 users_record c older n r e i h may k = users_kept c older n r e i h may refl refl k
 
 users_told : (c : Config) (older : List Line) (n : ℕ) (x : Told) (e : EpochId) (i : Serial) → IsFollowed c older → MayTell c older x → AreUsers (entries older) e i → AreUsers (onto_entries n x (entries older)) e i

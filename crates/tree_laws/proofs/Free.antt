@@ -11,7 +11,7 @@ use Rattle.trace_book.specs.declared.call.Call.{Call}
 use Rattle.trace_book.specs.declared.call.Call.TheVariants as call
 use Rattle.trace_book.specs.declared.call.OpenMode.{OpenMode}
 use Rattle.trace_book.specs.declared.descriptor.Beginning.{Beginning}
-use Rattle.trace_book.specs.declared.descriptor.Beginning.TheVariants.{Denied, Uses, Walks}
+use Rattle.trace_book.specs.declared.descriptor.Beginning.TheVariants.{Denied, Uses, Walks, Reopens, Frees}
 use Rattle.locus_ids.specs.declared.refusal.Refusal.TheVariants.{BadName}
 use Rattle.trace_book.specs.declared.reply.Reply.TheVariants as reply
 use Rattle.call_rules.specs.declared.answer.Answer.{Answer}
@@ -38,6 +38,9 @@ opens_same how free file File [] r = refl
 opens_same how (Some fd) file File (answer.Opened i ino ∷ []) r = absurd (true_false (sym r))
 opens_same how None file File (answer.Opened i ino ∷ []) r = refl
 opens_same how free file File (answer.Opened i ino ∷ x ∷ xs) r = absurd (true_false (sym r))
+opens_same how (Some fd) file File (answer.Reading i version ∷ []) r = absurd (true_false (sym r))
+opens_same how None file File (answer.Reading i version ∷ []) r = refl
+opens_same how free file File (answer.Reading i version ∷ x ∷ xs) r = absurd (true_false (sym r))
 opens_same how free file File (answer.Refused why ∷ []) r = refl
 opens_same how free file File (answer.Refused why ∷ x ∷ xs) r = absurd (true_false (sym r))
 opens_same how free file File (_ ∷ xs) r = absurd (true_false (sym r))
@@ -60,6 +63,8 @@ begun_same : (mounts : List Mount) (free : Option ℕ) (words : Call) (b : Begin
 begun_same mounts free words (Denied why) xs = λ r. refl
 begun_same mounts free words (Uses epoch inst) xs = λ r. refl
 begun_same mounts free words (Walks id) xs = path_same mounts free id words xs
+begun_same mounts free words (Reopens kept last) xs = λ r. refl
+begun_same mounts free words Frees xs = λ r. refl
 
 named_same : (mounts : List Mount) (free : Option ℕ) (words : Call) (b : Beginning) (xs : List Answer) → AsksSame (named_wants mounts None words b xs) (named_wants mounts free words b xs)
 named_same mounts free words b xs = over (is_badly_named mounts words)

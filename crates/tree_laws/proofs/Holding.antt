@@ -1,6 +1,7 @@
 -- A script asks operations and closes of what it has alone, where each open is answered by an instance that it hasn't yet.
-use Rattle.std.proofs.Common.{◌≡◌, ℕ, Bool, true, false, not, ◌&&◌, ◌||◌, List, [], ◌∷◌, Option, refl, sym, ◌∙◌, ap, subst}
+use Rattle.std.proofs.Common.{◌≡◌, ℕ, Bool, true, false, not, cond, ◌&&◌, ◌||◌, List, [], ◌∷◌, Option, refl, sym, ◌∙◌, ap, subst}
 use Rattle.the_run.proofs.of_plain_facts.Tests.{true_false}
+use Rattle.locus_ids.specs.declared.ids.EpochId.{EpochId}
 use Rattle.locus_ids.specs.declared.ids.FileId.{FileId}
 use Rattle.locus_ids.specs.declared.ids.Kind.{Kind}
 use Rattle.locus_ids.specs.declared.ids.Kind.TheVariants as kind
@@ -10,7 +11,11 @@ use Rattle.locus_ids.specs.declared.sites.Sites.{Sites}
 use Rattle.locus_ids.specs.declared.refusal.Refusal.{Refusal}
 use Rattle.locus_ids.specs.declared.refusal.Refusal.TheVariants as refusal
 use Rattle.trace_book.specs.Names.{plain_name}
+use Rattle.commit_graph.specs.Versions.{same_stamp}
 use Rattle.trace_book.specs.Same.{same_serial}
+use Rattle.trace_book.specs.declared.call.Call.{Call}
+use Rattle.trace_book.specs.declared.call.Call.TheVariants as call
+use Rattle.trace_book.specs.declared.descriptor.OneVersion.{OneVersion}
 use Rattle.trace_book.specs.declared.call.OpenMode.TheVariants as how
 use Rattle.trace_book.specs.declared.operation.Op.TheVariants as op
 use Rattle.trace_book.specs.declared.operation.Outcome.TheVariants as outcome
@@ -25,7 +30,8 @@ use Rattle.call_rules.specs.Closing.{Unchanged, closes, gives, give_up, close_al
 use Rattle.call_rules.specs.Making.{after_insert, after_make, fills, after_probe, probes, opens_dir}
 use Rattle.call_rules.specs.Mending.{after_mend, brings, mend_wants}
 use Rattle.call_rules.specs.Naming.{renames}
-use Rattle.call_rules.specs.Opening.{close_wants}
+use Rattle.call_rules.specs.Opening.{close_wants, reply_to}
+use Rattle.call_rules.specs.Reopening.{reads_again, reopened, reopens, reopen_wants}
 use Rattle.call_rules.specs.Removing.{removes, empties, opens_target, by_kind, finds}
 use Rattle.tree_laws.specs.Holding.{Instances, closed_by, had_after, IsOf}
 use Rattle.tree_laws.proofs.Names.{same_serial_eq, same_serial_own}
@@ -36,6 +42,7 @@ Script = List Answer → Want
 -- what an answer opens is none of these
 abbrev pub IsNew : Answer → Instances → Type 0
 IsNew (answer.Opened i ino) own = own i ≡ false
+IsNew (answer.Reading i version) own = own i ≡ false
 IsNew (answer.Merging i kept) own = own i ≡ false
 IsNew _ own = Unit {0}
 
@@ -63,6 +70,7 @@ not_in own more i h k = at (own i) refl
 
 new_less : (a : Answer) (own more : Instances) → Within own more → IsNew a more → IsNew a own
 new_less (answer.Opened i ino) own more h k = not_in own more i h k
+new_less (answer.Reading i version) own more h k = not_in own more i h k
 new_less (answer.Merging i kept) own more h k = not_in own more i h k
 new_less _ own more h k = tt
 
@@ -80,6 +88,7 @@ closed_more _ own more h i k = h i k
 
 had_more : (w : Want) (a : Answer) (own more : Instances) → Within own more → Within (had_after w a own) (had_after w a more)
 had_more w (answer.Opened inst ino) own more h i k = or_more (same_serial inst i) (own i) (more i) (h i) k
+had_more w (answer.Reading inst version) own more h i k = or_more (same_serial inst i) (own i) (more i) (h i) k
 had_more w (answer.Merging inst kept) own more h i k = or_more (same_serial inst i) (own i) (more i) (h i) k
 had_more w _ own more h i k = closed_more w own more h i k
 
@@ -251,7 +260,7 @@ finds_safe k p group component (answer.Did (outcome.Found ino found) ∷ xs) = �
 finds_safe k p group component (answer.Refused why ∷ xs) = λ new. give_up_one p why (One p) xs (one_own p)
 finds_safe k p group component (a ∷ xs) = λ new. never_safe (had_after (want.Do p (op.Find component)) a (One p)) xs
 
--- ---- rename and mend ----
+-- ---- rename ----
 
 pub renames_safe : (p : Serial) (component name : List ℕ) (xs : List Answer) → Safe (renames p component name) (One p) xs
 renames_safe p component name [] = one_own p
@@ -266,6 +275,35 @@ close_safe p own (answer.Ended stamp ∷ (a ∷ xs)) h = λ new fresh. never_saf
 close_safe p own (answer.Refused why ∷ []) h = λ new. tt
 close_safe p own (answer.Refused why ∷ (a ∷ xs)) h = λ new fresh. never_safe (had_after (want.Give (reply.No why)) a (λ i. not (same_serial p i) && own i)) xs
 close_safe p own (a ∷ xs) h = λ new. never_safe (had_after (want.Close p) a own) xs
+
+-- ---- a read that opens a version again ----
+
+reads_again_safe : (p : Serial) (at len : ℕ) (own : Instances) (xs : List Answer) → own p ≡ true → Safe (reads_again p at len) own xs
+reads_again_safe p at len own [] h = h
+reads_again_safe p at len own (answer.Did result ∷ []) h = λ new. tt
+reads_again_safe p at len own (answer.Did result ∷ (a ∷ xs)) h = λ new fresh. never_safe (had_after (want.Give (reply_to result)) a own) xs
+reads_again_safe p at len own (answer.Refused why ∷ xs) h = λ new. give_up_one p why own xs h
+reads_again_safe p at len own (a ∷ xs) h = λ new. never_safe (had_after (want.Do p (op.Read at len)) a own) xs
+
+reopened_safe : (kept : OneVersion) (last : EpochId) (at len : ℕ) (p : Serial) (granted : OneVersion) (own : Instances) (xs : List Answer) → own p ≡ true → Safe (reopened kept last at len p granted) own xs
+reopened_safe kept last at len p granted own xs h = over (same_stamp granted.stamp kept.stamp)
+  where
+    over : (b : Bool) → Safe (λ ys. cond b (reads_again p at len ys) (give_up (Unchanged p ∷ []) (refusal.Stale last) ys)) own xs
+    over true = reads_again_safe p at len own xs h
+    over false = give_up_one p (refusal.Stale last) own xs h
+
+reopens_safe : (kept : OneVersion) (last : EpochId) (at len : ℕ) (own : Instances) (xs : List Answer) → Safe (reopens kept last at len) own xs
+reopens_safe kept last at len own [] = tt
+reopens_safe kept last at len own (answer.Reading p granted ∷ xs) = λ new. reopened_safe kept last at len p granted (λ i. same_serial p i || own i) xs (ap (λ (b : Bool). b || own p) (same_serial_own p))
+reopens_safe kept last at len own (answer.Refused why ∷ []) = λ new. tt
+reopens_safe kept last at len own (answer.Refused why ∷ (a ∷ xs)) = λ new fresh. never_safe (had_after (want.Give (reply.No why)) a own) xs
+reopens_safe kept last at len own (a ∷ xs) = λ new. never_safe (had_after (want.Open kept.file how.Read) a own) xs
+
+pub reopen_safe : (words : Call) (kept : OneVersion) (last : EpochId) (own : Instances) (xs : List Answer) → Safe (reopen_wants words kept last) own xs
+reopen_safe (call.Read fd at len) kept last own xs = reopens_safe kept last at len own xs
+reopen_safe _ kept last own xs = never_safe own xs
+
+-- ---- mend ----
 
 after_mend_safe : (p : Serial) (own : Instances) (xs : List Answer) → own p ≡ true → Safe (after_mend p) own xs
 after_mend_safe p own [] h = h

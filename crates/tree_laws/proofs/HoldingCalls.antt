@@ -29,7 +29,7 @@ use Rattle.call_rules.specs.Scripts.{path_wants, begun_wants, named_wants, where
 use Rattle.call_rules.specs.Walks.{Walked, Asks, Fails, There, Strays, root_of, mounted_in, passes, walk, walked}
 use Rattle.call_rules.specs.Words.{is_badly_named}
 use Rattle.tree_laws.specs.Holding.{Instances, begun_with, had_after, IsOf}
-use Rattle.tree_laws.proofs.Holding.{Script, Safe, safe_same, never_safe, give_safe, One, one_own, close_safe, probes_safe, opens_dir_safe, finds_safe, renames_safe, mend_safe}
+use Rattle.tree_laws.proofs.Holding.{Script, Safe, safe_same, never_safe, give_safe, One, one_own, close_safe, probes_safe, opens_dir_safe, finds_safe, renames_safe, reopen_safe, mend_safe}
 
 -- ---- open, list and stat ----
 
@@ -40,6 +40,10 @@ opens_file_safe m (Some fd) file kind.File own (answer.Opened i ino ∷ []) = λ
 opens_file_safe m None file kind.File own (answer.Opened i ino ∷ []) = λ new. tt
 opens_file_safe m (Some fd) file kind.File own (answer.Opened i ino ∷ (a ∷ xs)) = λ new fresh. never_safe (had_after (want.Give (reply.Opened fd)) a (had_after (want.Open file m) (answer.Opened i ino) own)) xs
 opens_file_safe m None file kind.File own (answer.Opened i ino ∷ (a ∷ xs)) = λ new fresh. never_safe (had_after want.Never a (had_after (want.Open file m) (answer.Opened i ino) own)) xs
+opens_file_safe m (Some fd) file kind.File own (answer.Reading i version ∷ []) = λ new. tt
+opens_file_safe m None file kind.File own (answer.Reading i version ∷ []) = λ new. tt
+opens_file_safe m (Some fd) file kind.File own (answer.Reading i version ∷ (a ∷ xs)) = λ new fresh. never_safe (had_after (want.Give (reply.Opened fd)) a (had_after (want.Open file m) (answer.Reading i version) own)) xs
+opens_file_safe m None file kind.File own (answer.Reading i version ∷ (a ∷ xs)) = λ new fresh. never_safe (had_after want.Never a (had_after (want.Open file m) (answer.Reading i version) own)) xs
 opens_file_safe m None file kind.File own (answer.Refused why ∷ []) = λ new. tt
 opens_file_safe m (Some fd) file kind.File own (answer.Refused why ∷ []) = λ new. tt
 opens_file_safe m None file kind.File own (answer.Refused why ∷ (a ∷ xs)) = λ new fresh. never_safe (had_after (want.Give (reply.No why)) a own) xs
@@ -136,6 +140,8 @@ begun_safe : (mounts : List Mount) (free : Option ℕ) (words : Call) (b : Begin
 begun_safe mounts free words (begins.Denied why) xs = give_safe (reply.No why) (begun_with (begins.Denied why)) xs
 begun_safe mounts free words (begins.Uses e i) xs = uses_safe words i xs
 begun_safe mounts free words (begins.Walks id) xs = path_safe mounts free id words (begun_with (begins.Walks id)) xs
+begun_safe mounts free words (begins.Reopens kept last) xs = reopen_safe words kept last (begun_with (begins.Reopens kept last)) xs
+begun_safe mounts free words begins.Frees xs = give_safe (reply.Closed None) (begun_with begins.Frees) xs
 
 named_safe : (mounts : List Mount) (free : Option ℕ) (words : Call) (b : Beginning) (xs : List Answer) → Safe (named_wants mounts free words b) (begun_with b) xs
 named_safe mounts free words b xs = over (is_badly_named mounts words)
@@ -176,6 +182,7 @@ packed_had p (want.Look file w) a own = over (p file.group) a
     over : (b : Bool) (a : Answer) → had_after (cond b (want.Look file w) (want.Give (reply.No refusal.NoStorage))) a own ≡ had_after (want.Look file w) a own
     over true a = refl
     over false (answer.Opened i ino) = refl
+    over false (answer.Reading i version) = refl
     over false (answer.Merging i kept) = refl
     over false _ = refl
 packed_had p (want.Open file how) a own = over (p file.group) a
@@ -183,6 +190,7 @@ packed_had p (want.Open file how) a own = over (p file.group) a
     over : (b : Bool) (a : Answer) → had_after (cond b (want.Open file how) (want.Give (reply.No refusal.NoStorage))) a own ≡ had_after (want.Open file how) a own
     over true a = refl
     over false (answer.Opened i ino) = refl
+    over false (answer.Reading i version) = refl
     over false (answer.Merging i kept) = refl
     over false _ = refl
 packed_had p (want.OpenToMend file) a own = over (p file.group) a
@@ -190,6 +198,7 @@ packed_had p (want.OpenToMend file) a own = over (p file.group) a
     over : (b : Bool) (a : Answer) → had_after (cond b (want.OpenToMend file) (want.Give (reply.No refusal.NoStorage))) a own ≡ had_after (want.OpenToMend file) a own
     over true a = refl
     over false (answer.Opened i ino) = refl
+    over false (answer.Reading i version) = refl
     over false (answer.Merging i kept) = refl
     over false _ = refl
 packed_had p (want.Make group k sites) a own = over (p group) a
@@ -197,6 +206,7 @@ packed_had p (want.Make group k sites) a own = over (p group) a
     over : (b : Bool) (a : Answer) → had_after (cond b (want.Make group k sites) (want.Give (reply.No refusal.NoStorage))) a own ≡ had_after (want.Make group k sites) a own
     over true a = refl
     over false (answer.Opened i ino) = refl
+    over false (answer.Reading i version) = refl
     over false (answer.Merging i kept) = refl
     over false _ = refl
 packed_had p _ a own = refl

@@ -30,6 +30,8 @@ pub mod Versions
 pub mod Origins
 pub mod Waiting
 pub mod Later
+pub mod Naming
+pub mod Reopening
 pub mod Descriptors
 pub mod Answered
 pub mod Alone

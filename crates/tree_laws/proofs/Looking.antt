@@ -121,6 +121,8 @@ begun_looks : (c : Config) (free : Option ℕ) (file : FileId) (b : Beginning) (
 begun_looks c free file (begins.Denied why) xs = tt
 begun_looks c free file (begins.Uses e i) xs = tt
 begun_looks c free file (begins.Walks id) xs = mend_looks file xs
+begun_looks c free file (begins.Reopens kept last) xs = tt
+begun_looks c free file begins.Frees xs = tt
 
 script_looks : (c : Config) (before : _) (file : FileId) (w : Waiting) (o : Option Beginning) (xs : Answers) → w.words ≡ call.Mend file → LooksAt file (script_as c before (Some w) o None xs)
 script_looks c before file w None xs is = tt
@@ -168,7 +170,7 @@ system_told : (c : Config) (n : ℕ) (x : Told) (older : List Line) → MayTell 
 system_told c n (Shown r) older may k = system_record c n r older may k
 system_told c n _ older may k = k
 
-mends_are_system : (c : Config) (trace : List Line) → IsFollowed c trace → MendsAreSystem trace
+pub mends_are_system : (c : Config) (trace : List Line) → IsFollowed c trace → MendsAreSystem trace
 mends_are_system c [] h d w named is = absurd (none_some w named)
 mends_are_system c (x ∷ older) h d w named is = system_told c x.number x.told older h.0 (mends_are_system c older h.1) d w named is
 

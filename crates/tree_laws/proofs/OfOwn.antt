@@ -28,6 +28,7 @@ With n x older = record { number = n; told = x } ∷ older
 
 new_answer : (a : Answer) (own : Instances) → ((i : Serial) → OpensIt a i → own i ≡ false) → IsNew a own
 new_answer (answer.Opened inst ino) own h = h inst refl
+new_answer (answer.Reading inst version) own h = h inst refl
 new_answer (answer.Merging inst kept) own h = h inst refl
 new_answer _ own h = tt
 

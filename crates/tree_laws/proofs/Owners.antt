@@ -21,13 +21,13 @@ use Rattle.call_rules.specs.declared.want.Want.{Want}
 use Rattle.call_rules.specs.declared.want.Want.TheVariants as want
 use Rattle.the_run.specs.of_role_steps.Views.{Told, Shown}
 use Rattle.the_run.specs.Worlds.{Line}
-use Rattle.tree_model.specs.Calls.{granted_to}
+use Rattle.tree_model.specs.Calls.{granted_to, opening_of}
 use Rattle.tree_model.specs.Folds.{Trace}
-use Rattle.lawful_trace.specs.Tables.{begins_now, is_close, uses_by, uses_of, use_number, close_of, is_opened, has_named, unless_named, call_of_act, call_of_release}
+use Rattle.lawful_trace.specs.Tables.{begins_now, is_close, uses_by, uses_of, use_number, close_of, is_opening, names_instance, has_named, unless_named, call_of_act, call_of_release}
 use Rattle.tree_laws.specs.Printed.{entries, onto_entries}
 use Rattle.tree_laws.specs.Calls.{Asks, is_request}
 use Rattle.tree_laws.specs.Past.{WasNamed}
-use Rattle.tree_laws.specs.Following.{MayTell, AnswersInTime, AcceptsInTime}
+use Rattle.tree_laws.specs.Following.{MayTell, AnswersInTime, AcceptsInTime, RepliesNaming}
 use Rattle.tree_laws.proofs.Names.{same_call_eq, same_epoch_eq, same_serial_eq}
 
 -- ---- what was granted was named ----
@@ -68,25 +68,29 @@ number_more c xs n d e = at (n == suc (length xs)) refl
     at true t = absurd (not_last (length xs) (number_low xs n d e) t)
     at false t = e
 
--- ---- a descriptor names an instance where an open was answered ----
+-- ---- a reply names an instance: an open's, or that of a read that has opened a version again ----
 
--- the reply opens
-opened_reply : (c : Config) (older : List Line) (d : CallId) (r : Reply) (w : Want) → Asks c older d w → AnswersInTime c older d r → is_opened r ≡ true → ⊥
-opened_reply c older d (reply.Opened fd) w k t e = true_false (sym (subst (λ (v : Want). is_request v ≡ true) (sym k.asked) k.request) ∙ t.replies.nothing_asked)
-opened_reply c older d _ w k t e = absurd (true_false (sym e))
+pub naming_reply : (c : Config) (older : List Line) (d : CallId) (r : Reply) → AnswersInTime c older d r → names_instance r ≡ true → RepliesNaming c older d r
+naming_reply c older d (reply.Opened fd) t e = t
+naming_reply c older d (reply.Data bytes) t e = t
+naming_reply c older d _ t e = absurd (true_false (sym e))
 
--- who has named what is as it was, or the call that was granted it is answered by a descriptor
+-- who asks something still isn't answered so
+asker_unanswered : (c : Config) (older : List Line) (d : CallId) (r : Reply) (w : Want) → Asks c older d w → RepliesNaming c older d r → ⊥
+asker_unanswered c older d r w k t = true_false (sym (subst (λ (v : Want). is_request v ≡ true) (sym k.asked) k.request) ∙ t.replies.nothing_asked)
+
+-- who has named what is as it was, or the call that was granted it is answered so
 pub named_record : (c : Config) (older : List Line) (n : ℕ) (r : Record) (d : CallId) (w : Want) → MayTell c older (Shown r) → Asks c older d w → has_named (record { line = n; what = r } ∷ entries older) d ≡ has_named (entries older) d
-named_record c older n (says.Answer s process other r) d w may k = at (same_call other d) (is_opened r) refl refl
+named_record c older n (says.Answer s process other r) d w may k = at (same_call other d) (names_instance r) refl refl
   where
-    at : (a b : Bool) → same_call other d ≡ a → is_opened r ≡ b → (a && b || has_named (entries older) d) ≡ has_named (entries older) d
-    at true true p q = absurd (opened_reply c older d r w k (subst (λ (y : CallId). AnswersInTime c older y r) (same_call_eq other d p) may.in_time) q)
+    at : (a b : Bool) → same_call other d ≡ a → names_instance r ≡ b → (a && b || has_named (entries older) d) ≡ has_named (entries older) d
+    at true true p q = absurd (asker_unanswered c older d r w k (naming_reply c older d r (subst (λ (y : CallId). AnswersInTime c older y r) (same_call_eq other d p) may.in_time) q))
     at true false p q = refl
     at false b p q = refl
 named_record c older n _ d w may k = refl
 
 pub named_more : (n : ℕ) (r : Record) (before : Trace) (d : CallId) → has_named before d ≡ true → has_named (record { line = n; what = r } ∷ before) d ≡ true
-named_more n (says.Answer s process other r) before d h = at (same_call other d && is_opened r)
+named_more n (says.Answer s process other r) before d h = at (same_call other d && names_instance r)
   where
     at : (a : Bool) → (a || has_named before d) ≡ true
     at true = refl
@@ -110,6 +114,11 @@ used_same n (says.Accept s process new words) before e i k d h = at (not (is_clo
     at : (b : Bool) → use_number (cond b (new ∷ uses_of before e i) (uses_of before e i)) k ≡ Some d
     at true = number_more new (uses_of before e i) k d h
     at false = h
+used_same n (says.Answer s process call (reply.Data bytes)) before e i k d h = at (is_opening (opening_of before call) e i)
+  where
+    at : (b : Bool) → use_number (cond b (call ∷ uses_of before e i) (uses_of before e i)) k ≡ Some d
+    at true = number_more call (uses_of before e i) k d h
+    at false = h
 used_same n _ before e i k d h = h
 
 -- a second close of an instance is never accepted
@@ -122,6 +131,8 @@ closed_again before (call.Close fd) (begins.Uses at inst) e i d t h k = parts (s
     parts false y p q k = true_false (sym k)
 closed_again before (call.Close fd) (begins.Denied why) e i d t h k = true_false (sym k)
 closed_again before (call.Close fd) (begins.Walks id) e i d t h k = true_false (sym k)
+closed_again before (call.Close fd) (begins.Reopens version last) e i d t h k = true_false (sym k)
+closed_again before (call.Close fd) begins.Frees e i d t h k = true_false (sym k)
 closed_again before _ b e i d t h k = true_false (sym k)
 
 pub closed_same : (c : Config) (older : List Line) (n : ℕ) (r : Record) (e : EpochId) (i : Serial) (d : CallId) → MayTell c older (Shown r) → close_of (entries older) e i ≡ Some d → close_of (record { line = n; what = r } ∷ entries older) e i ≡ Some d

@@ -155,7 +155,7 @@ named_record : (c : Config) (older : List Line) (n : ℕ) (r : Record) → IsFol
 named_record c older n (says.Grant at call request inst m f stamp ss) h later may k e i (inl named) =
     subst (λ (y : EpochId). NamedBy c (With n (Shown (says.Grant at call request inst m f stamp ss)) older) y i) named.epoch_is
     (subst (λ (j : Serial). NamedBy c (With n (Shown (says.Grant at call request inst m f stamp ss)) older) at j) named.serial_is
-    (named_new c older n (says.Grant at call request inst m f stamp ss) at call request inst m f (granted_answer m inst f (kept_in c (entries older) at f)) h may may.row.opens.step may.in_time.opens refl (λ d. refl) (λ d. refl) (λ d inside. record { accepted = inside.accepted; named = inside.named; made_in = inside.made_in }) (λ now. now) (heard_own call (heard c older call ++ granted_answer m inst f (kept_in c (entries older) at f) ∷ []) (heard c older call))))
+    (named_new c older n (says.Grant at call request inst m f stamp ss) at call request inst m f (granted_answer m inst f stamp (kept_in c (entries older) at f)) h may may.row.opens.step may.in_time.opens refl (λ d. refl) (λ d. refl) (λ d inside. record { accepted = inside.accepted; named = inside.named; made_in = inside.made_in }) (λ now. now) (heard_own call (heard c older call ++ granted_answer m inst f stamp (kept_in c (entries older) at f) ∷ []) (heard c older call))))
 named_record c older n (says.Refuse at call request inst m f why) h later may k e i (inl named) =
     subst (λ (y : EpochId). NamedBy c (With n (Shown (says.Refuse at call request inst m f why)) older) y i) named.epoch_is
     (subst (λ (j : Serial). NamedBy c (With n (Shown (says.Refuse at call request inst m f why)) older) at j) named.serial_is

@@ -29,7 +29,7 @@ step_record c n (says.Look e call request f w result) older d may step clear = (
   where
     short : take (request - 1) (heard c older d) ≡ log older d
     short = ap (λ (m : ℕ). take (m - 1) (heard c older d)) (may.in_time.request_is ∙ ap (λ (y : CallId). length (log older y) + 1) step) ∙ (ap (take (length (log older d) + 1 - 1)) clear ∙ take_own (log older d))
-step_record c n (says.Grant e call request i m f stamp ss) older d may step clear = (granted_answer m i f (kept_in c (entries older) e f), by_own call d _ (heard c older d) step ∙ ap (λ (xs : Answers). xs ++ granted_answer m i f (kept_in c (entries older) e f) ∷ []) clear)
+step_record c n (says.Grant e call request i m f stamp ss) older d may step clear = (granted_answer m i f stamp (kept_in c (entries older) e f), by_own call d _ (heard c older d) step ∙ ap (λ (xs : Answers). xs ++ granted_answer m i f stamp (kept_in c (entries older) e f) ∷ []) clear)
 step_record c n (says.Refuse e call request i m f why) older d may step clear = (answer.Refused why, by_own call d _ (heard c older d) step ∙ ap (λ (xs : Answers). xs ++ answer.Refused why ∷ []) clear)
 step_record c n (says.Act e i number o result) older d may step clear = (outcome_answer result, by_owner (call_of_act (entries older) e i number) d _ (heard c older d) step ∙ ap (λ (xs : Answers). xs ++ outcome_answer result ∷ []) clear)
 step_record c n (says.Release e i f stamp) older d may step clear = (close_answer stamp (instance_in (tree_of c e f.group (entries older)) i), by_owner (call_of_release (entries older) e i) d _ (heard c older d) step ∙ ap (λ (xs : Answers). xs ++ close_answer stamp (instance_in (tree_of c e f.group (entries older)) i) ∷ []) clear)

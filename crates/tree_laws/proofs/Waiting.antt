@@ -113,6 +113,7 @@ out_of false o a e = (refl, e)
 unanswered : (c : Config) (older : List Line) (d : CallId) (e : EpochId) (r : Reply) → AnswersInTime c older d r → epoch_of (entries older) d.site ≡ Some e → is_request (asked_now c older d) ≡ true → ⊥
 unanswered c older d e (reply.No (refusal.Changed at)) t inside asks = none_some e (sym t ∙ inside)
 unanswered c older d e (reply.Opened fd) t inside asks = true_false (sym asks ∙ t.replies.nothing_asked)
+unanswered c older d e (reply.Data bytes) t inside asks = true_false (sym asks ∙ t.replies.nothing_asked)
 unanswered c older d e (reply.No why) t inside asks = true_false (sym asks ∙ t.nothing_asked)
 unanswered c older d e _ t inside asks = true_false (sym asks ∙ t.nothing_asked)
 

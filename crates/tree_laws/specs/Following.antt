@@ -1,6 +1,6 @@
 -- Which told line may come when: a printed record as the lawful trace has it, and at its time by what its process has taken;
 -- and what only the laws see.
-use Rattle.std.specs.Prelude.{ℕ, ◌≡◌, ◌⊎◌, ◌+◌, true, false, List, [], ◌∷◌, length, None, Some}
+use Rattle.std.specs.Prelude.{ℕ, ◌≡◌, ◌⊎◌, ◌+◌, true, false, List, [], ◌∷◌, length, Option, None, Some}
 use Rattle.std.specs.List.{find}
 use Rattle.locus_ids.specs.declared.config.Config.{Config}
 use Rattle.locus_ids.specs.declared.ids.CallId.{CallId}
@@ -18,13 +18,16 @@ use Rattle.trace_book.specs.declared.call.Call.TheVariants as call
 use Rattle.trace_book.specs.declared.descriptor.Beginning.{Beginning}
 use Rattle.trace_book.specs.declared.descriptor.Beginning.TheVariants as begins
 use Rattle.trace_book.specs.declared.descriptor.Descriptor.{Descriptor}
+use Rattle.trace_book.specs.declared.descriptor.OneVersion.{OneVersion}
 use Rattle.trace_book.specs.declared.operation.Op.{Op}
+use Rattle.trace_book.specs.declared.operation.Outcome.{Outcome}
 use Rattle.trace_book.specs.declared.operation.What.{What}
 use Rattle.trace_book.specs.declared.record.Record.{Record}
 use Rattle.trace_book.specs.declared.record.Record.TheVariants as says
 use Rattle.trace_book.specs.declared.reply.Reply.{Reply}
 use Rattle.trace_book.specs.declared.reply.Reply.TheVariants as reply
 use Rattle.call_rules.specs.declared.answer.Answer.{Answer}
+use Rattle.call_rules.specs.declared.answer.Answer.TheVariants as answer
 use Rattle.call_rules.specs.declared.want.Want.TheVariants as want
 use Rattle.the_run.specs.of_wire_messages.declared.body.Opening.{Opening}
 use Rattle.the_run.specs.of_wire_messages.declared.body.Opening.TheVariants as how
@@ -33,7 +36,7 @@ use Rattle.the_run.specs.of_role_steps.Views.{Told, Shown, Promises, Takes, Look
 use Rattle.the_run.specs.Worlds.{Line}
 use Rattle.tree_model.specs.declared.accepted.Waiting.{Waiting}
 use Rattle.tree_model.specs.declared.instance.Instance.{Instance}
-use Rattle.tree_model.specs.Calls.{opening_of, waiting}
+use Rattle.tree_model.specs.Calls.{call_named, opening_of, waiting}
 use Rattle.tree_model.specs.Epochs.{epoch_of, members_of}
 use Rattle.tree_model.specs.Folds.{Trace}
 use Rattle.tree_model.specs.Opening.{is_given_by}
@@ -41,12 +44,13 @@ use Rattle.tree_model.specs.Packs.{is_good_set, making_site_in}
 use Rattle.tree_model.specs.Tree.{kept_in}
 use Rattle.lawful_trace.specs.CallRows.{is_this}
 use Rattle.lawful_trace.specs.Lawful.{MayCome}
-use Rattle.lawful_trace.specs.Tables.{begins_now, close_of, call_of_act, call_of_release}
+use Rattle.lawful_trace.specs.Tables.{begins_now, begun, close_of, call_of_act, call_of_release}
 use Rattle.lawful_trace.specs.TreeRows.{granted_group}
 use Rattle.tree_laws.specs.Printed.{entries}
 use Rattle.tree_laws.specs.Calls.{log, tries, heard, script, is_request, Asks, Waits, request_number}
 use Rattle.tree_laws.specs.Holding.{has_instances}
 use Rattle.tree_laws.specs.Past.{WasNamed, WasBegun, WasShut}
+use Rattle.tree_laws.specs.Processes.{IsMend}
 use Rattle.tree_laws.specs.Instances.{IsOpenAt, AsksOpen, IsStarted, IsUsed, IsFull}
 
 -- ---- printed records at their time ----
@@ -141,15 +145,31 @@ pub record RepliesInTime (c : Config) (trace : List Line) (d : CallId) : Type 0 
   pub nothing_waits : heard c trace d ≡ log trace d
   pub nothing_asked : is_request (script c (entries trace) d None (log trace d)) ≡ false
 
--- an open is answered by a descriptor while its call has the instance that was granted to it last
-pub record RepliesOpened (c : Config) (trace : List Line) (d : CallId) : Type 0 where
+-- where a call began that is answered so by what was granted to it: an open walks, and a read opens a version again
+abbrev pub BeganFor : Reply → Option Beginning → Type 0
+BeganFor (reply.Opened fd) (Some (begins.Walks id)) = Unit {0}
+BeganFor (reply.Data bytes) (Some (begins.Reopens version last)) = Unit {0}
+BeganFor _ _ = ⊥
+
+-- and what it has taken: a read the instance, and then what was read by it
+abbrev pub TookFor : Reply → Serial → List Answer → Type 0
+TookFor (reply.Data bytes) i taken = (version : OneVersion) × (result : Outcome) × (taken ≡ answer.Reading i version ∷ answer.Did result ∷ [])
+TookFor _ i taken = Unit {0}
+
+-- A reply that names an instance, an open's by its descriptor or that of a read that has opened a version again, comes while the call has
+-- the instance that was granted to it last; and none of a mend names one.
+pub record RepliesNaming (c : Config) (trace : List Line) (d : CallId) (r : Reply) : Type 0 where
   pub replies : RepliesInTime c trace d
   pub held : (x : Descriptor) → opening_of (entries trace) d ≡ Some x → has_instances c trace d x.inst ≡ true
+  pub plain : (x : Descriptor) (w : Waiting) → opening_of (entries trace) d ≡ Some x → call_named (entries trace) d ≡ Some w → IsMend w.words → ⊥
+  pub began : (x : Descriptor) → opening_of (entries trace) d ≡ Some x → BeganFor r (begun (entries trace) d)
+  pub took : (x : Descriptor) → opening_of (entries trace) d ≡ Some x → TookFor r x.inst (log trace d)
 
 -- a reply comes once nothing is asked any more; that the epoch was left comes whatever is asked, at a site that is in none
 abbrev pub AnswersInTime : Config → List Line → CallId → Reply → Type 0
 AnswersInTime c trace d (reply.No (refusal.Changed e)) = epoch_of (entries trace) d.site ≡ None
-AnswersInTime c trace d (reply.Opened fd) = RepliesOpened c trace d
+AnswersInTime c trace d (reply.Opened fd) = RepliesNaming c trace d (reply.Opened fd)
+AnswersInTime c trace d (reply.Data bytes) = RepliesNaming c trace d (reply.Data bytes)
 AnswersInTime c trace d r = RepliesInTime c trace d
 
 -- a close is accepted of an instance of which none was: its descriptor is free from then on

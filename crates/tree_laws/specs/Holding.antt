@@ -36,6 +36,7 @@ closed_by _ old i = old i
 
 abbrev pub had_after : Want → Answer → Instances → Instances
 had_after w (answer.Opened inst ino) old i = same_serial inst i || old i
+had_after w (answer.Reading inst version) old i = same_serial inst i || old i
 had_after w (answer.Merging inst kept) old i = same_serial inst i || old i
 had_after w _ old i = closed_by w old i
 

@@ -233,7 +233,7 @@ abbrev pub SeesVersion : Config → List Line → FileId → Mode → Option Sta
 SeesVersion c trace f mode.Write (Some stamp) vector = Stands c trace f stamp × (vector ≡ vector_of (history c (entries trace)) f stamp)
 SeesVersion c trace f _ stamp vector = Unit {0}
 
-pub record GrantedFact (c : Config) (trace : List Line) (e : EpochId) (us serial ss ino : ℕ) (vector : List ℕ) : Type 0 where
+pub record GrantedFact (c : Config) (trace : List Line) (e : EpochId) (us serial ss ino : ℕ) (told : Stamp) (vector : List ℕ) : Type 0 where
   pub call : CallId
   pub request : ℕ
   pub mode : Mode
@@ -241,10 +241,11 @@ pub record GrantedFact (c : Config) (trace : List Line) (e : EpochId) (us serial
   pub stamp : Option Stamp
   pub was_granted : WasGranted trace e call request (serial_of us serial) mode file stamp ss
   pub number_is : file.ino ≡ ino
+  pub told_is : told ≡ stamp_or_none stamp
   pub sees : SeesVersion c trace file mode stamp vector
 
 abbrev pub OpenDoneFact : Config → List Line → EpochId → ℕ → ℕ → Granted → Type 0
-OpenDoneFact c trace e us serial (granted.Open ss ino size stamp vector) = GrantedFact c trace e us serial ss ino vector
+OpenDoneFact c trace e us serial (granted.Open ss ino size stamp vector) = GrantedFact c trace e us serial ss ino stamp vector
 OpenDoneFact c trace e us serial (granted.No why) = (call : CallId) × (request : ℕ) × (m : Mode) × WasRefused trace e call request (serial_of us serial) m why
 
 -- ---- operations ----

@@ -114,6 +114,7 @@ without_closed _ old = old
 
 abbrev pub had_by : Want → Answer → List ℕ → List ℕ
 had_by w (answer.Opened inst ino) old = inst.serial ∷ old
+had_by w (answer.Reading inst version) old = inst.serial ∷ old
 had_by w (answer.Merging inst kept) old = inst.serial ∷ old
 had_by w _ old = without_closed w old
 

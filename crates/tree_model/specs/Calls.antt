@@ -3,12 +3,15 @@ use Rattle.std.specs.Prelude.{ℕ, ◌==◌, Bool, ◌&&◌, List, [], ◌∷◌
 use Rattle.std.specs.List.{find}
 use Rattle.locus_ids.specs.declared.ids.EpochId.{EpochId}
 use Rattle.locus_ids.specs.declared.ids.CallId.{CallId}
+use Rattle.locus_ids.specs.declared.ids.FileId.{FileId}
 use Rattle.locus_ids.specs.declared.ids.Serial.{Serial}
+use Rattle.locus_ids.specs.declared.ids.Stamp.{Stamp}
 use Rattle.trace_book.specs.Same.{same_epoch, same_call, same_serial}
 use Rattle.trace_book.specs.declared.record.Record.{Record}
 use Rattle.trace_book.specs.declared.record.Record.TheVariants.{Stopped, Accept, Grant, Answer}
 use Rattle.trace_book.specs.declared.call.Call.{Call}
 use Rattle.trace_book.specs.declared.descriptor.Descriptor.{Descriptor}
+use Rattle.trace_book.specs.declared.descriptor.OneVersion.{OneVersion}
 use Rattle.tree_model.specs.declared.accepted.Waiting.{Waiting}
 use Rattle.tree_model.specs.Folds.{Trace, over}
 use Rattle.tree_model.specs.Epochs.{epoch_of}
@@ -51,9 +54,21 @@ abbrev pub granted_to : Trace → EpochId → Serial → Option CallId
 granted_to trace e i = over None (λ r before old. granted_after r.what e i old) trace
 
 abbrev pub opening_after : Record → CallId → Option Descriptor → Option Descriptor
-opening_after (Grant epoch call request inst mode file stamp ss) c old = cond (same_call call c) (Some (record { mode = mode; epoch = epoch; inst = inst })) old
+opening_after (Grant epoch call request inst mode file stamp ss) c old = cond (same_call call c) (Some (record { mode = mode; epoch = epoch; inst = inst; steady = None })) old
 opening_after _ c old = old
 
 -- the last instance that was granted to the call, as a descriptor stands for it
 abbrev pub opening_of : Trace → CallId → Option Descriptor
 opening_of trace c = over None (λ r before old. opening_after r.what c old) trace
+
+abbrev pub version_at : FileId → Option Stamp → Option OneVersion
+version_at file None = None
+version_at file (Some stamp) = Some (record { file = file; stamp = stamp })
+
+abbrev pub version_after : Record → CallId → Option OneVersion → Option OneVersion
+version_after (Grant epoch call request inst mode file stamp ss) c old = cond (same_call call c) (version_at file stamp) old
+version_after _ c old = old
+
+-- the version with which the last instance was granted to the call
+abbrev pub version_of : Trace → CallId → Option OneVersion
+version_of trace c = over None (λ r before old. version_after r.what c old) trace

@@ -1,5 +1,5 @@
 -- What calls of a past of texts are answered, and where they begin, is in range.
-use Rattle.std.proofs.Common.{◌≡◌, ◌≤◌, ℕ, zero, suc, ◌+◌, ◌&&◌, Bool, true, false, List, length, Option, Some, None, refl, arith}
+use Rattle.std.proofs.Common.{◌≡◌, ◌≤◌, ℕ, zero, suc, ◌+◌, ◌&&◌, Bool, true, false, cond, List, length, Option, Some, None, refl, subst, arith}
 use Rattle.std.proofs.lemmas.Bool.Decides.{nat_tests}
 use Rattle.std.specs.List.{list_all}
 use Rattle.locus_ids.specs.Sizes.{content_bytes_max, descriptors_max, file_bytes_max}
@@ -17,6 +17,9 @@ use Rattle.trace_book.specs.Names.{is_name}
 use Rattle.trace_book.specs.declared.call.Call.{Call}
 use Rattle.trace_book.specs.declared.call.Call.TheVariants as call
 use Rattle.trace_book.specs.declared.descriptor.Descriptor.{Descriptor}
+use Rattle.trace_book.specs.declared.descriptor.OneVersion.{OneVersion}
+use Rattle.trace_book.specs.declared.descriptor.Beginning.{Beginning}
+use Rattle.trace_book.specs.declared.descriptor.Beginning.TheVariants as begins
 use Rattle.trace_book.specs.declared.operation.Op.{Op}
 use Rattle.trace_book.specs.declared.operation.Op.TheVariants as op
 use Rattle.trace_book.specs.declared.operation.Outcome.{Outcome}
@@ -31,7 +34,7 @@ use Rattle.dir_format.specs.Contents.{entries_of}
 use Rattle.dir_format.specs.Lookups.{lookup}
 use Rattle.dir_format.specs.declared.looking.LookResult.{LookResult}
 use Rattle.dir_format.specs.declared.looking.LookResult.TheVariants as found
-use Rattle.call_rules.specs.Descriptors.{beginning, begins_on, begins_open, begins_walk, is_in, lowest_free, lowest_free_from}
+use Rattle.call_rules.specs.Descriptors.{beginning, begins_open, begins_walk, is_in, lowest_free, lowest_free_from, begins_again, begins_change, begins_close, begins_read, held_or, stale_or}
 use Rattle.call_rules.specs.Words.{is_too_long}
 use Rattle.call_text_laws.specs.Wants.{is_answer, is_asked_op, is_begun, is_free, is_gift}
 use Rattle.lawful_trace.specs.Progress.{entered, found_in, granted_answer, outcome_answer}
@@ -43,7 +46,7 @@ use Rattle.tree_text_laws.proofs.Contents.{entries_are}
 use Rattle.tree_text_laws.proofs.Effects.{data_is}
 use Rattle.tree_text_laws.proofs.Lookups.{is_result, lookup_text}
 use Rattle.tree_text_laws.proofs.Shown.{shown_text}
-use Rattle.tree_text_laws.proofs.Texts.{PastText, content_text, is_optional_descriptor}
+use Rattle.tree_text_laws.proofs.Texts.{PastText, content_text, is_kept_version, is_optional_descriptor}
 
 -- ---- operations ----
 
@@ -115,12 +118,13 @@ pub look_answer_text : (p : Past) (f : FileId) (w : What) (result : Served) → 
 look_answer_text p f w (served.At stamp) h k = served_text (making_of p f).kind stamp w (content_of p.history f stamp) k (content_text p.history f stamp h.history)
 look_answer_text p f w (served.No why) h k = unserved w (served.No why) k
 
-pub granted_text : (m : Mode) (i : Serial) (f : FileId) (kept : List Stamp) → range.is_file f ≡ true → list_all range.is_stamp kept ≡ true → is_answer (granted_answer m i f kept) ≡ true
-granted_text mode.Mend i f kept h k = k
-granted_text mode.Read i f kept h k = (both_parts (range.is_group f.group) (range.is_inode f.ino) h).1
-granted_text mode.Write i f kept h k = (both_parts (range.is_group f.group) (range.is_inode f.ino) h).1
-granted_text mode.Resolve i f kept h k = (both_parts (range.is_group f.group) (range.is_inode f.ino) h).1
-granted_text mode.Make i f kept h k = (both_parts (range.is_group f.group) (range.is_inode f.ino) h).1
+pub granted_text : (m : Mode) (i : Serial) (f : FileId) (stamp : Option Stamp) (kept : List Stamp) → range.is_file f ≡ true → range.is_optional_stamp stamp ≡ true → list_all range.is_stamp kept ≡ true → is_answer (granted_answer m i f stamp kept) ≡ true
+granted_text mode.Mend i f stamp kept h n k = k
+granted_text mode.Read i f (Some stamp) kept h n k = both (range.is_file f) (range.is_stamp stamp) h n
+granted_text mode.Read i f None kept h n k = (both_parts (range.is_group f.group) (range.is_inode f.ino) h).1
+granted_text mode.Write i f stamp kept h n k = (both_parts (range.is_group f.group) (range.is_inode f.ino) h).1
+granted_text mode.Resolve i f stamp kept h n k = (both_parts (range.is_group f.group) (range.is_inode f.ino) h).1
+granted_text mode.Make i f stamp kept h n k = (both_parts (range.is_group f.group) (range.is_inode f.ino) h).1
 
 pub close_text : (stamp : Option Stamp) (x : Instance) → range.is_optional_stamp stamp ≡ true → is_answer (close_answer stamp x) ≡ true
 close_text stamp x h = over x.work.owes refl x.work.fresh refl
@@ -140,28 +144,57 @@ open_text : (now : Option EpochId) (id : CallId) (free : Option ℕ) → range.i
 open_text now id None n = refl
 open_text now id (Some fd) n = walk_text now id n
 
-on_text : (changes : Bool) (now : Option EpochId) (d : Option Descriptor) → is_optional_descriptor d ≡ true → is_begun (begins_on changes now d) ≡ true
-on_text changes now None h = refl
-on_text changes now (Some d) h = over (is_in now d.epoch) refl changes refl (is_read d.mode) refl
+held_begun : (now : Option EpochId) (d : Descriptor) (otherwise : Beginning) → is_begun otherwise ≡ true → is_begun (held_or now d otherwise) ≡ true
+held_begun now d otherwise h = over (is_in now d.epoch)
   where
-    over : (a : Bool) → is_in now d.epoch ≡ a → (b : Bool) → changes ≡ b → (r : Bool) → is_read d.mode ≡ r → is_begun (begins_on changes now (Some d)) ≡ true
-    over true e true f true g = rw (e, f, g, begins_on) refl
-    over true e true f false g = rw (e, f, g, begins_on) refl
-    over true e false f r g = rw (e, f, begins_on) refl
-    over false e b f r g = rw (e, begins_on) h
+    over : (b : Bool) → is_begun (cond b (begins.Uses d.epoch d.inst) otherwise) ≡ true
+    over true = refl
+    over false = h
+
+stale_begun : (steady : OneVersion → Beginning) (last : EpochId) (o : Option OneVersion) → range.is_epoch last ≡ true → ((kept : OneVersion) → o ≡ Some kept → is_begun (steady kept) ≡ true) → is_begun (stale_or steady last o) ≡ true
+stale_begun steady last None h k = h
+stale_begun steady last (Some kept) h k = k kept refl
+
+again_begun : (now : Option EpochId) (last : EpochId) (kept : OneVersion) → range.is_epoch last ≡ true → range.is_file kept.file ≡ true → is_begun (begins_again now last kept) ≡ true
+again_begun None last kept h k = refl
+again_begun (Some e) last kept h k = both (range.is_file kept.file) (range.is_epoch last) k h
+
+read_begun : (now : Option EpochId) (d : Option Descriptor) → is_optional_descriptor d ≡ true → is_begun (begins_read now d) ≡ true
+read_begun now None h = refl
+read_begun now (Some d) h = held_begun now d (stale_or (begins_again now d.epoch) d.epoch d.steady) (stale_begun (begins_again now d.epoch) d.epoch d.steady parts.0 (λ kept e. again_begun now d.epoch kept parts.0 (subst (λ (o : Option OneVersion). is_kept_version o ≡ true) e parts.1)))
+  where
+    parts : (range.is_epoch d.epoch ≡ true) × (is_kept_version d.steady ≡ true)
+    parts = both_parts (range.is_epoch d.epoch) (is_kept_version d.steady) h
+
+close_begun : (now : Option EpochId) (d : Option Descriptor) → is_optional_descriptor d ≡ true → is_begun (begins_close now d) ≡ true
+close_begun now None h = refl
+close_begun now (Some d) h = held_begun now d (stale_or (λ version. begins.Frees) d.epoch d.steady) (stale_begun (λ version. begins.Frees) d.epoch d.steady (both_parts (range.is_epoch d.epoch) (is_kept_version d.steady) h).0 (λ kept e. refl))
+
+change_begun : (now : Option EpochId) (d : Option Descriptor) → is_optional_descriptor d ≡ true → is_begun (begins_change now d) ≡ true
+change_begun now None h = refl
+change_begun now (Some d) h = by d.steady refl
+  where
+    at : d.steady ≡ None → (a r : Bool) → is_in now d.epoch ≡ a → is_read d.mode ≡ r → is_begun (begins_change now (Some d)) ≡ true
+    at s true true e g = rw (s, e, g) refl
+    at s true false e g = rw (s, e, g) refl
+    at s false r e g = rw (s, e) (both_parts (range.is_epoch d.epoch) (is_kept_version d.steady) h).0
+
+    by : (o : Option OneVersion) → d.steady ≡ o → is_begun (begins_change now (Some d)) ≡ true
+    by None s = at s (is_in now d.epoch) (is_read d.mode) refl refl
+    by (Some kept) s = rw s refl
 
 write_text : (long : Bool) (now : Option EpochId) (id : CallId) (d : Option Descriptor) → is_optional_descriptor d ≡ true → (fd at : ℕ) (bytes : List ℕ) → is_too_long (call.Write fd at bytes) ≡ long → (table : ℕ → Option Descriptor) → table fd ≡ d → is_begun (beginning table now id (call.Write fd at bytes)) ≡ true
 write_text true now id d h fd at bytes e table f = rw (e, beginning) refl
-write_text false now id d h fd at bytes e table f = rw (e, f, beginning) (on_text true now d h)
+write_text false now id d h fd at bytes e table f = rw (e, f, beginning) (change_begun now d h)
 
 pub beginning_text : (table : ℕ → Option Descriptor) (now : Option EpochId) (id : CallId) (words : Call) → range.is_call_id id ≡ true → ((fd : ℕ) → is_optional_descriptor (table fd) ≡ true) → is_begun (beginning table now id words) ≡ true
 beginning_text table now id (call.Open path m) n h = open_text now id (lowest_free table) n
-beginning_text table now id (call.Read fd at len) n h = on_text false now (table fd) (h fd)
+beginning_text table now id (call.Read fd at len) n h = read_begun now (table fd) (h fd)
 beginning_text table now id (call.Write fd at bytes) n h = write_text (is_too_long (call.Write fd at bytes)) now id (table fd) (h fd) fd at bytes refl table refl
-beginning_text table now id (call.Cut fd len) n h = on_text true now (table fd) (h fd)
-beginning_text table now id (call.Commit fd) n h = on_text true now (table fd) (h fd)
-beginning_text table now id (call.Abort fd) n h = on_text true now (table fd) (h fd)
-beginning_text table now id (call.Close fd) n h = on_text false now (table fd) (h fd)
+beginning_text table now id (call.Cut fd len) n h = change_begun now (table fd) (h fd)
+beginning_text table now id (call.Commit fd) n h = change_begun now (table fd) (h fd)
+beginning_text table now id (call.Abort fd) n h = change_begun now (table fd) (h fd)
+beginning_text table now id (call.Close fd) n h = close_begun now (table fd) (h fd)
 beginning_text table now id _ n h = walk_text now id n
 
 free_from : (table : ℕ → Option Descriptor) (n left : ℕ) → n + left ≤ 65536 → is_free (lowest_free_from table n left) ≡ true

@@ -55,6 +55,7 @@ opens_file _ f = range.is_file f
 
 opens_text : (m : Mode) (f : FileId) (w : Want) → is_open_of m f w ≡ true → is_want w ≡ true → opens_file m f ≡ true
 opens_text mode.Read f (want.Open g how.Read) h k = file_same g f h k
+opens_text mode.Read f (want.Open g how.Steady) h k = file_same g f h k
 opens_text mode.Write f (want.Open g how.Write) h k = file_same g f h k
 opens_text mode.Resolve f (want.Open g (how.Resolve site)) h k = file_same g f h k
 opens_text mode.Mend f (want.OpenToMend g) h k = file_same g f h k

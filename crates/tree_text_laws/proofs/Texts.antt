@@ -9,6 +9,7 @@ use Rattle.locus_ids.specs.declared.ids.Stamp.{Stamp}
 use Rattle.commit_graph.specs.Versions.{content_of, is_version, same_file}
 use Rattle.commit_graph.specs.declared.history.Version.{Version}
 use Rattle.trace_book.specs.declared.descriptor.Descriptor.{Descriptor}
+use Rattle.trace_book.specs.declared.descriptor.OneVersion.{OneVersion}
 use Rattle.call_text_laws.specs.Wants.{is_answer, is_begun, is_free}
 use Rattle.record_reading.specs.Ranges as range
 use Rattle.tree_model.specs.Epochs.{is_in}
@@ -27,9 +28,14 @@ abbrev pub is_optional_epoch : Option EpochId → Bool
 is_optional_epoch None = true
 is_optional_epoch (Some e) = range.is_epoch e
 
+-- a version that a descriptor keeps is of a file
+abbrev pub is_kept_version : Option OneVersion → Bool
+is_kept_version None = true
+is_kept_version (Some version) = range.is_file version.file
+
 -- it is of an epoch that there can be
 abbrev pub is_descriptor : Descriptor → Bool
-is_descriptor d = range.is_epoch d.epoch
+is_descriptor d = range.is_epoch d.epoch && is_kept_version d.steady
 
 abbrev pub is_optional_descriptor : Option Descriptor → Bool
 is_optional_descriptor None = true

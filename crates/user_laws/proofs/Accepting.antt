@@ -15,7 +15,7 @@ use Rattle.trace_book.specs.declared.descriptor.Beginning.TheVariants as begins
 use Rattle.trace_book.specs.declared.descriptor.Descriptor.{Descriptor}
 use Rattle.trace_book.specs.declared.record.Record.{Record}
 use Rattle.trace_book.specs.declared.record.Record.TheVariants as says
-use Rattle.call_rules.specs.Descriptors.{beginning, begins_on, begins_open}
+use Rattle.call_rules.specs.Descriptors.{beginning, begins_change, begins_close, begins_open, begins_read}
 use Rattle.call_rules.specs.declared.answer.Answer.{Answer}
 use Rattle.call_rules.specs.Words.{is_too_long}
 use Rattle.locus_ids.specs.declared.refusal.Refusal.TheVariants as refusal
@@ -61,12 +61,12 @@ use Rattle.user_laws.proofs.Tabled.{ascends_without, every_among, row_gone, row_
 -- by the same descriptors a call begins the same
 pub begins_same : (p q : ℕ → Option Descriptor) → ((fd : ℕ) → fd < descriptor_span → p fd ≡ q fd) → (now : Option EpochId) (id : CallId) (words : Call) → IsNumbered words → beginning p now id words ≡ beginning q now id words
 begins_same p q same now id (call.Open path how) lt = ap (begins_open now id) (free_is p q same)
-begins_same p q same now id (call.Read fd at len) lt = ap (begins_on false now) (same fd lt)
-begins_same p q same now id (call.Write fd at bytes) lt = ap (λ (o : Option Descriptor). cond (is_too_long (call.Write fd at bytes)) (begins.Denied refusal.TooLong) (begins_on true now o)) (same fd lt)
-begins_same p q same now id (call.Cut fd len) lt = ap (begins_on true now) (same fd lt)
-begins_same p q same now id (call.Commit fd) lt = ap (begins_on true now) (same fd lt)
-begins_same p q same now id (call.Abort fd) lt = ap (begins_on true now) (same fd lt)
-begins_same p q same now id (call.Close fd) lt = ap (begins_on false now) (same fd lt)
+begins_same p q same now id (call.Read fd at len) lt = ap (begins_read now) (same fd lt)
+begins_same p q same now id (call.Write fd at bytes) lt = ap (λ (o : Option Descriptor). cond (is_too_long (call.Write fd at bytes)) (begins.Denied refusal.TooLong) (begins_change now o)) (same fd lt)
+begins_same p q same now id (call.Cut fd len) lt = ap (begins_change now) (same fd lt)
+begins_same p q same now id (call.Commit fd) lt = ap (begins_change now) (same fd lt)
+begins_same p q same now id (call.Abort fd) lt = ap (begins_change now) (same fd lt)
+begins_same p q same now id (call.Close fd) lt = ap (begins_close now) (same fd lt)
 begins_same p q same now id _ lt = refl
 
 -- ---- the descriptor that it frees ----
@@ -149,6 +149,8 @@ accepts_in_time c t s process id (call.Close fd) h = over (begins_now (entries t
         k : FromDescriptor (descriptor (entries t) s process) (epoch_of (entries t) s) (call.Close fd) at i
         k = uses_from (descriptor (entries t) s process) (epoch_of (entries t) s) id (call.Close fd) at i e
     over (begins.Walks id) e = tt
+    over (begins.Reopens version last) e = tt
+    over begins.Frees e = tt
 accepts_in_time c t s process id _ h = tt
 
 module _ (c : Config) (n : ℕ) (t : List Line) (f : Frame) (process : ℕ) (words : Call) (u : Users) (h : IsFollowed c t) (frame : FrameFact c t f) (k : UsersInside c f t u) (row_is : CallRow c (entries t) f.me process (own_call f.me f.boot (u.calls + 1)) words) (low : IsNumbered words)

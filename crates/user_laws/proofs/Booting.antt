@@ -122,7 +122,7 @@ down_record c n (says.Answer s process d reply) before may k = λ t down. record
     found : (t : ℕ) → is_up before t ≡ false → NotAt t may.caller × (is_this s process d may.caller ≡ true)
     found t down = found_every (NotAt t) (is_this s process d) (waiting before) may.caller may.waits (k t down).waits
 
-    at : (t : ℕ) → is_up before t ≡ false → (b : Bool) → (s == t) ≡ b → (user fd : ℕ) → cond (b && (process == user)) (opened_by reply fd (opening_of before d) (descriptor before t user fd)) (descriptor before t user fd) ≡ None
+    at : (t : ℕ) → is_up before t ≡ false → (b : Bool) → (s == t) ≡ b → (user fd : ℕ) → cond (b && (process == user)) (opened_by reply before d fd (descriptor before t user fd)) (descriptor before t user fd) ≡ None
     at t down true p user fd = absurd ((found t down).0 (equal may.caller.site s (first (may.caller.site == s) (may.caller.process == process) (same_call may.caller.call d) (found t down).1) ∙ equal s t p))
     at t down false p user fd = (k t down).descriptors user fd
 down_record c n _ before may k = λ t down. record { waits = (k t down).waits; epoch = (k t down).epoch; descriptors = (k t down).descriptors }

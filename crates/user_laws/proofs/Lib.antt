@@ -18,6 +18,7 @@ pub mod OnOp
 pub mod OnClose
 pub mod OpenOnce
 pub mod OpenGrants
+pub mod OpenAsked
 pub mod OnOpen
 pub mod Accepting
 pub use Rattle.holding_laws.proofs as of_holding_laws

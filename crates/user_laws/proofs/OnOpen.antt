@@ -24,9 +24,10 @@ use Rattle.call_rules.specs.declared.want.Want.TheVariants as want
 use Rattle.wire_messages.specs.declared.body.Granted.{Granted}
 use Rattle.wire_messages.specs.declared.body.Granted.TheVariants as granted
 use Rattle.wire_messages.specs.declared.body.Opening.{Opening}
+use Rattle.wire_messages.specs.declared.body.Opening.TheVariants as how
 use Rattle.role_steps.specs.Requests.{instance_serial, with_user_instance}
 use Rattle.role_steps.specs.Tables.{first_that, row, with_row}
-use Rattle.role_steps.specs.Using.{asks_open_of, goes_on, kept_for, mended_file, on_open_done, on_open_done_of, opened_answer, takes_answer, takes_open, takes_record, with_answer}
+use Rattle.role_steps.specs.Using.{asked_answer, asks_open_of, goes_on, kept_for, mended_file, on_open_done, on_open_done_of, opened_answer, takes_answer, takes_open, takes_record, with_answer}
 use Rattle.role_steps.specs.Views.{Frame, Shown, Told, Users}
 use Rattle.role_steps.specs.declared.users.Asking.{Asking}
 use Rattle.role_steps.specs.declared.users.Asking.TheVariants as asking
@@ -39,13 +40,13 @@ use Rattle.tree_model.specs.Packs.{sync_site}
 use Rattle.tree_model.specs.Epochs.{members_of}
 use Rattle.tree_model.specs.State.{has_number}
 use Rattle.tree_model.specs.declared.accepted.Waiting.{Waiting}
-use Rattle.lawful_trace.specs.TreeRows.{IsCallIn}
+use Rattle.lawful_trace.specs.TreeRows.{IsCallIn, is_open_of}
 use Rattle.tree_laws.specs.Printed.{entries}
 use Rattle.tree_laws.specs.Calls.{Waits, request_number, script}
 use Rattle.tree_laws.specs.Doing.{FrameFact, UsersFine, UsersInside}
 use Rattle.tree_laws.specs.Following.{IsFollowed}
 use Rattle.tree_laws.specs.Frames.{AllStay}
-use Rattle.tree_laws.specs.Instances.{IsStarted}
+use Rattle.tree_laws.specs.Instances.{IsOpening, IsStarted}
 use Rattle.tree_laws.specs.Packets.{GrantedFact, OpenDoneFact, serial_of}
 use Rattle.tree_laws.specs.Past.{GrantRecord, Printed, RefusalRecord, Was, WasGranted, WasRefused}
 use Rattle.tree_laws.specs.Serials.{asked_now, is_open_want, ops_asked, serial_asked}
@@ -57,6 +58,7 @@ use Rattle.user_laws.specs.Turning.{it, InstanceTurns, Turning}
 use Rattle.user_laws.proofs.Going.{goes_fine}
 use Rattle.user_laws.proofs.OnLook.{NoContent, brings_kept, takes_plain}
 use Rattle.user_laws.proofs.OpenGrants.{Fits, GrantedSo, granted_so}
+use Rattle.user_laws.proofs.OpenAsked.{granted_asked, told_so}
 use Rattle.user_laws.proofs.OpenOnce.{AnsweredRecord, WasOpenAnswered, open_once}
 use Rattle.user_laws.proofs.Staying.{With}
 use Rattle.user_laws.proofs.Taking.{again, call_here, call_turns, frame_so, instance_turns, may_take, others_turn, serials_turn}
@@ -85,15 +87,29 @@ open_asked c t me d (want.OpenToMend f) serial file how z = (refl, z.1)
 open_asked c t me d (want.Make group kind sites) serial file how z = (refl, z.1)
 open_asked c t me d y serial file how z = absurd z.0
 
+opening_asked : (c : Config) (t : List Line) (me : ℕ) (d : CallId) (y : Want) (serial : ℕ) (file : FileId) (how : Opening) → AskingIs c t me d y (asking.Open serial file how) → IsOpening c y file how
+opening_asked c t me d (want.Open f m) serial file how z = z.0
+opening_asked c t me d (want.OpenToMend f) serial file how z = z.0
+opening_asked c t me d (want.Make group kind sites) serial file how z = z.0
+opening_asked c t me d y serial file how z = absurd z.0
+
 -- ---- its answer ----
 
-opened_had : (f : Frame) (serial ino : ℕ) (kept : List Stamp) (words : Call) (v : Want) (old : List ℕ) → had_by v (opened_answer f serial ino kept words) old ≡ serial ∷ old
-opened_had f serial ino kept (call.Mend file) v old = refl
-opened_had f serial ino kept _ v old = refl
+asked_had : (f : Frame) (serial ino : ℕ) (stamp : Stamp) (a : Asking) (v : Want) (old : List ℕ) → had_by v (asked_answer f serial ino stamp a) old ≡ serial ∷ old
+asked_had f serial ino stamp (asking.Open s file how.Read) v old = refl
+asked_had f serial ino stamp _ v old = refl
 
-no_content : (f : Frame) (serial ino : ℕ) (kept : List Stamp) (words : Call) → NoContent (opened_answer f serial ino kept words)
-no_content f serial ino kept (call.Mend file) = tt
-no_content f serial ino kept _ = tt
+opened_had : (f : Frame) (serial ino : ℕ) (stamp : Stamp) (kept : List Stamp) (words : Call) (a : Asking) (v : Want) (old : List ℕ) → had_by v (opened_answer f serial ino stamp kept words a) old ≡ serial ∷ old
+opened_had f serial ino stamp kept (call.Mend file) a v old = refl
+opened_had f serial ino stamp kept _ a v old = asked_had f serial ino stamp a v old
+
+asked_content : (f : Frame) (serial ino : ℕ) (stamp : Stamp) (a : Asking) → NoContent (asked_answer f serial ino stamp a)
+asked_content f serial ino stamp (asking.Open s file how.Read) = tt
+asked_content f serial ino stamp _ = tt
+
+no_content : (f : Frame) (serial ino : ℕ) (stamp : Stamp) (kept : List Stamp) (words : Call) (a : Asking) → NoContent (opened_answer f serial ino stamp kept words a)
+no_content f serial ino stamp kept (call.Mend file) a = tt
+no_content f serial ino stamp kept _ a = asked_content f serial ino stamp a
 
 -- an open closes nothing
 closes_none : (y : Want) (old : List ℕ) → is_open_want y ≡ true → without_closed y old ≡ old
@@ -168,29 +184,41 @@ module _ (c : Config) (n : ℕ) (t : List Line) (f : Frame) (u : Users) (kept : 
 
   -- ---- granted ----
 
-  module _ (ss ino : ℕ) (vector : List ℕ) (l : GrantedFact c t f.epoch f.me serial ss ino vector) where
+  module _ (ss ino : ℕ) (stamp : Stamp) (vector : List ℕ) (l : GrantedFact c t f.epoch f.me serial ss ino stamp vector) where
     is : (l.call ≡ d) × (request_number t d ≡ l.request)
     is = one l.call l.request (granted_answered t f.epoch l.call l.request i l.mode l.file l.stamp ss l.was_granted)
 
     was : WasGranted t f.epoch d l.request i l.mode l.file l.stamp ss
     was = subst (λ (y : CallId). WasGranted t f.epoch y l.request i l.mode l.file l.stamp ss) is.0 l.was_granted
 
-    so : GrantedSo c t f.epoch d l.mode l.file
+    so : GrantedSo c t f.epoch d l.mode l.file l.stamp
     so = granted_so c t h f.epoch d l.request i l.mode l.file l.stamp ss was
 
     words_are : so.accepted.words ≡ w.words
     words_are = ap (λ (x : Waiting). x.words) (some_same so.accepted fact.caller (sym so.named ∙ fact.named) ∙ fact.caller_is)
 
     abbrev given : Answer
-    given = opened_answer f serial ino (kept_for kept (mended_file w.words)) w.words
+    given = opened_answer f serial ino stamp (kept_for kept (mended_file w.words)) w.words w.asking
 
-    waits_for : (words : Call) → w.words ≡ words → Fits words l.mode l.file → Waits c t d (opened_answer f serial ino (kept_for kept (mended_file words)) words)
+    -- what it asks still is what was granted
+    asked : is_open_of l.mode l.file fact.wanted ≡ true
+    asked = subst (λ (y : Want). is_open_of l.mode l.file y ≡ true) wants (granted_asked c t h f.epoch d l.request i l.mode l.file l.stamp ss was is.1)
+
+    opening : IsOpening c fact.wanted z.file z.how
+    opening = opening_asked c t f.me d fact.wanted serial z.file z.how (subst (AskingIs c t f.me d fact.wanted) z.asking_is fact.asking_is)
+
+    told : (l.mode ≡ mode.Mend → ⊥) → (stamps : List Stamp) → Waits c t d (asked_answer f serial ino stamp w.asking)
+    told plain stamps = subst (λ (a : Asking). Waits c t d (asked_answer f serial ino stamp a)) (sym z.asking_is)
+        (subst (Waits c t d) (told_so f serial ino stamp l.file z.file l.stamp stamps l.number_is l.told_is c l.mode fact.wanted z.how plain so.tells asked opening)
+        (granted_waits c t h f.epoch d l.request i l.mode l.file l.stamp ss stamps plain was is.1))
+
+    waits_for : (words : Call) → w.words ≡ words → Fits words l.mode l.file → Waits c t d (opened_answer f serial ino stamp (kept_for kept (mended_file words)) words w.asking)
     waits_for (call.Mend file) e fits = subst (λ (stamps : List Stamp). Waits c t d (answer.Merging i stamps)) (sym (keeps file at_sync (subst (λ (g : FileId). IsStarted c t f.epoch g.group) fits.1 so.started)))
         (rests.mending f.epoch d l.request i file l.stamp ss (call_here c t f w frame fact) (subst (λ (g : FileId). WasGranted t f.epoch d l.request i mode.Mend g l.stamp ss) fits.1 (subst (λ (m : Mode). WasGranted t f.epoch d l.request i m l.file l.stamp ss) fits.0 was)) (sym is.1))
       where
         at_sync : sync_site c file.group (members_of (entries t) f.epoch) ≡ Some f.me
         at_sync = mends_at_sync c t h d fact.caller f.epoch file fact.named (ap (λ (x : Waiting). x.epoch) fact.caller_is) (ap (λ (x : Waiting). x.words) fact.caller_is ∙ e) ∙ ap (λ (x : Waiting). Some x.site) fact.caller_is
-    waits_for _ e plain = subst (λ (m : ℕ). Waits c t d (answer.Opened i m)) l.number_is (granted_waits c t h f.epoch d l.request i l.mode l.file l.stamp ss plain was is.1)
+    waits_for _ e plain = told plain []
 
     waits : Waits c t d given
     waits = waits_for w.words refl (subst (λ (y : Call). Fits y l.mode l.file) words_are so.fits)
@@ -208,7 +236,7 @@ module _ (c : Config) (n : ℕ) (t : List Line) (f : Frame) (u : Users) (kept : 
         stay = next.0.stay
 
         had_is : had c (With n (takes_record f w given) t) f.me ≡ serial ∷ had c t f.me
-        had_is = ap (λ (b : Bool). cond b (had_by (asked_now c t d) given (had c t f.me)) (had c t f.me)) (equal_self f.me) ∙ opened_had f serial ino (kept_for kept (mended_file w.words)) w.words (asked_now c t d) (had c t f.me)
+        had_is = ap (λ (b : Bool). cond b (had_by (asked_now c t d) given (had c t f.me)) (had c t f.me)) (equal_self f.me) ∙ opened_had f serial ino stamp (kept_for kept (mended_file w.words)) w.words w.asking (asked_now c t d) (had c t f.me)
 
         has : (m : ℕ) → is_some (row instance_serial m (with_row instance_serial new u.instances)) ≡ has_number (had c (With n (takes_record f w given) t) f.me) m
         has m = at (serial == m) refl ∙ ap (λ (ns : List ℕ). has_number ns m) (sym had_is)
@@ -225,7 +253,7 @@ module _ (c : Config) (n : ℕ) (t : List Line) (f : Frame) (u : Users) (kept : 
 
         turning : Turning c (With n (takes_record f w given) t) f (with_answer w given) (with_user_instance new u)
         turning = record {
-          call = call_turns c n t f w u given h frame k among waits stay w.brought (brings_kept c n t f u h frame k w given (no_content f serial ino (kept_for kept (mended_file w.words)) w.words) w.words w.brought fact.brings);
+          call = call_turns c n t f w u given h frame k among waits stay w.brought (brings_kept c n t f u h frame k w given (no_content f serial ino stamp (kept_for kept (mended_file w.words)) w.words w.asking) w.words w.brought fact.brings);
           others = others_turn c n t f w u given h frame k among waits stay w.brought (with_row instance_serial new u.instances) (ascends_with instance_serial new u.instances k.inside.numbered) has;
           serials = serials_turn c n t f w u given h frame k among waits stay;
           instances = every_with instance_serial new (UserInstanceFact c t f) (InstanceTurns c (With n (takes_record f w given) t) f d) u.instances (λ j ne p. instance_turns c n t f w u given h frame k among waits stay j p) k.inside.numbered k.inside.instances own;
@@ -235,7 +263,7 @@ module _ (c : Config) (n : ℕ) (t : List Line) (f : Frame) (u : Users) (kept : 
         rest = goes_fine c n (With n (takes_record f w given) t) f (with_answer w given) (with_user_instance new u) (again c n t f w u given h frame k among waits stay) (frame_so c n t f w u given h frame k among waits stay) turning next.0.requests next.0.replies next.1
 
   takes_fine : (a : Granted) → OpenDoneFact c t f.epoch f.me serial a → Staying c n t (takes_open f kept serial w a u).told → UsersFine c n t f (takes_open f kept serial w a u)
-  takes_fine (granted.Open ss ino size stamp vector) l s = opened ss ino vector l s
+  takes_fine (granted.Open ss ino size stamp vector) l s = opened ss ino stamp vector l s
   takes_fine (granted.No why) l s = refused why l s
 
 pub open_done_fine : (c : Config) (n : ℕ) (t : List Line) (f : Frame) (u : Users) (kept : FileId → List Stamp) (serial : ℕ) (a : Granted) → IsFollowed c t → FrameFact c t f → UsersInside c f t u → OpenRests c t → IsKeptBy c t f kept → OpenDoneFact c t f.epoch f.me serial a → Staying c n t (on_open_done f kept serial a u).told → UsersFine c n t f (on_open_done f kept serial a u)

@@ -1,6 +1,7 @@
 -- What an open was granted as: that of a mend to mend its directory, any other not; and its group has started.
-use Rattle.std.proofs.Common.{◌≡◌, ℕ, Bool, true, false, cond, ◌&&◌, List, [], ◌∷◌, Option, Some, None, refl, sym, ◌∙◌, subst, inl, inr}
-use Rattle.role_steps.proofs.of_plain_facts.Tests.{and_first, true_false}
+use Rattle.std.proofs.Common.{◌≡◌, ◌==◌, ℕ, Bool, true, false, not, cond, ◌&&◌, List, [], ◌∷◌, Option, Some, None, refl, sym, ◌∙◌, subst, inl, inr}
+use Rattle.std.specs.Option.{is_none}
+use Rattle.role_steps.proofs.of_plain_facts.Tests.{and_first, and_second, true_false}
 use Rattle.locus_ids.specs.declared.config.Config.{Config}
 use Rattle.locus_ids.specs.declared.ids.CallId.{CallId}
 use Rattle.locus_ids.specs.declared.ids.EpochId.{EpochId}
@@ -30,6 +31,12 @@ use Rattle.tree_laws.specs.of_the_run.Worlds.{Line}
 use Rattle.tree_model.specs.declared.accepted.Waiting.{Waiting}
 use Rattle.tree_model.specs.Calls.{call_named}
 use Rattle.tree_model.specs.Folds.{Trace}
+use Rattle.tree_model.specs.Given.{gives_grant}
+use Rattle.tree_model.specs.Histories.{history}
+use Rattle.tree_model.specs.Opening.{is_only, is_placed, open_refusal}
+use Rattle.tree_model.specs.State.{TreeState, is_granted, kept_of}
+use Rattle.tree_model.specs.Tree.{tree_of}
+use Rattle.commit_graph.specs.declared.history.Version.{Version}
 use Rattle.lawful_trace.specs.Progress.{Answers, answers, is_packed_in, wants_as}
 use Rattle.lawful_trace.specs.Tables.{begun, descriptor}
 use Rattle.lawful_trace.specs.TreeRows.{is_open_of}
@@ -93,6 +100,8 @@ begun_opens : (c : Config) (free : Option ℕ) (file : FileId) (b : Beginning) (
 begun_opens c free file (begins.Denied why) xs = tt
 begun_opens c free file (begins.Uses e i) xs = tt
 begun_opens c free file (begins.Walks id) xs = mend_opens file xs
+begun_opens c free file (begins.Reopens kept last) xs = tt
+begun_opens c free file begins.Frees xs = tt
 
 packed_opens : (p : ℕ → Bool) (w : Want) → OpensToMend w → OpensToMend (where_packed p w)
 packed_opens p w k = over w k
@@ -150,37 +159,60 @@ opens_fit c before w o xs m f e = over w.words refl
     over (call.Mend file) is = (to_mend file is, mend_is f file (sym (opened (to_mend file is)) ∙ is))
     over y is = λ at. absurd (subst IsMend (sym (opened at) ∙ is) tt)
 
+-- ---- the version that it is granted on ----
+
+-- an open to read is granted on a version
+abbrev pub TellsVersion : Mode → Option Stamp → Type 0
+TellsVersion mode.Read stamp = (v : Stamp) × (stamp ≡ Some v)
+TellsVersion _ stamp = Unit {0}
+
+pub only_some : (ks : List Stamp) (stamp : Option Stamp) → is_only ks stamp ≡ true → (v : Stamp) × (stamp ≡ Some v)
+only_some ks (Some v) e = (v, refl)
+only_some [] None e = absurd (true_false (sym e))
+only_some (a ∷ []) None e = absurd (true_false (sym e))
+only_some (a ∷ b ∷ others) None e = absurd (true_false (sym e))
+
+pub tells_version : (h : List Version) (t : TreeState) (call : CallId) (i : Serial) (m : Mode) (f : FileId) (stamp : Option Stamp) (ss : ℕ) → gives_grant h t call i m f stamp ss ≡ true → TellsVersion m stamp
+tells_version h t call i mode.Read f stamp ss e = only_some (kept_of h t f) stamp (and_first (is_only (kept_of h t f) stamp) _ placed)
+  where
+    placed : is_placed h t call mode.Read f stamp ss ≡ true
+    placed = and_second (not (is_granted t i)) _ (and_second (i.us == call.site) _ (and_second (is_none (open_refusal h t mode.Read call f)) _ (and_second t.started _ e)))
+tells_version h t call i _ f stamp ss e = tt
+
 -- ---- a grant ----
 
-pub record GrantedSo (c : Config) (t : List Line) (e : EpochId) (d : CallId) (m : Mode) (f : FileId) : Type 0 where
+pub record GrantedSo (c : Config) (t : List Line) (e : EpochId) (d : CallId) (m : Mode) (f : FileId) (stamp : Option Stamp) : Type 0 where
   pub accepted : Waiting
   pub named : call_named (entries t) d ≡ Some accepted
   pub fits : Fits accepted.words m f
+  pub tells : TellsVersion m stamp
   pub started : IsStarted c t e f.group
 
-pub granted_so : (c : Config) (t : List Line) → IsFollowed c t → (e : EpochId) (d : CallId) (request : ℕ) (i : Serial) (m : Mode) (f : FileId) (stamp : Option Stamp) (ss : ℕ) → WasGranted t e d request i m f stamp ss → GrantedSo c t e d m f
+pub granted_so : (c : Config) (t : List Line) → IsFollowed c t → (e : EpochId) (d : CallId) (request : ℕ) (i : Serial) (m : Mode) (f : FileId) (stamp : Option Stamp) (ss : ℕ) → WasGranted t e d request i m f stamp ss → GrantedSo c t e d m f stamp
 granted_so c [] h e d request i m f stamp ss was = absurd was
 granted_so c (y ∷ older) h e d request i m f stamp ss (inr was) = more (granted_so c older h.1 e d request i m f stamp ss was)
   where
-    more : GrantedSo c older e d m f → GrantedSo c (y ∷ older) e d m f
-    more k = record { accepted = k.accepted; named = named_stays c y.number y.told older d h.1 h.0 (k.accepted, k.named) ∙ k.named; fits = k.fits; started = started_stays c y.number y.told older e f.group k.started }
+    more : GrantedSo c older e d m f stamp → GrantedSo c (y ∷ older) e d m f stamp
+    more k = record { accepted = k.accepted; named = named_stays c y.number y.told older d h.1 h.0 (k.accepted, k.named) ∙ k.named; fits = k.fits; tells = k.tells; started = started_stays c y.number y.told older e f.group k.started }
 granted_so c (y ∷ older) h e d request i m f stamp ss (inl now) = over y.told h.0 now
   where
-    over : (x : Told) → MayTell c older x → Printed (GrantRecord e d request i m f stamp ss) older x → GrantedSo c (With y.number x older) e d m f
-    over (Shown (says.Grant at call number inst md file on place)) may p = subst (λ (z : EpochId). GrantedSo c (With y.number it older) z d m f) p.epoch_is
-        (subst (λ (z : CallId). GrantedSo c (With y.number it older) at z m f) p.call_is
-        (subst (λ (z : Mode). GrantedSo c (With y.number it older) at call z f) p.mode_is
-        (subst (λ (z : FileId). GrantedSo c (With y.number it older) at call md z) p.file_is own)))
+    over : (x : Told) → MayTell c older x → Printed (GrantRecord e d request i m f stamp ss) older x → GrantedSo c (With y.number x older) e d m f stamp
+    over (Shown (says.Grant at call number inst md file on place)) may p = subst (λ (z : EpochId). GrantedSo c (With y.number it older) z d m f stamp) p.epoch_is
+        (subst (λ (z : CallId). GrantedSo c (With y.number it older) at z m f stamp) p.call_is
+        (subst (λ (z : Mode). GrantedSo c (With y.number it older) at call z f stamp) p.mode_is
+        (subst (λ (z : FileId). GrantedSo c (With y.number it older) at call md z stamp) p.file_is
+        (subst (λ (z : Option Stamp). GrantedSo c (With y.number it older) at call md file z) p.stamp_is own))))
       where
         it : Told
         it = Shown (says.Grant at call number inst md file on place)
 
-        own : GrantedSo c (With y.number it older) at call md file
+        own : GrantedSo c (With y.number it older) at call md file on
         own = record {
           accepted = may.row.opens.step.accepted;
           named = named_stays c y.number it older call h.1 may (may.row.opens.step.accepted, may.row.opens.step.named) ∙ may.row.opens.step.named;
           fits = opens_fit c (entries older) may.row.opens.step.accepted (begun (entries older) call) (answers c (entries older) call) md file
               (subst (λ (o : Option Waiting). is_open_of md file (wants_as c (entries older) o (begun (entries older) call) (answers c (entries older) call)) ≡ true) may.row.opens.step.named may.row.opens.asked);
+          tells = tells_version (history c (entries older)) (tree_of c at file.group (entries older)) call inst md file on place may.row.gives;
           started = started_stays c y.number it older at file.group (and_first _ _ may.row.gives);
         }
     over (Shown r) may p = absurd p

@@ -1,5 +1,5 @@
 -- What the using site has once a call has its reply.
-use Rattle.std.proofs.Common.{◌≡◌, ℕ, ◌+◌, ◌*◌, ◌<◌, ◌==◌, arith, Bool, true, false, not, cond, ◌&&◌, ◌||◌, List, [], ◌∷◌, ◌++◌, Option, Some, refl, sym, ◌∙◌, ap, subst, ◌⊎◌, inl, inr, filter}
+use Rattle.std.proofs.Common.{◌≡◌, ℕ, ◌+◌, ◌*◌, ◌<◌, ◌==◌, arith, Bool, true, false, not, cond, ◌&&◌, ◌||◌, List, [], ◌∷◌, ◌++◌, Option, Some, None, refl, sym, ◌∙◌, ap, subst, ◌⊎◌, inl, inr, filter}
 use Rattle.std.specs.List.{find, list_any}
 use Rattle.std.proofs.lemmas.Bool.Decides.{nat_tests}
 use Rattle.role_steps.proofs.of_plain_facts.Numbers.{equal, equal_self}
@@ -15,14 +15,18 @@ use Rattle.commit_graph.specs.Versions.{same_file}
 use Rattle.trace_book.specs.Same.{same_call}
 use Rattle.trace_book.specs.declared.call.Call.{Call}
 use Rattle.trace_book.specs.declared.call.Call.TheVariants as call
+use Rattle.trace_book.specs.declared.descriptor.Beginning.{Beginning}
+use Rattle.trace_book.specs.declared.descriptor.Beginning.TheVariants as begins
 use Rattle.trace_book.specs.declared.descriptor.Descriptor.{Descriptor}
+use Rattle.trace_book.specs.declared.descriptor.OneVersion.{OneVersion}
 use Rattle.trace_book.specs.declared.reply.Reply.{Reply}
 use Rattle.trace_book.specs.declared.reply.Reply.TheVariants as reply
+use Rattle.call_rules.specs.Opening.{is_steady}
 use Rattle.call_rules.specs.declared.want.Want.{Want}
 use Rattle.call_rules.specs.declared.want.Want.TheVariants as want
-use Rattle.role_steps.specs.Requests.{waiting_key, waiting_of, descriptor_key, fd_key, descriptor_in, without_waiting, request_packets}
+use Rattle.role_steps.specs.Requests.{waiting_key, waiting_of, descriptor_key, fd_key, descriptor_in, with_descriptor, without_waiting, request_packets}
 use Rattle.role_steps.specs.Tables.{row, with_row, without_row}
-use Rattle.role_steps.specs.Using.{after_reply, is_hopeless, opened_row, reply_record, without_hope}
+use Rattle.role_steps.specs.Using.{after_reply, holds_again, is_hopeless, last_version, opened_row, reply_record, without_hope}
 use Rattle.role_steps.specs.Views.{Users, Frame, Told}
 use Rattle.role_steps.specs.declared.users.Asking.{Asking}
 use Rattle.role_steps.specs.declared.users.Asking.TheVariants as asking
@@ -37,7 +41,7 @@ use Rattle.tree_model.specs.Epochs.{is_in, members_of}
 use Rattle.tree_model.specs.Packs.{sync_site}
 use Rattle.tree_model.specs.declared.accepted.Waiting.{Waiting}
 use Rattle.lawful_trace.specs.CallRows.{ends_mending, has_lost_mend, is_lost_mend, is_mend_of, is_this}
-use Rattle.lawful_trace.specs.Tables.{descriptor}
+use Rattle.lawful_trace.specs.Tables.{descriptor, held_again, is_read_of, opened_as, opened_by, reads_by}
 use Rattle.tree_laws.specs.Printed.{entries}
 use Rattle.tree_laws.specs.Doing.{FrameFact, UsersInside}
 use Rattle.tree_laws.specs.Following.{IsFollowed, MayTell}
@@ -203,34 +207,74 @@ left_alone true true old = refl
 left_alone true false old = refl
 left_alone false b old = refl
 
--- the descriptor that an open is answered stands for what was granted to it
-newly_described : (t : List Line) (f : Frame) (w : WaitingCall) (fd : ℕ) (ds : List DescriptorRow) → fd < descriptor_span → opening_of (entries t) (it f w) ≡ Some (opened_row f w fd).descriptor →
+-- one number of the process stands for something new
+newly_described : (t : List Line) (f : Frame) (w : WaitingCall) (fd : ℕ) (kept : Option OneVersion) (new : ℕ → ℕ → Option Descriptor) (ds : List DescriptorRow) → fd < descriptor_span → new w.process fd ≡ Some (opened_row f w fd kept).descriptor →
     ((process n : ℕ) → n < descriptor_span → descriptor_in (row descriptor_key (fd_key process n) ds) ≡ descriptor (entries t) f.me process n) → (process n : ℕ) → n < descriptor_span →
-    descriptor_in (row descriptor_key (fd_key process n) (with_row descriptor_key (opened_row f w fd) ds)) ≡ cond ((f.me == f.me) && (w.process == process)) (cond (fd == n) (opening_of (entries t) (it f w)) (descriptor (entries t) f.me process n)) (descriptor (entries t) f.me process n)
-newly_described t f w fd ds lt opening old process n less = at (w.process == process) (fd == n) refl refl ∙ ap (λ (b : Bool). cond (b && (w.process == process)) (cond (fd == n) (opening_of (entries t) (it f w)) (descriptor (entries t) f.me process n)) (descriptor (entries t) f.me process n)) (sym (equal_self f.me))
+    descriptor_in (row descriptor_key (fd_key process n) (with_row descriptor_key (opened_row f w fd kept) ds)) ≡ cond ((f.me == f.me) && (w.process == process)) (cond (fd == n) (new process n) (descriptor (entries t) f.me process n)) (descriptor (entries t) f.me process n)
+newly_described t f w fd kept new ds lt stands old process n less = at (w.process == process) (fd == n) refl refl ∙ ap (λ (b : Bool). cond (b && (w.process == process)) (cond (fd == n) (new process n) (descriptor (entries t) f.me process n)) (descriptor (entries t) f.me process n)) (sym (equal_self f.me))
   where
-    other : ((w.process ≡ process) × (fd ≡ n) → ⊥) → descriptor_in (row descriptor_key (fd_key process n) (with_row descriptor_key (opened_row f w fd) ds)) ≡ descriptor (entries t) f.me process n
-    other ne = ap descriptor_in (row_other descriptor_key (opened_row f w fd) (fd_key process n) ds (apart_keys w.process fd process n lt less ne)) ∙ old process n less
+    other : ((w.process ≡ process) × (fd ≡ n) → ⊥) → descriptor_in (row descriptor_key (fd_key process n) (with_row descriptor_key (opened_row f w fd kept) ds)) ≡ descriptor (entries t) f.me process n
+    other ne = ap descriptor_in (row_other descriptor_key (opened_row f w fd kept) (fd_key process n) ds (apart_keys w.process fd process n lt less ne)) ∙ old process n less
 
     differ : (a b : ℕ) → (a == b) ≡ false → a ≡ b → ⊥
     differ a b s e = true_false (sym (subst (λ (m : ℕ). (a == m) ≡ true) e (equal_self a)) ∙ s)
 
-    at : (a b : Bool) → (w.process == process) ≡ a → (fd == n) ≡ b → descriptor_in (row descriptor_key (fd_key process n) (with_row descriptor_key (opened_row f w fd) ds)) ≡ cond (true && a) (cond b (opening_of (entries t) (it f w)) (descriptor (entries t) f.me process n)) (descriptor (entries t) f.me process n)
-    at true true p q = ap descriptor_in (ap (λ (m : ℕ). row descriptor_key m (with_row descriptor_key (opened_row f w fd) ds)) (ap (λ (m : ℕ). fd_key m n) (sym (equal w.process process p)) ∙ ap (fd_key w.process) (sym (equal fd n q))) ∙ row_same descriptor_key (opened_row f w fd) ds) ∙ sym opening
+    at : (a b : Bool) → (w.process == process) ≡ a → (fd == n) ≡ b → descriptor_in (row descriptor_key (fd_key process n) (with_row descriptor_key (opened_row f w fd kept) ds)) ≡ cond (true && a) (cond b (new process n) (descriptor (entries t) f.me process n)) (descriptor (entries t) f.me process n)
+    at true true p q = ap descriptor_in (ap (λ (m : ℕ). row descriptor_key m (with_row descriptor_key (opened_row f w fd kept) ds)) (ap (λ (m : ℕ). fd_key m n) (sym (equal w.process process p)) ∙ ap (fd_key w.process) (sym (equal fd n q))) ∙ row_same descriptor_key (opened_row f w fd kept) ds)
+        ∙ (sym stands ∙ (ap (λ (m : ℕ). new m fd) (equal w.process process p) ∙ ap (new process) (equal fd n q)))
     at true false p q = other (λ z. differ fd n q z.1)
     at false b p q = other (λ z. differ w.process process p z.0)
 
 -- ---- what a reply leaves ----
 
+-- by what a read that has opened a version again was granted, its number stands for that; no other was granted anything
+abbrev pub ReadsWell : List Line → Frame → WaitingCall → Beginning → Call → Type 0
+ReadsWell t f w (begins.Reopens version last) (call.Read fd at len) = (fd < descriptor_span) × (held_again (opening_of (entries t) (it f w)) (descriptor (entries t) f.me w.process fd) ≡ Some (opened_row f w fd (Some version)).descriptor)
+ReadsWell t f w _ words = opening_of (entries t) (it f w) ≡ None
+
+-- the version that an open keeps
+abbrev pub kept_so : WaitingCall → Option OneVersion
+kept_so w = cond (is_steady w.words) (last_version None w.answers) None
+
 -- the reply of an open has a number that its process has free, and stands for what was granted
 abbrev pub OpensWell : List Line → Frame → WaitingCall → Reply → Type 0
-OpensWell t f w (reply.Opened fd) = (fd < descriptor_span) × (opening_of (entries t) (it f w) ≡ Some (opened_row f w fd).descriptor)
+OpensWell t f w (reply.Opened fd) = (fd < descriptor_span) × (opened_as (entries t) (it f w) ≡ Some (opened_row f w fd (kept_so w)).descriptor)
+OpensWell t f w (reply.Data bytes) = ReadsWell t f w w.begins w.words
 OpensWell t f w _ = Unit {0}
 
 pub replied_fine : (c : Config) (n : ℕ) (t : List Line) (f : Frame) (w : WaitingCall) (u : Users) (r : Reply) → IsFollowed c t → FrameFact c t f → Counted c t f w u → MayTell c t (reply_record f.me f.boot w r) → AllStay c t (With n (reply_record f.me f.boot w r) t) (reply_record f.me f.boot w r) → OpensWell t f w r →
     UsersInside c f (With n (reply_record f.me f.boot w r) t) (after_reply f w r (without_waiting w u))
-replied_fine c n t f w u (reply.Opened fd) h frame k may stay well = whole c n t f w u (reply.Opened fd) h frame k may stay (with_row descriptor_key (opened_row f w fd) u.descriptors) u.hopeless (ascends_with descriptor_key (opened_row f w fd) u.descriptors k.others.listed)
-    (λ process m less. newly_described t f w fd u.descriptors well.0 well.1 k.others.descriptors process m less) k.others.hopeless
+replied_fine c n t f w u (reply.Opened fd) h frame k may stay well = whole c n t f w u (reply.Opened fd) h frame k may stay (with_row descriptor_key (opened_row f w fd (kept_so w)) u.descriptors) u.hopeless (ascends_with descriptor_key (opened_row f w fd (kept_so w)) u.descriptors k.others.listed)
+    (λ process m less. newly_described t f w fd (kept_so w) (λ (p i : ℕ). opened_as (entries t) (it f w)) u.descriptors well.0 well.1 k.others.descriptors process m less) k.others.hopeless
+replied_fine c n t f w u (reply.Data bytes) h frame k may stay well = over w.begins w.words refl well
+  where
+    reads_so : (words : Call) → w.words ≡ words → (m : ℕ) → reads_by (call_named (entries t) (it f w)) m ≡ is_read_of words m
+    reads_so words e m = ap (λ (o : Option Waiting). reads_by o m) (k.call.named ∙ ap Some k.call.caller_is) ∙ ap (λ (y : Call). is_read_of y m) e
+
+    -- nothing was granted to it
+    plain : opening_of (entries t) (it f w) ≡ None → UsersInside c f (With n (reply_record f.me f.boot w (reply.Data bytes)) t) (without_waiting w u)
+    plain none = whole c n t f w u (reply.Data bytes) h frame k may stay u.descriptors u.hopeless k.others.listed
+        (λ process m less. k.others.descriptors process m less ∙ sym (same process m)) k.others.hopeless
+      where
+        by : (a b : Bool) (old : Option Descriptor) → cond a (cond b (held_again None old) old) old ≡ old
+        by true true old = refl
+        by true false old = refl
+        by false b old = refl
+
+        same : (process m : ℕ) → cond ((f.me == f.me) && (w.process == process)) (opened_by (reply.Data bytes) (entries t) (it f w) m (descriptor (entries t) f.me process m)) (descriptor (entries t) f.me process m) ≡ descriptor (entries t) f.me process m
+        same process m = ap (λ (o : Option Descriptor). cond ((f.me == f.me) && (w.process == process)) (cond (reads_by (call_named (entries t) (it f w)) m) (held_again o (descriptor (entries t) f.me process m)) (descriptor (entries t) f.me process m)) (descriptor (entries t) f.me process m)) none
+            ∙ by ((f.me == f.me) && (w.process == process)) (reads_by (call_named (entries t) (it f w)) m) (descriptor (entries t) f.me process m)
+
+    again : (version : OneVersion) (fd at len : ℕ) → w.words ≡ call.Read fd at len → (fd < descriptor_span) × (held_again (opening_of (entries t) (it f w)) (descriptor (entries t) f.me w.process fd) ≡ Some (opened_row f w fd (Some version)).descriptor) →
+        UsersInside c f (With n (reply_record f.me f.boot w (reply.Data bytes)) t) (with_descriptor (opened_row f w fd (Some version)) (without_waiting w u))
+    again version fd at len e so = whole c n t f w u (reply.Data bytes) h frame k may stay (with_row descriptor_key (opened_row f w fd (Some version)) u.descriptors) u.hopeless (ascends_with descriptor_key (opened_row f w fd (Some version)) u.descriptors k.others.listed)
+        (λ process m less. newly_described t f w fd (Some version) (λ (p i : ℕ). held_again (opening_of (entries t) (it f w)) (descriptor (entries t) f.me p i)) u.descriptors so.0 so.1 k.others.descriptors process m less
+        ∙ ap (λ (b : Bool). cond ((f.me == f.me) && (w.process == process)) (cond b (held_again (opening_of (entries t) (it f w)) (descriptor (entries t) f.me process m)) (descriptor (entries t) f.me process m)) (descriptor (entries t) f.me process m)) (sym (reads_so (call.Read fd at len) e m))) k.others.hopeless
+
+    over : (b : Beginning) (words : Call) → w.words ≡ words → ReadsWell t f w b words → UsersInside c f (With n (reply_record f.me f.boot w (reply.Data bytes)) t) (holds_again f w b words (without_waiting w u))
+    over (begins.Reopens version last) (call.Read fd at len) e so = again version fd at len e so
+    over (begins.Reopens version last) _ e so = plain so
+    over _ words e so = plain so
 replied_fine c n t f w u (reply.No why) h frame k may stay well = over w.words refl
   where
     descriptors : (process m : ℕ) → m < descriptor_span → descriptor_in (row descriptor_key (fd_key process m) u.descriptors) ≡ descriptor (entries (With n (reply_record f.me f.boot w (reply.No why)) t)) f.me process m

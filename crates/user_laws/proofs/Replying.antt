@@ -20,7 +20,7 @@ use Rattle.role_steps.specs.Using.{last_opened, mode_asked, next_want, no_serial
 use Rattle.role_steps.specs.Views.{Users, Frame}
 use Rattle.role_steps.specs.declared.users.WaitingCall.{WaitingCall}
 use Rattle.tree_laws.specs.of_the_run.Worlds.{Line}
-use Rattle.tree_model.specs.Calls.{call_named, waiting}
+use Rattle.tree_model.specs.Calls.{call_named, opening_of, waiting}
 use Rattle.tree_model.specs.Epochs.{is_in}
 use Rattle.tree_model.specs.declared.accepted.Waiting.{Waiting}
 use Rattle.lawful_trace.specs.CallRows.{MayAnswer, is_this}
@@ -29,13 +29,13 @@ use Rattle.lawful_trace.specs.Tables.{begun, descriptor}
 use Rattle.tree_laws.specs.Printed.{entries}
 use Rattle.tree_laws.specs.Calls.{is_request, log, script, script_as}
 use Rattle.tree_laws.specs.Doing.{FrameFact}
-use Rattle.tree_laws.specs.Following.{IsFollowed, MayTell, AnswersInTime, RepliesInTime}
+use Rattle.tree_laws.specs.Following.{IsFollowed, MayTell, AnswersInTime, BeganFor, RepliesInTime}
 use Rattle.tree_laws.specs.Holding.{has_instances}
 use Rattle.tree_laws.specs.Serials.{asked_now}
 use Rattle.tree_laws.proofs.Free.{free_same}
 use Rattle.tree_laws.proofs.Hearing.{Hears, hears}
 use Rattle.tree_laws.proofs.Names.{same_epoch_own}
-use Rattle.user_laws.specs.Rests.{IsOpenedAs, HasTaken, ReplyRests, gives_now}
+use Rattle.user_laws.specs.Rests.{IsOpenedAs, IsReadAgain, HasTaken, ReplyRests, gives_now}
 use Rattle.user_laws.specs.Turning.{it, Turning}
 use Rattle.user_laws.proofs.Wanting.{next_is}
 
@@ -126,10 +126,26 @@ module _ (c : Config) (t : List Line) (f : Frame) (w : WaitingCall) (u : Users) 
 
       over : (r : Reply) → next_want f w u ≡ want.Give r → AnswersInTime c t who r
       over (reply.No (refusal.Changed left)) e = absurd (rests.unchanged who k.call.caller f.epoch left taken (sym script_is ∙ e))
-      over (reply.Opened fd) e = record { replies = replies (reply.Opened fd) e; held = λ x found. subst (λ (y : Descriptor). has_instances c t who y.inst ≡ true) (some_same _ x (sym opened.is_last ∙ found)) opened.held }
+      over (reply.Opened fd) e = record {
+        replies = replies (reply.Opened fd) e;
+        held = λ x found. subst (λ (y : Descriptor). has_instances c t who y.inst ≡ true) (some_same _ x (sym opened.is_last ∙ found)) opened.held;
+        plain = λ x y found named. opened.plain y named;
+        began = λ x found. subst (BeganFor (reply.Opened fd)) (sym opened.walks) tt;
+        took = λ x found. tt;
+      }
         where
-          opened : IsOpenedAs c t who fd (record { mode = mode_asked k.call.caller.words; epoch = f.epoch; inst = last_opened no_serial (log t who) })
+          opened : IsOpenedAs c t who fd (record { mode = mode_asked k.call.caller.words; epoch = f.epoch; inst = last_opened no_serial (log t who); steady = None })
           opened = rests.opened who k.call.caller f.epoch fd taken (sym script_is ∙ e)
+      over (reply.Data bytes) e = record {
+        replies = replies (reply.Data bytes) e;
+        held = λ x found. (again x found).held;
+        plain = λ x y found named. (again x found).plain y named;
+        began = λ x found. subst (BeganFor (reply.Data bytes)) (sym (again x found).began.2) tt;
+        took = λ x found. (again x found).took;
+      }
+        where
+          again : (x : Descriptor) → opening_of (entries t) who ≡ Some x → IsReadAgain c t who f.epoch x
+          again x found = rests.read who k.call.caller f.epoch bytes x taken (sym script_is ∙ e) found
       over r e = replies r e
 
 -- the reply comes as it may

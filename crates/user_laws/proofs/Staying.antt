@@ -78,7 +78,7 @@ had_stays c n me _ older away calm = refl
 
 descriptor_record : (n me process fd : ℕ) (r : Record) (before : Trace) → (IsOfUsers me (Shown r) → ⊥) → (IsOfSite me (Shown r) → ⊥) → descriptor (record { line = n; what = r } ∷ before) me process fd ≡ descriptor before me process fd
 descriptor_record n me process fd (says.Accept s user d words) before away calm = ap (λ (b : Bool). cond (b && (user == process)) (closed_by words fd (descriptor before me process fd)) (descriptor before me process fd)) (apart_test s me away)
-descriptor_record n me process fd (says.Answer s user d r) before away calm = ap (λ (b : Bool). cond (b && (user == process)) (opened_by r fd (opening_of before d) (descriptor before me process fd)) (descriptor before me process fd)) (apart_test s me away)
+descriptor_record n me process fd (says.Answer s user d r) before away calm = ap (λ (b : Bool). cond (b && (user == process)) (opened_by r before d fd (descriptor before me process fd)) (descriptor before me process fd)) (apart_test s me away)
 descriptor_record n me process fd (says.Stopped s cause) before away calm = ap (λ (b : Bool). cond b None (descriptor before me process fd)) (apart_test s me calm)
 descriptor_record n me process fd _ before away calm = refl
 

@@ -1,5 +1,5 @@
 -- What the steps of a using site take of other laws of followed traces.
-use Rattle.std.specs.Prelude.{ℕ, ◌≡◌, ◌<◌, true, List, [], ◌∷◌, ◌++◌, Option, Some}
+use Rattle.std.specs.Prelude.{ℕ, ◌≡◌, ◌<◌, true, List, [], ◌∷◌, ◌++◌, Option, None, Some}
 use Rattle.std.specs.List.{find}
 use Rattle.locus_ids.specs.declared.config.Config.{Config}
 use Rattle.locus_ids.specs.declared.ids.CallId.{CallId}
@@ -10,7 +10,9 @@ use Rattle.locus_ids.specs.declared.ids.Serial.{Serial}
 use Rattle.locus_ids.specs.declared.ids.Stamp.{Stamp}
 use Rattle.locus_ids.specs.declared.refusal.Refusal.TheVariants as refusal
 use Rattle.locus_ids.specs.Sizes.{descriptor_span}
+use Rattle.trace_book.specs.declared.descriptor.Beginning.TheVariants as begins
 use Rattle.trace_book.specs.declared.descriptor.Descriptor.{Descriptor}
+use Rattle.trace_book.specs.declared.descriptor.OneVersion.{OneVersion}
 use Rattle.trace_book.specs.declared.operation.Op.{Op}
 use Rattle.trace_book.specs.declared.operation.Outcome.{Outcome as Result}
 use Rattle.trace_book.specs.declared.operation.Op.TheVariants as op
@@ -21,27 +23,29 @@ use Rattle.trace_book.specs.declared.call.Call.TheVariants as call
 use Rattle.trace_book.specs.declared.reply.Reply.TheVariants as reply
 use Rattle.call_rules.specs.declared.answer.Answer.TheVariants as answer
 use Rattle.call_rules.specs.Descriptors.{lowest_free}
+use Rattle.call_rules.specs.Opening.{is_steady}
 use Rattle.call_rules.specs.declared.want.Want.{Want}
 use Rattle.call_rules.specs.declared.want.Want.TheVariants as want
 use Rattle.wire_messages.specs.declared.body.CloseAnswer.{CloseAnswer}
 use Rattle.role_steps.specs.Requests.{seen_by}
-use Rattle.role_steps.specs.Using.{last_opened, mode_asked, no_serial, close_answer, op_answer}
+use Rattle.role_steps.specs.Using.{last_opened, last_version, mode_asked, no_serial, close_answer, op_answer}
 use Rattle.role_steps.specs.Views.{Users, Frame, Told}
 use Rattle.role_steps.specs.declared.users.WaitingCall.{WaitingCall}
 use Rattle.tree_laws.specs.of_the_run.Worlds.{Line}
-use Rattle.tree_model.specs.Calls.{call_named, opening_of, waiting}
+use Rattle.tree_model.specs.Calls.{call_named, opening_of, version_of, waiting}
 use Rattle.tree_model.specs.Epochs.{epoch_of, members_of}
 use Rattle.tree_model.specs.Packs.{sync_site}
 use Rattle.tree_model.specs.Tree.{kept_in}
 use Rattle.tree_model.specs.declared.accepted.Waiting.{Waiting}
 use Rattle.lawful_trace.specs.CallRows.{is_this}
-use Rattle.lawful_trace.specs.Tables.{call_of_act, descriptor}
+use Rattle.lawful_trace.specs.Tables.{begun, call_of_act, descriptor}
 use Rattle.lawful_trace.specs.TreeRows.{IsCallIn}
 use Rattle.tree_laws.specs.Printed.{entries}
 use Rattle.tree_laws.specs.Calls.{Asks, heard, log, request_number, script, Waits}
-use Rattle.tree_laws.specs.Following.{IsFollowed, MayTell}
+use Rattle.tree_laws.specs.Following.{IsFollowed, MayTell, TookFor}
 use Rattle.tree_laws.specs.Frames.{AllStay}
 use Rattle.tree_laws.specs.Holding.{has_instances}
+use Rattle.tree_laws.specs.Processes.{IsMend}
 use Rattle.tree_laws.specs.Packets.{CloseDoneFact, OpDoneFact, SeesTarget, serial_of}
 use Rattle.tree_laws.specs.Instances.{IsStarted, Stands}
 use Rattle.tree_laws.specs.Past.{WasGranted, WasLooked}
@@ -61,6 +65,30 @@ pub record IsOpenedAs (c : Config) (trace : List Line) (d : CallId) (fd : ℕ) (
   pub small : fd < descriptor_span
   pub is_last : opening_of (entries trace) d ≡ Some x
   pub held : has_instances c trace d x.inst ≡ true
+  pub walks : begun (entries trace) d ≡ Some (begins.Walks d)
+  pub plain : (w : Waiting) → call_named (entries trace) d ≡ Some w → IsMend w.words → ⊥
+  -- of a steady one the version that was granted is the one that the call was told
+  pub keeps : (w : Waiting) → call_named (entries trace) d ≡ Some w → is_steady w.words ≡ true → version_of (entries trace) d ≡ last_version None (log trace d)
+
+-- a read that has opened a version again has the instance that was granted to it last, and has taken what it read by it
+pub record IsReadAgain (c : Config) (trace : List Line) (d : CallId) (e : EpochId) (x : Descriptor) : Type 0 where
+  pub epoch_is : e ≡ x.epoch
+  pub mode_is : x.mode ≡ mode.Read
+  pub began : (kept : OneVersion) × (last : EpochId) × (begun (entries trace) d ≡ Some (begins.Reopens kept last))
+  pub held : has_instances c trace d x.inst ≡ true
+  pub took : TookFor (reply.Data []) x.inst (log trace d)
+  pub plain : (w : Waiting) → call_named (entries trace) d ≡ Some w → IsMend w.words → ⊥
+
+-- the number by which a call reads still keeps this version
+pub record ReadsKept (trace : List Line) (caller : Waiting) (kept : OneVersion) : Type 0 where
+  pub fd : ℕ
+  pub at : ℕ
+  pub len : ℕ
+  pub words_are : caller.words ≡ call.Read fd at len
+  pub small : fd < descriptor_span
+  pub stands : Descriptor
+  pub found : descriptor (entries trace) caller.site caller.process fd ≡ Some stands
+  pub keeps : stands.steady ≡ Some kept
 
 -- a call of the site that waits in its epoch and has taken all its answers
 pub record HasTaken (c : Config) (trace : List Line) (d : CallId) (caller : Waiting) (e : EpochId) : Type 0 where
@@ -82,7 +110,12 @@ pub record ReplyRests (c : Config) (trace : List Line) : Type 0 where
   pub unchanged : (d : CallId) (caller : Waiting) (e left : EpochId) → HasTaken c trace d caller e → gives_now c trace d caller ≡ want.Give (reply.No (refusal.Changed left)) → ⊥
   -- an open that succeeds stands for what was granted to it last, in the mode that its words ask
   pub opened : (d : CallId) (caller : Waiting) (e : EpochId) (fd : ℕ) → HasTaken c trace d caller e → gives_now c trace d caller ≡ want.Give (reply.Opened fd) →
-      IsOpenedAs c trace d fd (record { mode = mode_asked caller.words; epoch = e; inst = last_opened no_serial (log trace d) })
+      IsOpenedAs c trace d fd (record { mode = mode_asked caller.words; epoch = e; inst = last_opened no_serial (log trace d); steady = None })
+  -- a read that succeeds, and was granted something, has opened a version again
+  pub read : (d : CallId) (caller : Waiting) (e : EpochId) (bytes : List ℕ) (x : Descriptor) → HasTaken c trace d caller e → gives_now c trace d caller ≡ want.Give (reply.Data bytes) → opening_of (entries trace) d ≡ Some x → IsReadAgain c trace d e x
+  -- one that began by opening a version again was granted that, and its number keeps it
+  pub reread : (d : CallId) (caller : Waiting) (e : EpochId) (bytes : List ℕ) (kept : OneVersion) (last : EpochId) → HasTaken c trace d caller e → gives_now c trace d caller ≡ want.Give (reply.Data bytes) → begun (entries trace) d ≡ Some (begins.Reopens kept last) →
+      ((x : Descriptor) × (opening_of (entries trace) d ≡ Some x)) × ReadsKept trace caller kept
 
 -- what other laws give once a line is told: what they keep of packets stays, and what comes next rests on the trace with the line
 pub record Follows (c : Config) (old new : List Line) (x : Told) : Type 0 where

@@ -54,10 +54,10 @@ pub instance_put : (v u : Users) (rows : List UserInstance) (i : UserInstance) �
 instance_put v u rows i e g = ap (λ (all : List UserInstance). record v { instances = all }) g ∙ ap (with_user_instance i) e
 
 -- the stamps that a mend's open brings are those of the directory that it mends
-pub opened_taken : {A E : Type 0} (done : Result A E) (f : Frame) (all : FileId → List Stamp) (kept : List Stamp) (serial ino : ℕ) (w : WaitingCall) (o : Option WaitingCall) (a : Answer) (v u : Users) (new : Users) (before after : Outgoing) → o ≡ Some w → kept_for all (mended_by o) ≡ kept → a ≡ opened_answer f serial ino kept w.words → v ≡ u → OnOk done (Gives (takes_answer f w a v) new before after) → OnOk done (Gives (takes_answer f w (opened_answer f serial ino (kept_for all (mended_file w.words)) w.words) u) new before after)
-opened_taken done f all kept serial ino w o a v u new before after e g h i k =
-    same_taken done f w a (opened_answer f serial ino (kept_for all (mended_file w.words)) w.words) v u new before after
-    (h ∙ ap (λ (ks : List Stamp). opened_answer f serial ino ks w.words) (sym g ∙ ap (λ (p : Option WaitingCall). kept_for all (mended_by p)) e)) i k
+pub opened_taken : {A E : Type 0} (done : Result A E) (f : Frame) (all : FileId → List Stamp) (kept : List Stamp) (serial ino : ℕ) (stamp : Stamp) (w : WaitingCall) (o : Option WaitingCall) (a : Answer) (v u : Users) (new : Users) (before after : Outgoing) → o ≡ Some w → kept_for all (mended_by o) ≡ kept → a ≡ opened_answer f serial ino stamp kept w.words w.asking → v ≡ u → OnOk done (Gives (takes_answer f w a v) new before after) → OnOk done (Gives (takes_answer f w (opened_answer f serial ino stamp (kept_for all (mended_file w.words)) w.words w.asking) u) new before after)
+opened_taken done f all kept serial ino stamp w o a v u new before after e g h i k =
+    same_taken done f w a (opened_answer f serial ino stamp (kept_for all (mended_file w.words)) w.words w.asking) v u new before after
+    (h ∙ ap (λ (ks : List Stamp). opened_answer f serial ino stamp ks w.words w.asking) (sym g ∙ ap (λ (p : Option WaitingCall). kept_for all (mended_by p)) e)) i k
 
 -- ---- contents ----
 

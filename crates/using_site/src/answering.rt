@@ -5,7 +5,8 @@ ghost use Rattle.role_steps.specs.of_dir_format.Contents.{entries_of};
 ghost use Rattle.role_steps.specs.of_dir_format.Lookups.{shown_names};
 ghost use Rattle.role_steps.specs.Tables.{first_that, row};
 ghost use Rattle.role_steps.specs.Requests.{waiting_key};
-ghost use Rattle.role_steps.specs.Using.{asks_open_of, close_answer, kept_for, looks_again, on_close_done, on_look_done, on_op_done, on_open_done, op_answer, opened_answer, takes_look, takes_open};
+ghost use Rattle.role_steps.specs.Views.{Frame};
+ghost use Rattle.role_steps.specs.Using.{asked_answer, asks_open_of, close_answer, kept_for, looks_again, on_close_done, on_look_done, on_op_done, on_open_done, op_answer, opened_answer, own_serial, takes_look, takes_open};
 ghost use Rattle.role_steps.specs.declared.users.WaitingCall.{WaitingCall};
 ghost use Rattle.keyed_tables.specs.Rising.{Rising};
 ghost use Rattle.wire_messages.specs.declared.body.LookAnswer.TheVariants as looked;
@@ -17,12 +18,43 @@ use crate::users::UsingSite;
 use crate::waiting::{Waiting, send_request};
 use call_rules::Answer;
 use dir_operations::{dir_in, shown_names};
-use locus_ids::{Bytes, Names, NoMemory, Serial, Stamps};
+use locus_ids::{Bytes, Names, NoMemory, Serial, Stamp, Stamps};
 use role_steps::{Asking, UserInstance};
 use site_frame::SiteFrame;
 use std::alloc::Global;
-use trace_book::{Call, Outcome, What};
-use wire_messages::{CloseAnswer, Granted, LookAnswer, Outbox};
+use trace_book::{Call, OneVersion, Outcome, What};
+use wire_messages::{CloseAnswer, Granted, LookAnswer, Opening, Outbox};
+
+/// What the grant of an open tells its call.
+#[derive(Clone, Copy)]
+struct Told {
+    serial: u32,
+    ino: u16,
+    stamp: Stamp,
+}
+
+/// An open to read tells its version.
+fn asked_answer(inst: Serial, told: Told, asking: &Asking) -> Answer
+    ensures { (f : Frame) → own_serial f told.serial ≡ inst → result ≡ asked_answer f told.serial told.ino told.stamp asking.now }
+{
+    match asking {
+        Asking::Open {
+            serial: _,
+            file,
+            how: Opening::Read,
+        } => {
+            let version = OneVersion {
+                file: *file,
+                stamp: told.stamp,
+            };
+            Answer::Reading { inst, version }
+        }
+        _ => Answer::Opened {
+            inst,
+            ino: told.ino,
+        },
+    }
+}
 
 impl UsingSite {
     /// An open is answered. `kept` are the stamps of the kept versions of the directory that the call mends which asks
@@ -44,10 +76,12 @@ impl UsingSite {
             Granted::Open {
                 ss,
                 ino,
+                stamp,
                 vector,
                 ..
             } => {
-                let answer = self.opened_answer(frame, key, serial, ino, kept);
+                let told = Told { serial, ino, stamp };
+                let answer = self.opened_answer(frame, key, told, kept);
                 self.instances.put(UserInstance {
                     serial,
                     ss,
@@ -61,26 +95,22 @@ impl UsingSite {
     }
 
     /// What an open is to the call of this key: a mend's brings the stamps of the kept versions.
-    fn opened_answer(
-        &self,
-        frame: &SiteFrame,
-        key: u64,
-        serial: u32,
-        ino: u16,
-        kept: Stamps,
-    ) -> Answer
-        ensures { (w : WaitingCall) → row waiting_key key self.now.waiting ≡ Some w → result ≡ opened_answer frame.now serial ino kept w.words }
+    fn opened_answer(&self, frame: &SiteFrame, key: u64, told: Told, kept: Stamps) -> Answer
+        ensures { (w : WaitingCall) → row waiting_key key self.now.waiting ≡ Some w → result ≡ opened_answer frame.now told.serial told.ino told.stamp kept w.words w.asking }
     {
         let inst = Serial {
             us: frame.me.get(),
-            serial,
+            serial: told.serial,
         };
         match self.waiting.find(key) {
             Some(waiting) => match waiting.caller.script.words() {
                 Call::Mend { file: _ } => Answer::Merging { inst, kept },
-                _ => Answer::Opened { inst, ino },
+                _ => asked_answer(inst, told, &waiting.asking),
             },
-            None => Answer::Opened { inst, ino },
+            None => Answer::Opened {
+                inst,
+                ino: told.ino,
+            },
         }
     }
 

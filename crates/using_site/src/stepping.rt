@@ -168,6 +168,7 @@ fn opening_of(mode: OpenMode) -> Opening
         OpenMode::Read => Opening::Read,
         OpenMode::Write => Opening::Write,
         OpenMode::Resolve { site } => Opening::Resolve { site },
+        OpenMode::Steady => Opening::Read,
     }
 }
 

@@ -6,12 +6,12 @@ use Rattle.audit_calls.specs.Uses.{uses_as}
 use Rattle.audit_call_rows.proofs.Told.{caller_acts, user_acts}
 use Rattle.audit_call_rows.proofs.actors.actor.Goals as goal
 
-pub returns-then-is_named : goal.returns-then-is_named
-returns-then-is_named c =
+pub returns-then-is_used : goal.returns-then-is_used
+returns-then-is_used c =
     c.user.ensures
-    ∙ (ap (λ (g : Granted). find (uses_as c.args.epoch g.inst c.args.n) c.args.calls.now) c.grant-grant.ensures ∙ user_acts c.args.epoch c.args.instance.now c.args.n c.args.calls.now (sym c.if-is_named.ensures))
+    ∙ (ap (λ (g : Granted). find (uses_as c.args.epoch g.inst c.args.n) c.args.calls.now) c.grant-grant.ensures ∙ user_acts c.args.epoch c.args.instance.now c.args.n c.args.calls.now (sym c.if-is_used.ensures))
 
-pub returns-else-is_named : goal.returns-else-is_named
-returns-else-is_named c =
+pub returns-else-is_used : goal.returns-else-is_used
+returns-else-is_used c =
     c.find.ensures
-    ∙ (ap (λ (g : Granted). find (is_id g.call) c.args.calls.now) c.grant-grant.ensures ∙ caller_acts c.args.epoch c.args.instance.now c.args.n c.args.calls.now (sym c.if-is_named.ensures))
+    ∙ (ap (λ (g : Granted). find (is_id g.call) c.args.calls.now) c.grant-grant.ensures ∙ caller_acts c.args.epoch c.args.instance.now c.args.n c.args.calls.now (sym c.if-is_used.ensures))

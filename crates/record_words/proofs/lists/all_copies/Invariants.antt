@@ -1,0 +1,11 @@
+use Rattle.std.proofs.Common.{◌≡◌, length}
+use Rattle.line_text.specs.Words.{pieces}
+use Rattle.record_words.specs.Fields.{all_in, brought_in}
+use Rattle.record_words.proofs.Loops.{onto}
+use Rattle.record_words.proofs.lists.all_copies.Given as goal
+
+abbrev pub invariant-loop-word : goal.invariant-loop-word
+invariant-loop-word l = onto brought_in 32 l.copies l.rest ≡ all_in brought_in (pieces 32 l.bytes)
+
+abbrev pub decreases-loop-word : goal.decreases-loop-word
+decreases-loop-word l = length l.rest

@@ -1,0 +1,137 @@
+ghost use Rattle.std.specs.Prelude.{◌≡◌, IfOk};
+ghost use Rattle.std.specs.Option.{option_map};
+ghost use Rattle.record_words.specs.Answers.{long_refusal, refusal_in, short_refusal};
+ghost use Rattle.record_words.specs.Fields.{any_site_in, inode_in, process_in, short_in, stamp_in, words_in};
+ghost use Rattle.locus_ids.specs.declared.refusal.Refusal.TheVariants as refusal;
+
+use crate::fields::{any_site, epoch, inode, process, short, stamp};
+use crate::lists::component;
+use line_text::two_words;
+use locus_ids::{NoMemory, Refusal};
+use std::alloc::Global;
+
+/// The refusal that the words are.
+pub fn refusal(alloc: Global, bytes: &[u8]) -> Result<Option<Refusal>, NoMemory>
+    ensures { IfOk result (λ o. o ≡ refusal_in bytes.now) }
+{
+    match two_words(bytes) {
+        None => Ok(short_refusal(bytes)),
+        Some((word, rest)) => long_refusal(alloc, word, rest),
+    }
+}
+
+fn short_refusal(word: &[u8]) -> Option<Refusal>
+    ensures { result ≡ short_refusal word.now }
+{
+    if word == b"isdir".as_slice() {
+        return Some(Refusal::IsDir);
+    }
+    if word == b"nostorage".as_slice() {
+        return Some(Refusal::NoStorage);
+    }
+    if word == b"nopartition".as_slice() {
+        return Some(Refusal::NoPartition);
+    }
+    if word == b"baddescriptor".as_slice() {
+        return Some(Refusal::BadDescriptor);
+    }
+    if word == b"toolong".as_slice() {
+        return Some(Refusal::TooLong);
+    }
+    if word == b"noinode".as_slice() {
+        return Some(Refusal::NoInode);
+    }
+    if word == b"badname".as_slice() {
+        return Some(Refusal::BadName);
+    }
+    if word == b"readonly".as_slice() {
+        return Some(Refusal::ReadOnly);
+    }
+    if word == b"nodescriptor".as_slice() {
+        return Some(Refusal::NoDescriptor);
+    }
+    if word == b"spent".as_slice() {
+        return Some(Refusal::Spent);
+    }
+    if word == b"noconflict".as_slice() {
+        return Some(Refusal::NoConflict);
+    }
+    None
+}
+
+/// The refusal of this first word, and of what follows.
+fn long_refusal(alloc: Global, word: &[u8], rest: &[u8]) -> Result<Option<Refusal>, NoMemory>
+    ensures { IfOk result (λ o. o ≡ long_refusal word.now rest.now) }
+{
+    if word == b"busy".as_slice() {
+        return Ok(busy(rest));
+    }
+    if word == b"absent".as_slice() {
+        return Ok(component(alloc, rest)?.map(|name| Refusal::Absent { name }));
+    }
+    if word == b"notdir".as_slice() {
+        return Ok(component(alloc, rest)?.map(|name| Refusal::NotDir { name }));
+    }
+    if word == b"exists".as_slice() {
+        return Ok(inode(rest).map(|ino| Refusal::Exists { ino }));
+    }
+    if word == b"notempty".as_slice() {
+        return Ok(component(alloc, rest)?.map(|name| Refusal::NotEmpty { name }));
+    }
+    if word == b"conflict".as_slice() {
+        return Ok(conflict(rest));
+    }
+    if word == b"ambiguous".as_slice() {
+        return Ok(ambiguous(rest));
+    }
+    if word == b"changed".as_slice() {
+        return Ok(epoch(rest).map(|epoch| Refusal::Changed { epoch }));
+    }
+    if word == b"stale".as_slice() {
+        return Ok(epoch(rest).map(|epoch| Refusal::Stale { epoch }));
+    }
+    if word == b"nospace".as_slice() {
+        return Ok(no_space(rest));
+    }
+    Ok(None)
+}
+
+/// `SITE PROCESS`.
+fn busy(rest: &[u8]) -> Option<Refusal>
+    ensures { result ≡ option_map (λ t. refusal.Busy t.0 t.1) (words_in any_site_in process_in rest.now) }
+{
+    let (site, process_word) = two_words(rest)?;
+    let site = any_site(site)?;
+    let process = process(process_word)?;
+    Some(Refusal::Busy { site, process })
+}
+
+/// `STAMP STAMP`.
+fn conflict(rest: &[u8]) -> Option<Refusal>
+    ensures { result ≡ option_map (λ t. refusal.Conflict t.0 t.1) (words_in stamp_in stamp_in rest.now) }
+{
+    let (a, b) = two_words(rest)?;
+    let a = stamp(a)?;
+    let b = stamp(b)?;
+    Some(Refusal::Conflict { a, b })
+}
+
+/// `INODE INODE`.
+fn ambiguous(rest: &[u8]) -> Option<Refusal>
+    ensures { result ≡ option_map (λ t. refusal.Ambiguous t.0 t.1) (words_in inode_in inode_in rest.now) }
+{
+    let (a, b) = two_words(rest)?;
+    let a = inode(a)?;
+    let b = inode(b)?;
+    Some(Refusal::Ambiguous { a, b })
+}
+
+/// `NEEDED FREE`.
+fn no_space(rest: &[u8]) -> Option<Refusal>
+    ensures { result ≡ option_map (λ t. refusal.NoSpace t.0 t.1) (words_in short_in short_in rest.now) }
+{
+    let (needed, free) = two_words(rest)?;
+    let needed = short(needed)?;
+    let free = short(free)?;
+    Some(Refusal::NoSpace { needed, free })
+}

@@ -1,0 +1,3 @@
+pub mod HeldThroughACut
+pub mod Judged
+pub mod Wrong
