@@ -1,13 +1,11 @@
 -- What a call goes on to ask, once its walk and the open of a directory are as far as they are.
-use Rattle.std.specs.Prelude.{ℕ, Bool, true, false, List, None}
+use Rattle.std.specs.Prelude.{ℕ, List, None}
 use Rattle.locus_ids.specs.declared.ids.FileId.{FileId}
 use Rattle.locus_ids.specs.declared.ids.Kind.{Kind}
 use Rattle.locus_ids.specs.declared.ids.Kind.TheVariants.{File}
 use Rattle.locus_ids.specs.declared.config.Mount.{Mount}
 use Rattle.locus_ids.specs.declared.ids.Serial.{Serial}
 use Rattle.trace_book.specs.Names.{last_of}
-use Rattle.trace_book.specs.declared.reply.Reply.{Reply}
-use Rattle.trace_book.specs.declared.reply.Reply.TheVariants as reply
 use Rattle.call_rules.specs.declared.answer.Answer.{Answer}
 use Rattle.call_rules.specs.declared.want.Want.{Want}
 use Rattle.call_rules.specs.Making.{opens_dir, probes}
@@ -25,11 +23,6 @@ after_walk after (reached.There file kind answers) = after file kind answers.now
 abbrev pub after_opening : (ℕ → Serial → List Answer → Want) → Opened → Want
 after_opening next (opened.Wants want) = want
 after_opening next (opened.Open group dir answers) = next group dir answers.now
-
--- what the reply tells of a new file: the name of a message, or the number of another file
-abbrev pub tells : Bool → List ℕ → ℕ → Reply
-tells true name = tells_name name
-tells false name = reply.Made
 
 -- what a mail asks that puts a message of this name into the box to which these components lead
 abbrev pub mails_to : List Mount → List (List ℕ) → List ℕ → List ℕ → List Answer → Want

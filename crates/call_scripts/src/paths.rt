@@ -11,12 +11,10 @@ ghost use Rattle.call_rules.specs.Mailing.{shown_messages};
 ghost use Rattle.call_rules.specs.Walks.{walked};
 ghost use Rattle.call_scripts.specs.Reaches.{mails_to};
 
-use crate::making::{NewFile, probes};
-use crate::naming::renames;
 use crate::opening::{describes, lists, lists_messages, opens_file};
 use crate::reaching::{Opened, Reached, open_dir, open_whole, reach};
-use crate::removing::{Entry, finds};
 use call_rules::{Answer, Want};
+use instance_scripts::{Entry, NewFile, finds, probes, renames};
 use locus_ids::{Bytes, Kind, Mount, NoMemory, Sites};
 use path_walk::last_of;
 use std::alloc::Global;

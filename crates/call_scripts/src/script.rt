@@ -6,15 +6,13 @@ ghost use Rattle.call_rules.specs.Scripts.{begun_wants, named_wants, path_wants}
 ghost use Rattle.call_scripts.specs.Reaches.{mails_to};
 ghost use Rattle.call_scripts.specs.Scripted.{path_of};
 
-use crate::mending::mend_wants;
 use crate::paths::{
     Message, list_wants, mail_wants, mails_wants, make_wants, open_wants, remove_wants,
     rename_wants, stat_wants,
 };
-use crate::reopening::reopen_wants;
-use crate::using::uses_wants;
 use crate::words::{is_badly_named, path_of};
 use call_rules::{Answer, Want};
+use instance_scripts::{mend_wants, reopen_wants, uses_wants};
 use locus_ids::{Bytes, CallId, Kind, Mount, Names, NoMemory, Refusal};
 use mailbox_join::message_name;
 use path_walk::components;

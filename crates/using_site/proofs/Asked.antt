@@ -5,7 +5,7 @@ use Rattle.role_steps.specs.Tables.{row, first_that}
 use Rattle.role_steps.specs.Requests.{waiting_key}
 use Rattle.role_steps.specs.declared.users.WaitingCall.{WaitingCall}
 use Rattle.keyed_tables.specs.Rising.{Rising}
-use Rattle.using_site.specs.Rows.{key_of}
+use Rattle.waiting_calls.specs.Rows.{key_of}
 use Rattle.using_site.proofs.Taken.{row_of_first}
 
 none_key : {P : Type 0} (b : ℕ) → ◌≡◌ {A = Option ℕ} None (Some b) → P

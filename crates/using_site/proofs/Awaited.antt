@@ -22,8 +22,8 @@ use Rattle.role_steps.specs.declared.users.Asking.TheVariants as asking
 use Rattle.role_steps.specs.declared.users.UserInstance.{UserInstance}
 use Rattle.role_steps.specs.declared.users.WaitingCall.{WaitingCall}
 use Rattle.keyed_tables.specs.Rising.{Rising}
-use Rattle.using_site.specs.Called.{with_content}
-use Rattle.using_site.specs.Rows.{asks_whole, key_of}
+use Rattle.waiting_calls.specs.Called.{with_content}
+use Rattle.waiting_calls.specs.Rows.{asks_whole, key_of}
 use Rattle.using_site.specs.Steps.{Gives, mended_by}
 use Rattle.using_site.proofs.Asked.{asker}
 use Rattle.using_site.proofs.Going.{with_waiting_rows}

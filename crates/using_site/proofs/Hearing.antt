@@ -16,7 +16,7 @@ use Rattle.keyed_tables.specs.Rising.{Rising}
 use Rattle.using_site.specs.declared.step.Step.{Step}
 use Rattle.using_site.specs.declared.step.Step.TheVariants.{Asks, Replies, Stays}
 use Rattle.using_site.specs.Steps.{after_step, Gives}
-use Rattle.using_site.specs.Called.{with_content}
+use Rattle.waiting_calls.specs.Called.{with_content}
 use Rattle.using_site.proofs.Taken.{row_key}
 use Rattle.using_site.proofs.Going.{Gone, with_waiting_rows, stayed_view, stayed_sent, stayed_told}
 use Rattle.using_site.proofs.Replies.{content_key, gone_asks, gone_replies, row_out, taken}

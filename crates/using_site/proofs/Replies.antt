@@ -17,7 +17,7 @@ use Rattle.site_frame.specs.Printed.{printed}
 use Rattle.using_site.specs.declared.step.Step.{Step}
 use Rattle.using_site.specs.declared.step.Step.TheVariants.{Asks, Replies, Stays}
 use Rattle.using_site.specs.Steps.{after_step, Gives}
-use Rattle.using_site.specs.Called.{with_content}
+use Rattle.waiting_calls.specs.Called.{with_content}
 use Rattle.using_site.proofs.Going.{Begun, begun, Gone, with_waiting_rows, asked_view, asked_sent, asked_told, replied_view, replied_sent, replied_told}
 use Rattle.std.proofs.Common.{[], ◌∷◌, refl, subst, Option, Some, None}
 

@@ -11,18 +11,19 @@ ghost use Rattle.role_steps.specs.declared.users.WaitingCall.{WaitingCall};
 ghost use Rattle.keyed_tables.specs.Rising.{Rising};
 ghost use Rattle.wire_messages.specs.declared.body.LookAnswer.TheVariants as looked;
 ghost use Rattle.using_site.specs.Steps.{Gives, mended_by};
-ghost use Rattle.using_site.specs.Rows.{asks_whole};
+ghost use Rattle.waiting_calls.specs.Rows.{asks_whole};
 
-use crate::checking::{close_asker, look_asker, op_asker, open_asker};
 use crate::users::UsingSite;
-use crate::waiting::{Waiting, send_request};
 use call_rules::Answer;
 use dir_operations::{dir_in, shown_names};
 use locus_ids::{Bytes, Names, NoMemory, Serial, Stamp, Stamps};
 use role_steps::{Asking, UserInstance};
 use site_frame::SiteFrame;
 use std::alloc::Global;
-use trace_book::{Call, OneVersion, Outcome, What};
+use trace_book::{Call, OneVersion, Outcome};
+use waiting_calls::{
+    Waiting, close_asker, is_whole, look_asker, op_asker, open_asker, send_request,
+};
 use wire_messages::{CloseAnswer, Granted, LookAnswer, Opening, Outbox};
 
 /// What the grant of an open tells its call.
@@ -224,18 +225,6 @@ impl UsingSite {
             }
             asking => self.waiting.put(Waiting { caller, asking }),
         }
-    }
-}
-
-fn is_whole(asking: &Asking) -> bool
-    ensures { result ≡ asks_whole asking.now }
-{
-    match asking {
-        Asking::Look {
-            what: What::Whole { .. },
-            ..
-        } => true,
-        _ => false,
     }
 }
 

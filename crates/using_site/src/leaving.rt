@@ -5,12 +5,11 @@ ghost use Rattle.locus_ids.specs.declared.refusal.Refusal.TheVariants as refusal
 ghost use Rattle.trace_book.specs.declared.reply.Reply.TheVariants as reply;
 ghost use Rattle.site_frame.specs.Printed.{printed};
 
-use crate::replying::own_call;
 use crate::users::UsingSite;
-use crate::waiting::{Waiting, send_request};
 use locus_ids::{EpochId, NoMemory, Refusal, SiteId};
 use site_frame::SiteFrame;
 use trace_book::{Record, Reply};
+use waiting_calls::{Waiting, own_call, send_request};
 use wire_messages::Outbox;
 
 impl UsingSite {

@@ -5,8 +5,6 @@
 
 mod answering;
 mod beginning;
-mod caller;
-mod checking;
 mod instances;
 mod leaving;
 mod mends;
@@ -15,6 +13,5 @@ mod step;
 mod stepping;
 mod taking;
 mod users;
-mod waiting;
 
 pub use users::UsingSite;

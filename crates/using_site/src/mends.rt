@@ -7,11 +7,11 @@ ghost use Rattle.role_steps.specs.Using.{asks_open_of, mended_file, on_call};
 ghost use Rattle.trace_book.specs.declared.call.Call.TheVariants as call;
 ghost use Rattle.using_site.specs.Steps.{Gives, mended_by};
 
-use crate::checking::asks_open_of;
 use crate::users::UsingSite;
 use locus_ids::{Bytes, FileId, NoMemory};
 use site_frame::SiteFrame;
 use trace_book::Call;
+use waiting_calls::asks_open_of;
 use wire_messages::Outbox;
 
 impl UsingSite {

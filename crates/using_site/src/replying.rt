@@ -1,21 +1,16 @@
-ghost use Rattle.std.specs.Prelude.{◌≡◌, ◌++◌, [], ◌∷◌, None, cond, OnOk};
-ghost use Rattle.locus_ids.specs.declared.ids.Serial.{Serial};
+ghost use Rattle.std.specs.Prelude.{◌≡◌, ◌++◌, [], ◌∷◌, OnOk};
 ghost use Rattle.role_steps.specs.declared.users.Asking.{Asking};
 ghost use Rattle.role_steps.specs.Requests.{asks, next_request};
-ghost use Rattle.call_rules.specs.Opening.{is_steady};
-ghost use Rattle.role_steps.specs.Using.{after_reply, holds_again, is_hopeless, last_opened, last_version, mode_asked, opened_row, own_call, reply_record, without_hope};
+ghost use Rattle.role_steps.specs.Using.{after_reply, holds_again, is_hopeless, reply_record, without_hope};
 ghost use Rattle.site_frame.specs.Printed.{printed};
-ghost use Rattle.using_site.specs.Called.{called};
+ghost use Rattle.waiting_calls.specs.Called.{called};
 
-use crate::caller::Caller;
 use crate::users::UsingSite;
-use crate::waiting::{Waiting, send_request};
-use call_rules::Answer;
-use locus_ids::{CallId, EpochId, Mode, NoMemory, Refusal, Serial, SiteId};
-use read_reopen::Steady;
-use role_steps::{Asking, DescriptorRow};
+use locus_ids::{NoMemory, Refusal};
+use role_steps::Asking;
 use site_frame::SiteFrame;
-use trace_book::{Beginning, Call, Descriptor, OneVersion, OpenMode, Record, Reply};
+use trace_book::{Beginning, Call, Record, Reply};
+use waiting_calls::{Caller, Waiting, kept_version, opened_row, own_call, send_request};
 use wire_messages::Outbox;
 
 impl UsingSite {
@@ -85,12 +80,12 @@ impl UsingSite {
     fn hold_again(&mut self, frame: &SiteFrame, caller: &Caller) -> Result<(), NoMemory>
         ensures { (a : Asking) → OnOk result (self.new ≡ holds_again frame.now (called caller.now a) caller.now.script.begins caller.now.script.words self.old) }
     {
-        let Beginning::Reopens { version, last } = caller.script.begins() else {
+        let Beginning::Reopens { version, last: _ } = caller.script.begins() else {
             return Ok(());
         };
         match caller.script.words() {
             Call::Read { fd, at: _, len: _ } => {
-                let row = held_row(frame, caller, *fd, *version, *last);
+                let row = opened_row(frame, caller, *fd, Some(*version));
                 self.descriptors.put(row)
             }
             _ => Ok(()),
@@ -121,123 +116,5 @@ fn is_hopeless(why: &Refusal) -> bool
         Refusal::NoSpace { needed: _, free: _ } => true,
         Refusal::Spent => true,
         _ => false,
-    }
-}
-
-/// The descriptor of a read that has opened its version again: the read gave bytes, so the instance has that version and holds it now.
-fn held_row(
-    frame: &SiteFrame,
-    caller: &Caller,
-    fd: u16,
-    version: OneVersion,
-    last: EpochId,
-) -> DescriptorRow
-    ensures { (a : Asking) → result ≡ opened_row frame.now (called caller.now a) fd (Some version) }
-{
-    let mut row = opened_row(frame, caller, fd, Some(version));
-    let now = row.descriptor;
-    let mut steady = Steady {
-        file: version.file,
-        stamp: version.stamp,
-        last,
-        held: false,
-        serial: 0,
-    };
-    steady.opened(now.epoch, now.inst.serial, version.stamp);
-    row.descriptor.epoch = steady.last;
-    row.descriptor.inst.serial = steady.serial;
-    row
-}
-
-/// The descriptor that an open takes, or that a read holds again, with the version that it keeps.
-fn opened_row(
-    frame: &SiteFrame,
-    caller: &Caller,
-    fd: u16,
-    kept: Option<OneVersion>,
-) -> DescriptorRow
-    ensures { (a : Asking) → result ≡ opened_row frame.now (called caller.now a) fd kept }
-{
-    let none = Serial { us: 0, serial: 0 };
-    DescriptorRow {
-        process: caller.process,
-        fd,
-        descriptor: Descriptor {
-            mode: mode_asked(caller.script.words()),
-            epoch: frame.epoch,
-            inst: last_opened(none, caller.script.answers()),
-            steady: kept,
-        },
-    }
-}
-
-fn mode_asked(words: &Call) -> Mode
-    ensures { result ≡ mode_asked words.now }
-{
-    match words {
-        Call::Open { path: _, mode } => match mode {
-            OpenMode::Read => Mode::Read,
-            OpenMode::Write => Mode::Write,
-            OpenMode::Resolve { site: _ } => Mode::Resolve,
-            OpenMode::Steady => Mode::Read,
-        },
-        _ => Mode::Read,
-    }
-}
-
-/// The instance that an open was answered last, or this one.
-fn last_opened(inst: Serial, answers: &[Answer]) -> Serial
-    ensures { result ≡ last_opened inst answers.now }
-{
-    let [first, answers @ ..] = answers else {
-        return inst;
-    };
-    match first {
-        Answer::Opened { inst, ino: _ } => last_opened(*inst, answers),
-        Answer::Reading { inst, version: _ } => last_opened(*inst, answers),
-        _ => last_opened(inst, answers),
-    }
-}
-
-/// The version that an open's descriptor keeps: the one that it was granted, where it is steady.
-fn kept_version(caller: &Caller) -> Option<OneVersion>
-    ensures { result ≡ cond (is_steady caller.now.script.words) (last_version None caller.now.script.answers) None }
-{
-    if is_steady(caller.script.words()) {
-        return last_version(None, caller.script.answers());
-    }
-    None
-}
-
-fn is_steady(words: &Call) -> bool
-    ensures { result ≡ is_steady words.now }
-{
-    match words {
-        Call::Open { path: _, mode } => matches!(mode, OpenMode::Steady),
-        _ => false,
-    }
-}
-
-/// The version that was opened last to be read, or this one.
-fn last_version(last: Option<OneVersion>, answers: &[Answer]) -> Option<OneVersion>
-    ensures { result ≡ last_version last answers.now }
-{
-    let [first, answers @ ..] = answers else {
-        return last;
-    };
-    match first {
-        Answer::Reading { inst: _, version } => last_version(Some(*version), answers),
-        _ => last_version(last, answers),
-    }
-}
-
-/// A call of this site and boot.
-pub(crate) fn own_call(me: SiteId, boot: u32, n: u32) -> CallId
-    ensures { result ≡ own_call me boot n }
-{
-    CallId {
-        site: me.get(),
-        boot,
-        n,
     }
 }

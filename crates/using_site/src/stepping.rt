@@ -6,10 +6,9 @@ ghost use Rattle.role_steps.specs.declared.users.Asking.{Asking};
 ghost use Rattle.role_steps.specs.declared.users.WaitingCall.{WaitingCall};
 ghost use Rattle.role_steps.specs.Requests.{asks_close, asks_make, asks_op, asks_open, made_for, opening_of};
 ghost use Rattle.role_steps.specs.Using.{asks_want, is_packed, next_want};
-ghost use Rattle.using_site.specs.Called.{called};
+ghost use Rattle.waiting_calls.specs.Called.{called};
 ghost use Rattle.using_site.specs.Steps.{after_step};
 
-use crate::caller::Caller;
 use crate::step::Step;
 use crate::users::UsingSite;
 use call_rules::Want;
@@ -17,6 +16,7 @@ use locus_ids::{FileId, NoMemory, Refusal, Serial, Sites};
 use role_steps::{Asking, UserInstance};
 use site_frame::SiteFrame;
 use trace_book::{Op, OpenMode, Reply};
+use waiting_calls::Caller;
 use wire_messages::Opening;
 
 impl UsingSite {

@@ -6,18 +6,16 @@ ghost use Rattle.role_steps.specs.declared.users.Asking.{Asking};
 ghost use Rattle.role_steps.specs.declared.users.WaitingCall.{WaitingCall};
 ghost use Rattle.keyed_tables.specs.Rising.{Rising};
 ghost use Rattle.using_site.specs.Steps.{Gives};
-ghost use Rattle.using_site.specs.Called.{called, with_content};
+ghost use Rattle.waiting_calls.specs.Called.{called, with_content};
 
-use crate::caller::Caller;
-use crate::replying::own_call;
 use crate::step::Step;
 use crate::users::UsingSite;
-use crate::waiting::Waiting;
 use call_rules::Answer;
 use keyed_tables::{descriptor_key, waiting_key};
 use locus_ids::{Bytes, EpochId, NoMemory};
 use site_frame::SiteFrame;
 use trace_book::{Call, Record};
+use waiting_calls::{Caller, Waiting, own_call};
 use wire_messages::Outbox;
 
 impl UsingSite {

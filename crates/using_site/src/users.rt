@@ -5,7 +5,6 @@ ghost use Rattle.role_steps.specs.declared.users.WaitingCall.{WaitingCall};
 ghost use Rattle.role_steps.specs.Requests.{descriptors_of, user_instance};
 ghost use Rattle.call_rules.specs.Descriptors.{lowest_free};
 
-use crate::waiting::Waiting;
 use keyed_tables::{SortedTable, descriptor_key};
 use locus_ids::sizes::DESCRIPTORS;
 use locus_ids::{FileId, ItemList};
@@ -13,6 +12,7 @@ use role_steps::{DescriptorRow, UserInstance};
 use std::alloc::Global;
 use std::marker::Model;
 use trace_book::Descriptor;
+use waiting_calls::Waiting;
 
 /// What the using site of a site has: how many calls it accepted and how many opens it asked in this boot, the calls that
 /// wait, the instances that it has open, the descriptors of its processes, and the directories whose mend was refused for

@@ -1,7 +1,7 @@
 use Rattle.std.proofs.Common.{Option, ap, ◌∙◌}
 use Rattle.trace_book.specs.declared.descriptor.OneVersion.{OneVersion}
 use Rattle.role_steps.specs.Using.{opened_row}
-use Rattle.using_site.specs.Called.{called}
+use Rattle.waiting_calls.specs.Called.{called}
 use Rattle.using_site.proofs.Descriptors.{on_ok, put_row}
 use Rattle.using_site.proofs.users.UsingSite.after_reply.Goals as goal
 

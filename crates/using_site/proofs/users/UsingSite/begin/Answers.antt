@@ -1,6 +1,6 @@
 use Rattle.std.proofs.Common.{◌∙◌, ap}
 use Rattle.role_steps.specs.Requests.{waiting_of}
-use Rattle.using_site.specs.Called.{called}
+use Rattle.waiting_calls.specs.Called.{called}
 use Rattle.using_site.proofs.Replies.{on_ok3, begun_asks, begun_replies, begun_stays, row_gone}
 use Rattle.using_site.proofs.Going.{Begun}
 use Rattle.using_site.proofs.users.UsingSite.begin.Goals as goal

@@ -1,7 +1,7 @@
 use Rattle.std.proofs.Common.{◌≡◌, ◌+◌, ◌∙◌}
 use Rattle.role_steps.specs.Requests.{descriptors_of}
 use Rattle.role_steps.specs.declared.users.Asking.TheVariants as asking
-use Rattle.using_site.specs.Called.{called}
+use Rattle.waiting_calls.specs.Called.{called}
 use Rattle.using_site.proofs.Calling.{accept_as, accepted_as, begins_as, called_by, counted, frees_as}
 use Rattle.using_site.proofs.users.UsingSite.call.Goals as goal
 

@@ -1,6 +1,6 @@
 use Rattle.std.proofs.Common.{sym, ap}
 use Rattle.role_steps.specs.declared.users.WaitingCall.{WaitingCall}
-use Rattle.using_site.specs.Called.{called}
+use Rattle.waiting_calls.specs.Called.{called}
 use Rattle.using_site.proofs.Again.{row_was, stands}
 use Rattle.using_site.proofs.Awaited.{again_gives}
 use Rattle.using_site.proofs.Descriptors.{on_ok}

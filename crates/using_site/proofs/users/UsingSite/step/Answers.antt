@@ -1,4 +1,4 @@
-use Rattle.using_site.specs.Called.{called}
+use Rattle.waiting_calls.specs.Called.{called}
 use Rattle.using_site.proofs.users.UsingSite.step.Goals as goal
 
 pub returns-in-Open-clause-step : goal.returns-in-Open-clause-step

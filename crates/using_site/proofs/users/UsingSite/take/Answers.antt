@@ -1,5 +1,5 @@
 use Rattle.std.proofs.Common.{sym}
-use Rattle.using_site.specs.Called.{called}
+use Rattle.waiting_calls.specs.Called.{called}
 use Rattle.using_site.proofs.Descriptors.{on_ok}
 use Rattle.using_site.proofs.Replies.{on_ok3}
 use Rattle.using_site.proofs.Hearing.{Taking, heard_by, take_asks, take_replies, take_stays}

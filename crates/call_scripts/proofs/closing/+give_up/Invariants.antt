@@ -1,5 +1,0 @@
-use Rattle.std.proofs.Common.{length}
-use Rattle.call_scripts.proofs.closing.+give_up.Given as goal
-
-abbrev pub decreases-give_up : goal.decreases-give_up
-decreases-give_up l = length l.own.now

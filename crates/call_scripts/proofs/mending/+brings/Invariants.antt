@@ -1,5 +1,0 @@
-use Rattle.std.proofs.Common.{length}
-use Rattle.call_scripts.proofs.mending.+brings.Given as goal
-
-abbrev pub decreases-brings : goal.decreases-brings
-decreases-brings l = length l.kept.now

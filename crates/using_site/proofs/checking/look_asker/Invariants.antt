@@ -1,8 +1,0 @@
-use Rattle.std.proofs.Common.{◌≡◌, drop}
-use Rattle.role_steps.specs.Tables.{first_that}
-use Rattle.role_steps.specs.Using.{asks_take}
-use Rattle.using_site.specs.Rows.{key_of}
-use Rattle.using_site.proofs.checking.look_asker.Given as goal
-
-abbrev pub invariant-loop-waiting : goal.invariant-loop-waiting
-invariant-loop-waiting l = key_of (first_that (asks_take l.call l.request l.take l.answer) (drop l.waiting-index l.rows)) ≡ key_of (first_that (asks_take l.call l.request l.take l.answer) l.rows)

@@ -1,8 +1,0 @@
-use Rattle.std.proofs.Common.{◌≡◌, drop}
-use Rattle.role_steps.specs.Tables.{first_that}
-use Rattle.role_steps.specs.Using.{asks_op_number}
-use Rattle.using_site.specs.Rows.{key_of}
-use Rattle.using_site.proofs.checking.op_asker.Given as goal
-
-abbrev pub invariant-loop-waiting : goal.invariant-loop-waiting
-invariant-loop-waiting l = key_of (first_that (asks_op_number l.serial l.number l.outcome) (drop l.waiting-index l.rows)) ≡ key_of (first_that (asks_op_number l.serial l.number l.outcome) l.rows)
