@@ -6,7 +6,7 @@ ghost use Rattle.role_steps.specs.Notices.{row_notices};
 ghost use Rattle.css_core.specs.Closed.{published_as, notices_as, closed_into};
 
 use crate::css::Css;
-use css_notices::{notify_all, notify_lagging};
+use css_notices::{notify_again, notify_lagging};
 use css_opens::{Closing, Settling};
 use locus_ids::{FileId, Kind, NoMemory, Serial, SiteId, Sites, Stamp};
 use site_frame::SiteFrame;
@@ -125,13 +125,7 @@ impl Css {
         ensures records { OnOk result (out.new.records ≡ out.old.records) }
     {
         if self.started {
-            notify_all(
-                self.early.allocator(),
-                frame,
-                self.group,
-                self.files.as_slice(),
-                out,
-            )
+            notify_again(self.early.allocator(), frame, self.group, &self.files, out)
         } else {
             Ok(())
         }

@@ -1,16 +1,19 @@
-ghost use Rattle.std.specs.Prelude.{◌≡◌, true};
+ghost use Rattle.std.specs.Prelude.{◌≡◌, true, filter};
 ghost use Rattle.std.specs.Option.{option_copied, is_some};
 ghost use Rattle.std.specs.List.{list_any};
+ghost use Rattle.role_steps.specs.Mends.{is_dir};
 ghost use Rattle.role_steps.specs.Versions.{file_row};
 ghost use Rattle.role_steps.specs.Views.{serial_key};
 ghost use Rattle.role_steps.specs.Opens.{open_row, is_open_on};
 ghost use Rattle.role_steps.specs.Reports.{new_table};
+ghost use Rattle.role_steps.specs.declared.synchronizing.FileRow.{FileRow};
 ghost use Rattle.role_steps.specs.declared.synchronizing.OpenRow.{OpenRow};
+ghost use Rattle.css_versions.specs.Lists.{found_rows};
 ghost use Rattle.trace_book.specs.Same.{same_serial};
 
 use crate::looks::LookRow;
 use css_opens::Opens;
-use css_versions::{Files, KnownFile};
+use css_versions::{Files, KnownFile, Listed};
 use keyed_tables::{Keyed, SortedTable};
 use locus_ids::{FileId, Serial, Sites};
 use role_steps::Earlies;
@@ -81,6 +84,13 @@ impl Css {
         ensures { result.now ≡ self.now.files }
     {
         self.files.as_slice()
+    }
+
+    /// The directories of the group, the one of the least inode first.
+    pub fn directories(&self) -> &[Listed]
+        ensures { found_rows self.now.files result.now ≡ filter (λ (r : FileRow). is_dir r.kind) self.now.files }
+    {
+        self.files.directories()
     }
 
     /// What is known of a file.

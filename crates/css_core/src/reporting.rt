@@ -64,6 +64,7 @@ impl Css {
             return Ok(());
         }
         self.reported = self.reported.with(from);
+        self.files.expect(&frame.members);
         self.takes_report(from, copies)?;
         self.starts_if(frame, out)
     }

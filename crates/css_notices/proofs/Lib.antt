@@ -1,1 +1,2 @@
-pub mod Notified
+mod Late
+mod Notified

@@ -6,4 +6,4 @@ mod members;
 mod notices;
 
 pub use members::members_of;
-pub use notices::{notify_all, notify_lagging};
+pub use notices::{notify_again, notify_all, notify_lagging};

@@ -1,12 +1,14 @@
 ghost use Rattle.std.specs.Prelude.{◌≡◌, ◌++◌, ◌∷◌, [], map, filter, not, OnOk};
 ghost use Rattle.std.specs.List.{flat_map};
-ghost use Rattle.role_steps.specs.Notices.{notice, file_notices};
+ghost use Rattle.role_steps.specs.Notices.{notice, file_notices, row_notices};
+ghost use Rattle.role_steps.specs.Tables.{row};
 ghost use Rattle.role_steps.specs.Views.{members_of};
-ghost use Rattle.role_steps.specs.Versions.{is_among, holders_of, chosen_site};
+ghost use Rattle.role_steps.specs.Versions.{is_among, holders_of, chosen_site, row_ino};
+ghost use Rattle.css_versions.specs.Lists.{found_rows};
 ghost use Rattle.css_notices.specs.Noticed.{notices_to, notices_from, notices_kept};
 
 use crate::members::members_of;
-use css_versions::{KnownFile, choose, is_among};
+use css_versions::{Files, KnownFile, Listed, choose, is_among};
 use locus_ids::{FileId, NoMemory, SiteId};
 use role_steps::VersionRow;
 use site_frame::SiteFrame;
@@ -184,4 +186,57 @@ pub fn notify_all(
         notify_lagging(alloc, frame, group, file, out)?;
     }
     Ok(())
+}
+
+/// Notifies the lagging members of a file, where it is known.
+fn notify_known(
+    alloc: Global,
+    frame: &SiteFrame,
+    group: u8,
+    files: &Files,
+    ino: u16,
+    out: &mut Outbox,
+) -> Result<(), NoMemory>
+    ensures packets { OnOk result (out.new.packets ≡ out.old.packets ++ row_notices frame.now group (row row_ino ino files.now)) }
+    ensures records { OnOk result (out.new.records ≡ out.old.records) }
+{
+    match files.find(ino) {
+        Some(file) => notify_lagging(alloc, frame, group, file, out),
+        None => Ok(()),
+    }
+}
+
+/// Notifies the lagging members of each of the files that are listed.
+fn notify_listed(
+    alloc: Global,
+    frame: &SiteFrame,
+    group: u8,
+    files: &Files,
+    listed: &[Listed],
+    out: &mut Outbox,
+) -> Result<(), NoMemory>
+    ensures packets { OnOk result (out.new.packets ≡ out.old.packets ++ flat_map (file_notices frame.now group) (found_rows files.now listed.now)) }
+    ensures records { OnOk result (out.new.records ≡ out.old.records) }
+{
+    for one in listed {
+        notify_known(alloc, frame, group, files, one.ino, out)?;
+    }
+    Ok(())
+}
+
+/// Notifies the lagging members of all files of the group: of those alone that have one, where these are known.
+pub fn notify_again(
+    alloc: Global,
+    frame: &SiteFrame,
+    group: u8,
+    files: &Files,
+    out: &mut Outbox,
+) -> Result<(), NoMemory>
+    ensures packets { OnOk result (out.new.packets ≡ out.old.packets ++ flat_map (file_notices frame.now group) files.now) }
+    ensures records { OnOk result (out.new.records ≡ out.old.records) }
+{
+    match files.late(&frame.members) {
+        Some(late) => notify_listed(alloc, frame, group, files, late, out),
+        None => notify_all(alloc, frame, group, files.as_slice(), out),
+    }
 }

@@ -1,2 +1,4 @@
 pub mod Changed
+mod Lacking
+pub mod Listing
 pub mod Noted

@@ -1,13 +1,20 @@
-ghost use Rattle.std.specs.Prelude.{◌≡◌, IfOk, OnOk};
+ghost use Rattle.std.specs.Prelude.{◌≡◌, ◌<◌, ◌+◌, ◌&&◌, not, [], ◌∷◌, filter, IfOk, OnOk};
+ghost use Rattle.std.specs.List.{list_any};
 ghost use Rattle.std.specs.Option.{option_copied};
-ghost use Rattle.role_steps.specs.Versions.{unknown_file, with_version, with_holder, version_of, holding_of, holders_of, noted, rises_to};
+ghost use Rattle.locus_ids.specs.Sizes.{sites_max};
+ghost use Rattle.locus_ids.specs.Sites.{has};
+ghost use Rattle.role_steps.specs.Mends.{is_dir};
+ghost use Rattle.role_steps.specs.Views.{is_member};
+ghost use Rattle.role_steps.specs.Versions.{is_among, unknown_file, with_version, with_holder, version_of, holding_of, holders_of, noted, rises_to};
 ghost use Rattle.role_steps.specs.Reports.{version_reported};
 ghost use Rattle.css_versions.specs.Known.{held_if, version_made};
+ghost use Rattle.css_versions.specs.Lists.{is_lacked, lags};
 
-use crate::holders::holders_among;
+use crate::holders::{holders_among, is_holder};
 use crate::kept::{keep, rises};
 use keyed_tables::{Keyed, find, find_first, put, put_first, stamp_key};
-use locus_ids::{Kind, NoMemory, SiteId, Sites, Stamp};
+use locus_ids::sizes::SITES;
+use locus_ids::{Kind, Members, NoMemory, SiteId, Sites, Stamp};
 use role_steps::{Holding, VersionRow};
 use std::alloc::Global;
 use std::marker::Model;
@@ -73,6 +80,15 @@ impl KnownFile {
         self.kind
     }
 
+    pub fn is_directory(&self) -> bool
+        ensures { result ≡ is_dir self.now.kind }
+    {
+        match self.kind {
+            Kind::Dir => true,
+            Kind::File => false,
+        }
+    }
+
     /// The sites that store the file.
     pub fn set(&self) -> Sites
         ensures { result ≡ self.now.set }
@@ -113,6 +129,41 @@ impl KnownFile {
         ensures { IfOk result (λ made. made.items ≡ holders_of self.now stamp) }
     {
         holders_among(*self.holders.allocator(), self.holders.as_slice(), stamp)
+    }
+
+    /// A member of the file's set doesn't hold its only kept version.
+    pub fn lags(&self, members: &Members) -> bool
+        ensures { result ≡ lags members.now self.now }
+    {
+        match self.kept.as_slice() {
+            [version] => self.is_lacked(members, version.stamp),
+            _ => false,
+        }
+    }
+
+    /// A member of the file's set doesn't hold this version.
+    fn is_lacked(&self, members: &Members, stamp: Stamp) -> bool
+        ensures { result ≡ is_lacked members.now self.now stamp }
+    {
+        for place in 0..SITES as u8 {
+            if self.is_lacked_at(members, stamp, place) {
+                return true;
+            }
+        }
+        false
+    }
+
+    /// The site at a place of all sites, from 0, is a member of the file's set and doesn't hold this version.
+    fn is_lacked_at(&self, members: &Members, stamp: Stamp, place: u8) -> bool
+        requires { place < sites_max }
+        ensures { result ≡ list_any (λ s. not (is_among s (holders_of self.now stamp))) (filter (λ s. has self.now.set s && is_member members.now s) ((place + 1) ∷ [])) }
+    {
+        let Some(site) = SiteId::new(place + 1) else {
+            return false;
+        };
+        self.set.has(site)
+            && is_member(members, site)
+            && !is_holder(self.holders.as_slice(), site, stamp)
     }
 
     /// A member's pack reports a copy of this file.
@@ -197,4 +248,11 @@ impl KnownFile {
             None => true,
         }
     }
+}
+
+/// The site is a member.
+fn is_member(members: &Members, site: SiteId) -> bool
+    ensures { result ≡ is_member members.now site }
+{
+    members.boot_of(site) != 0
 }

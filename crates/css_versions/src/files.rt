@@ -1,22 +1,28 @@
-ghost use Rattle.std.specs.Prelude.{◌≡◌, ◌<◌, ◌≤◌, [], length, slice_get, slice_set, insert, OnOk, MatchResult, None};
+ghost use Rattle.std.specs.Prelude.{◌≡◌, ◌<◌, ◌≤◌, [], length, slice_get, slice_set, filter, insert, IfSome, OnOk, MatchResult, None};
 ghost use Rattle.std.specs.Option.{option_copied};
+ghost use Rattle.role_steps.specs.Mends.{is_dir};
 ghost use Rattle.role_steps.specs.Tables.{row, with_row};
 ghost use Rattle.role_steps.specs.Versions.{row_ino};
 ghost use Rattle.role_steps.specs.declared.synchronizing.FileRow.{FileRow};
 ghost use Rattle.keyed_tables.specs.Rising.{Rising};
 ghost use Rattle.css_versions.specs.Known.{reported_row, published_row, noted_rows};
+ghost use Rattle.css_versions.specs.Lists.{found_rows, lags};
 
 use crate::KnownFile;
-use keyed_tables::{find, place_in};
-use locus_ids::{Kind, NoMemory, SiteId, Sites, Stamp};
+use crate::lists::{Listed, Lists, add, settle};
+use keyed_tables::{SortedTable, find, place_in};
+use locus_ids::sizes::SITES;
+use locus_ids::{Kind, Members, NoMemory, SiteId, Sites, Stamp};
 use std::alloc::Global;
 use std::marker::Model;
 use wire_messages::{MadeVersion, ReportedCopy};
 
-/// The files of a group that are known, by inode, ascending.
+/// The files of a group that are known, by inode, ascending, with lists of those that have a member that lags, among the
+/// members of one epoch, and of the directories.
 #[derive(Drop)]
 pub struct Files {
     rows: Vec<KnownFile>,
+    lists: Lists,
 }
 
 impl Model for Files {
@@ -29,7 +35,10 @@ impl Model for Files {
 
     ghost view = { λ f. f.rows.items };
 
-    ghost invariant = { λ f. Rising row_ino f.rows.items };
+    ghost use Rattle.std.specs.Prelude.{◌≡◌};
+    ghost use Rattle.css_versions.specs.Lists.{directories_of, late_of};
+
+    ghost invariant = { λ f. Rising row_ino f.rows.items × (f.lists.late ≡ late_of f.lists.members f.rows.items) × (f.lists.directories ≡ directories_of f.rows.items) };
 }
 
 impl Files {
@@ -39,7 +48,39 @@ impl Files {
     {
         Files {
             rows: Vec::new(alloc),
+            lists: Lists {
+                members: Members { boot: [0; SITES] },
+                late: SortedTable::new(alloc),
+                directories: SortedTable::new(alloc),
+            },
         }
+    }
+
+    /// While no file is known, the members of the epoch are told.
+    pub fn expect(&mut self, members: &Members)
+        ensures { self.new ≡ self.old }
+    {
+        if self.rows.is_empty() {
+            self.lists.members = *members;
+        }
+    }
+
+    /// The files that have a member that lags, the one of the least inode first, or `None` where other members were told.
+    pub fn late(&self, members: &Members) -> Option<&[Listed]>
+        ensures { IfSome result (λ late. found_rows self.now late.now ≡ filter (lags members.now) self.now) }
+    {
+        if self.lists.members == *members {
+            Some(self.lists.late.as_slice())
+        } else {
+            None
+        }
+    }
+
+    /// The directories, the one of the least inode first.
+    pub fn directories(&self) -> &[Listed]
+        ensures { found_rows self.now result.now ≡ filter (λ (r : FileRow). is_dir r.kind) self.now }
+    {
+        self.lists.directories.as_slice()
     }
 
     /// All files, the one of the least inode first.
@@ -63,14 +104,15 @@ impl Files {
         match place_of(self.rows.as_slice(), copy.ino) {
             Ok(place) => {
                 let file = &mut self.rows[place];
-                file.report(from, copy)?;
+                let changed = file.report(from, copy);
+                settle(&mut self.rows, &mut self.lists, place, changed)?;
                 Ok(())
             }
             Err(place) => {
                 let alloc = *self.rows.allocator();
                 let mut file = KnownFile::new(alloc, copy.ino, copy.kind, copy.set);
                 file.report(from, copy)?;
-                self.rows.insert(place, file)?;
+                add(&mut self.rows, &mut self.lists, place, file)?;
                 Ok(())
             }
         }
@@ -90,14 +132,15 @@ impl Files {
         match place_of(self.rows.as_slice(), ino) {
             Ok(place) => {
                 let file = &mut self.rows[place];
-                file.publish(ss, made)?;
+                let changed = file.publish(ss, made);
+                settle(&mut self.rows, &mut self.lists, place, changed)?;
                 Ok(())
             }
             Err(place) => {
                 let alloc = *self.rows.allocator();
                 let mut file = KnownFile::new(alloc, ino, kind, set);
                 file.publish(ss, made)?;
-                self.rows.insert(place, file)?;
+                add(&mut self.rows, &mut self.lists, place, file)?;
                 Ok(())
             }
         }
@@ -110,7 +153,8 @@ impl Files {
         match place_of(self.rows.as_slice(), ino) {
             Ok(place) => {
                 let file = &mut self.rows[place];
-                file.note(from, stamp)?;
+                let changed = file.note(from, stamp);
+                settle(&mut self.rows, &mut self.lists, place, changed)?;
                 Ok(())
             }
             Err(_) => Ok(()),

@@ -47,3 +47,15 @@ pub fn holders_among(
     }
     Ok(made)
 }
+
+/// The site holds the version.
+pub fn is_holder(holdings: &[Holding], site: SiteId, stamp: Stamp) -> bool
+    ensures { result ≡ is_among site (map holding_site (filter (λ (h : Holding). same_stamp h.stamp stamp) holdings.now)) }
+{
+    for holding in holdings {
+        if holding.stamp == stamp && holding.site.get() == site.get() {
+            return true;
+        }
+    }
+    false
+}

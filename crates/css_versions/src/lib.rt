@@ -6,8 +6,10 @@ mod file;
 mod files;
 mod holders;
 mod kept;
+mod lists;
 
 pub use file::KnownFile;
 pub use files::Files;
 pub use holders::{choose, is_among};
 pub use kept::{has_stamp, joined_vectors, stamps_of};
+pub use lists::Listed;

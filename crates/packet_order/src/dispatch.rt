@@ -1,4 +1,4 @@
-ghost use Rattle.std.specs.Prelude.{◌≡◌, [], map, Err, OnOk};
+ghost use Rattle.std.specs.Prelude.{◌≡◌, [], map, true, Err, OnOk};
 ghost use Rattle.std.specs.List.{AllByRecursion};
 ghost use Rattle.packet_order.specs.Counts.{FitsIfCounted};
 ghost use Rattle.packet_order.specs.Orders.{behind, sorted_out, together, unsent};
@@ -33,6 +33,13 @@ fn drop_each(parts: &mut Vec<Part>)
     }
 }
 
+/// Nothing is sent and nothing told.
+fn is_silent(outbox: &Outbox) -> bool
+    ensures { result ≡ true → outbox.now ≡ record { packets = []; records = [] } }
+{
+    outbox.packets().is_empty() && outbox.records().is_empty()
+}
+
 impl Dispatch {
     /// Nothing is sent and nothing told. What it takes later comes from this allocator.
     pub fn new(alloc: Global) -> Dispatch
@@ -47,6 +54,9 @@ impl Dispatch {
     pub fn add(&mut self, outbox: Outbox) -> Result<(), NoMemory>
         ensures { OnOk result (self.new ≡ behind self.old outbox) }
     {
+        if is_silent(&outbox) {
+            return Ok(());
+        }
         let part = Part::new(*self.parts.allocator(), outbox);
         self.push(part)
     }
@@ -56,6 +66,9 @@ impl Dispatch {
         ensures order { OnOk result (self.new ≡ behind self.old (sorted_out outbox)) }
         ensures unfit { result ≡ Err OrderFault.Unfit → AllByRecursion (λ p. FitsIfCounted p) outbox.packets → ⊥ }
     {
+        if is_silent(&outbox) {
+            return Ok(());
+        }
         let part = Part::in_order(*self.parts.allocator(), outbox)?;
         match self.push(part) {
             Ok(()) => Ok(()),

@@ -291,6 +291,12 @@ least_next n h cs ws up r t l e =
     (λ k b w f. let g = t.below k (omega arith) (sym (get_or-take n ws k false (omega arith)) ∙ w) in absurd (omega arith))
     ∙ ap (λ y. Some y) z
 
+-- where the least of all is past the last, none is under way
+pub none_left : (n h : ℕ) (cs : List ℕ) (ws : List Bool) (up : List Bool) → Lowest n ws h → n ≤ h → first_that (λ k. get_or up (get_or (take n cs) k 0) false) (numbers_of 0 (take n ws)) ≡ None
+none_left n h cs ws up t l =
+    none_first (λ k. get_or up (get_or (take n cs) k 0) false) 0 (take n ws)
+    (λ k q w f. let b : k < n = in_take n k ws q in let g = t.below k b (sym (get_or-take n ws k false b) ∙ w) in absurd (omega arith))
+
 -- ---- the numbers of the first places ----
 
 pub numbers_more : (n : ℕ) (ws : List Bool) (w : Bool) → numbers_of n (ws ++ w ∷ []) ≡ numbers_of n ws ++ cond w ((n + length ws) ∷ []) []

@@ -171,7 +171,10 @@ impl PacketQueue {
         ensures { result ≡ first_that (λ k. slice_index_or up.now (slice_index self.now.circuits k) false) (numbers_of 0 self.now.underway) }
     {
         let least = self.least;
-        if least < self.count && up[self.circuits[least as usize] as usize] {
+        if least >= self.count {
+            return None;
+        }
+        if up[self.circuits[least as usize] as usize] {
             return Some(least);
         }
         let best = least_head(&self.first, up);

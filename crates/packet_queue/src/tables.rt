@@ -9,9 +9,7 @@ pub fn filled<T: Copy + Drop>(alloc: Global, len: usize, value: T) -> Result<Vec
     ensures len { IfOk result (λ v. vec_len v ≡ len) }
     ensures all { IfOk result (λ v. (j : ℕ) (d : T) → j < len → slice_index_or v.items j d ≡ value) }
 {
-    let mut made = Vec::with_capacity(alloc, len)?;
-    while made.len() < len {
-        made.push(value)?;
-    }
+    let mut made = Vec::new(alloc);
+    made.resize(len, value)?;
     Ok(made)
 }

@@ -12,7 +12,7 @@ use crate::measures::{Measured, is_past, put_all, sizes_of};
 use crate::writing::add_written;
 use crate::{BookFault, Passed, RunCounts, Writing};
 use locus_ids::{Bytes, NoMemory};
-use packet_mail::{Letters, MOST_BYTES, MOST_PACKETS, Mail};
+use packet_mail::{MOST_BYTES, MOST_PACKETS, Mail};
 use packet_order::{Dispatch, Part};
 use std::alloc::Global;
 use std::marker::Model;
@@ -27,7 +27,7 @@ pub const MOST_TEXT: usize = 134_217_728;
 pub struct RunBook {
     mail: Mail,
     encoder: Encoder,
-    letters: Letters,
+    event: Measured,
     writing: Writing,
     fresh: Bytes,
     counts: RunCounts,
@@ -57,7 +57,7 @@ impl RunBook {
         Ok(RunBook {
             mail: Mail::new(alloc)?,
             encoder: Encoder::new(alloc)?,
-            letters: Letters::new(alloc),
+            event: Measured::new(alloc),
             writing,
             fresh: Bytes::new(alloc),
             counts: RunCounts::new(),
@@ -190,13 +190,13 @@ impl RunBook {
             return Ok(());
         }
         let alloc = self.allocator();
-        let before = replace(&mut self.letters, Letters::new(alloc));
+        let before = replace(&mut self.event, Measured::new(alloc));
         let event = match sizes_of(alloc, line, out, &mut self.encoder, before) {
             Ok(event) => event,
             Err(fault) => return Err(fault),
         };
         self.enter(out.parts(), &event)?;
-        self.letters = event.letters;
+        self.event = event;
         Ok(())
     }
 }

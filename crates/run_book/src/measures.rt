@@ -16,7 +16,7 @@ use packet_mail::{Letters, Mail};
 use packet_order::{Dispatch, OrderFault, Part, letter_of};
 use std::alloc::Global;
 use trace_book::Record;
-use trace_text::render;
+use trace_text::render_onto;
 use wire_messages::Packet;
 use wire_writing::Encoder;
 
@@ -113,16 +113,17 @@ fn add_text(line: u32, records: &[Record], text: &mut Bytes) -> Result<(), NoMem
     ensures { OnOk result (text.new ≡ text.old ++ lines_text line records.now) }
 {
     for what in records {
-        render(what, line, text)?;
+        render_onto(what, line, text)?;
     }
     Ok(())
 }
 
-/// The text of all records, those of one line.
-fn text_of_all(alloc: Global, line: u32, parts: &[Part]) -> Result<Bytes, NoMemory>
+/// The text of all records, those of one line. It takes the memory of a text of before.
+fn text_of_all(line: u32, parts: &[Part], before: Bytes) -> Result<Bytes, NoMemory>
     ensures { IfOk result (λ text. text ≡ lines_text line (together parts.now).records) }
 {
-    let mut text = Bytes::new(alloc);
+    let mut text = before;
+    text.clear();
     for part in parts {
         add_text(line, part.records(), &mut text)?;
     }
@@ -184,14 +185,25 @@ pub struct Measured {
     pub text: Bytes,
 }
 
-/// Measures what an event of a line sends and tells, in the memory of letters of before. `Unfit` only where a packet isn't one of
+impl Measured {
+    /// Nothing is measured.
+    pub fn new(alloc: Global) -> Measured {
+        Measured {
+            letters: Letters::new(alloc),
+            bytes: 0,
+            text: Bytes::new(alloc),
+        }
+    }
+}
+
+/// Measures what an event of a line sends and tells, in the memory of an event of before. `Unfit` only where a packet isn't one of
 /// the format.
 pub fn sizes_of(
     alloc: Global,
     line: u32,
     out: &Dispatch,
     encoder: &mut Encoder,
-    before: Letters,
+    before: Measured,
 ) -> Result<Measured, BookFault>
     ensures letters { IfOk result (λ event. event.letters ≡ map packet_bytes out.now.packets) }
     ensures bytes { IfOk result (λ event. event.bytes ≡ total packet_size out.now.packets) }
@@ -200,7 +212,7 @@ pub fn sizes_of(
     ensures unfit { result ≡ Err BookFault.Unfit → AllByRecursion (λ p. FitsIfCounted p) out.now.packets → ⊥ }
 {
     let parts = out.parts();
-    let letters = match letters_of_all(alloc, parts, encoder, before) {
+    let letters = match letters_of_all(alloc, parts, encoder, before.letters) {
         Ok(letters) => letters,
         Err(fault) => return Err(fault),
     };
@@ -208,7 +220,7 @@ pub fn sizes_of(
         Ok(bytes) => bytes,
         Err(_) => return Err(BookFault::NoMemory),
     };
-    let text = match text_of_all(alloc, line, parts) {
+    let text = match text_of_all(line, parts, before.text) {
         Ok(text) => text,
         Err(_) => return Err(BookFault::NoMemory),
     };

@@ -1,3 +1,4 @@
 pub mod Mends
 pub mod Live
 pub mod Fits
+pub mod Directories

@@ -113,6 +113,10 @@ read_well packs old new r seen stands how same c t h = record {
   cause = cause_off old new r h;
 }
 
+-- whatever it gave
+pub read_alone : {T : Type 0} (packs : PacksState) (old new : Moment) (x : T) → WasRead packs old new (Ok x) → WasRead {T = Unit {0}} packs old new (Ok tt)
+read_alone packs old new x h = record { seen = h.seen; stands = h.stands; how = h.how; same = h.same; passes = h.passes; later = h.later; cause = tt }
+
 -- one reading after another
 module _ {D : Type 0} (moment : D → Moment) where
   pub read_then : {S T : Type 0} (packs : PacksState) (old mid new : D) (x : S) (r : Result T MendFault) → WasRead packs (moment old) (moment mid) (Ok x) → WasRead packs (moment mid) (moment new) r → WasRead packs (moment old) (moment new) r

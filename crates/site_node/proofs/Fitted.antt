@@ -25,8 +25,8 @@ use Rattle.the_run.specs.Kept.{Among}
 use Rattle.the_run.specs.Steps.{adopts_in, ended, ends_event, in_order, is_before, is_dropped, repeats, repeats_inside, repeats_of, step, takes, tries_at, whole}
 use Rattle.packet_order.specs.declared.fault.OrderFault.{OrderFault}
 use Rattle.packet_order.specs.declared.fault.OrderFault.TheVariants as order
-use Rattle.site_mends.specs.declared.fault.MendFault.{MendFault}
-use Rattle.site_mends.specs.declared.fault.MendFault.TheVariants as mend
+use Rattle.site_parts.specs.of_site_mends.declared.fault.MendFault.{MendFault}
+use Rattle.site_parts.specs.of_site_mends.declared.fault.MendFault.TheVariants as mend
 use Rattle.site_packs.specs.Committing.{IsWholeFit}
 use Rattle.site_packs.specs.Packs.{AreShown, PacksState, groups_of}
 use Rattle.site_packs.specs.declared.faults.CommitFault.{CommitFault}

@@ -8,7 +8,7 @@ use Rattle.role_steps.specs.Epochs.{frame_in, with_users}
 use Rattle.role_steps.specs.Mends.{starts_mends_in}
 use Rattle.role_steps.specs.declared.rounds.InEpoch.{InEpoch}
 use Rattle.site_packs.specs.Packs.{Stand}
-use Rattle.site_mends.specs.Mending.{IsSeen}
+use Rattle.site_parts.specs.of_site_mends.Mending.{IsSeen}
 use Rattle.the_run.specs.Steps.{starts_mends_of}
 use Rattle.using_site.specs.Steps.{Gives}
 use Rattle.site_tables.proofs.Giving.{gives_none, gives_as}

@@ -12,8 +12,7 @@ ghost use Rattle.site_parts.specs.declared.fault.NodeFault.TheVariants.{NoNumber
 use crate::SiteNode;
 use disk_model::Disk;
 use locus_ids::Links;
-use site_mends::start_mends;
-use site_parts::{NodeFault, enter};
+use site_parts::{NodeFault, enter, start_mends};
 use wire_messages::Outbox;
 
 impl SiteNode {

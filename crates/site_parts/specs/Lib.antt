@@ -3,3 +3,4 @@ pub mod Framing
 pub mod Faults
 pub mod Writing
 pub mod Fitting
+pub use Rattle.site_mends.specs as of_site_mends

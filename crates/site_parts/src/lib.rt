@@ -14,4 +14,5 @@ pub use fault::NodeFault;
 pub use framing::{enter, stay_outside};
 pub use reporting::{join_epoch, report_groups};
 pub use roles::{Role, role_of};
+pub use site_mends::start_mends;
 pub use storing::take_at_store;

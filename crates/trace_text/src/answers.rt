@@ -14,7 +14,7 @@ pub fn push_refusal(out: &mut Bytes, why: &Refusal) -> Result<(), NoMemory>
         Refusal::Busy { site, process } => {
             out.append(b"busy ")?;
             push_number(out, u32::from(*site))?;
-            out.append(b" ")?;
+            out.push(b' ')?;
             push_number(out, u32::from(*process))
         }
         Refusal::Absent { name } => {
@@ -37,13 +37,13 @@ pub fn push_refusal(out: &mut Bytes, why: &Refusal) -> Result<(), NoMemory>
         Refusal::Conflict { a, b } => {
             out.append(b"conflict ")?;
             push_stamp(out, *a)?;
-            out.append(b" ")?;
+            out.push(b' ')?;
             push_stamp(out, *b)
         }
         Refusal::Ambiguous { a, b } => {
             out.append(b"ambiguous ")?;
             push_number(out, u32::from(*a))?;
-            out.append(b" ")?;
+            out.push(b' ')?;
             push_number(out, u32::from(*b))
         }
         Refusal::NoStorage => out.append(b"nostorage"),
@@ -61,7 +61,7 @@ pub fn push_refusal(out: &mut Bytes, why: &Refusal) -> Result<(), NoMemory>
         Refusal::NoSpace { needed, free } => {
             out.append(b"nospace ")?;
             push_number(out, u32::from(*needed))?;
-            out.append(b" ")?;
+            out.push(b' ')?;
             push_number(out, u32::from(*free))
         }
         Refusal::NoInode => out.append(b"noinode"),
@@ -81,7 +81,7 @@ pub fn push_outcome(out: &mut Bytes, outcome: &Outcome) -> Result<(), NoMemory>
         Outcome::Found { ino, kind } => {
             out.append(b"ok ")?;
             push_number(out, u32::from(*ino))?;
-            out.append(b" ")?;
+            out.push(b' ')?;
             push_kind(out, *kind)
         }
         Outcome::Data { bytes } => {
@@ -126,11 +126,11 @@ pub fn push_reply(out: &mut Bytes, reply: &Reply) -> Result<(), NoMemory>
         } => {
             out.append(b"ok ")?;
             push_kind(out, *kind)?;
-            out.append(b" ")?;
+            out.push(b' ')?;
             push_file(out, *file)?;
-            out.append(b" ")?;
+            out.push(b' ')?;
             push_number(out, *size)?;
-            out.append(b" ")?;
+            out.push(b' ')?;
             push_stamp(out, *stamp)
         }
         Reply::Opened { fd } => {

@@ -22,11 +22,11 @@ pub fn push_accept(
 {
     out.append(b"call ")?;
     push_number(out, u32::from(site))?;
-    out.append(b" ")?;
+    out.push(b' ')?;
     push_number(out, u32::from(process))?;
-    out.append(b" ")?;
+    out.push(b' ')?;
     push_call_id(out, call)?;
-    out.append(b" ")?;
+    out.push(b' ')?;
     push_call_words(out, words)
 }
 
@@ -43,11 +43,11 @@ pub fn push_look(
 {
     out.append(b"look ")?;
     push_asked(out, epoch, call, request)?;
-    out.append(b" ")?;
+    out.push(b' ')?;
     push_file(out, file)?;
-    out.append(b" ")?;
+    out.push(b' ')?;
     push_what(out, what)?;
-    out.append(b" ")?;
+    out.push(b' ')?;
     push_served(out, served)
 }
 
@@ -56,9 +56,9 @@ fn push_asked(out: &mut Bytes, epoch: EpochId, call: CallId, request: u16) -> Re
     ensures { OnOk result (out.new ≡ out.old ++ (epoch_text epoch ++ gap ++ call_id_text call ++ gap ++ number request)) }
 {
     push_epoch(out, epoch)?;
-    out.append(b" ")?;
+    out.push(b' ')?;
     push_call_id(out, call)?;
-    out.append(b" ")?;
+    out.push(b' ')?;
     push_number(out, u32::from(request))
 }
 
@@ -67,9 +67,9 @@ fn push_opened(out: &mut Bytes, inst: Serial, mode: Mode, file: FileId) -> Resul
     ensures { OnOk result (out.new ≡ out.old ++ (serial_text inst ++ gap ++ mode_text mode ++ gap ++ file_text file)) }
 {
     push_serial(out, inst)?;
-    out.append(b" ")?;
+    out.push(b' ')?;
     push_mode(out, mode)?;
-    out.append(b" ")?;
+    out.push(b' ')?;
     push_file(out, file)
 }
 
@@ -88,11 +88,11 @@ pub fn push_grant(
 {
     out.append(b"grant ")?;
     push_asked(out, epoch, call, request)?;
-    out.append(b" ")?;
+    out.push(b' ')?;
     push_opened(out, inst, mode, file)?;
-    out.append(b" ")?;
+    out.push(b' ')?;
     push_optional_stamp(out, stamp)?;
-    out.append(b" ")?;
+    out.push(b' ')?;
     push_number(out, u32::from(ss))
 }
 
@@ -110,9 +110,9 @@ pub fn push_refuse(
 {
     out.append(b"refuse ")?;
     push_asked(out, epoch, call, request)?;
-    out.append(b" ")?;
+    out.push(b' ')?;
     push_opened(out, inst, mode, file)?;
-    out.append(b" ")?;
+    out.push(b' ')?;
     push_refusal(out, why)
 }
 
@@ -128,13 +128,13 @@ pub fn push_act(
 {
     out.append(b"act ")?;
     push_epoch(out, epoch)?;
-    out.append(b" ")?;
+    out.push(b' ')?;
     push_serial(out, inst)?;
-    out.append(b" ")?;
+    out.push(b' ')?;
     push_number(out, n)?;
-    out.append(b" ")?;
+    out.push(b' ')?;
     push_op(out, op)?;
-    out.append(b" ")?;
+    out.push(b' ')?;
     push_outcome(out, outcome)
 }
 
@@ -149,10 +149,10 @@ pub fn push_answer(
 {
     out.append(b"reply ")?;
     push_number(out, u32::from(site))?;
-    out.append(b" ")?;
+    out.push(b' ')?;
     push_number(out, u32::from(process))?;
-    out.append(b" ")?;
+    out.push(b' ')?;
     push_call_id(out, call)?;
-    out.append(b" ")?;
+    out.push(b' ')?;
     push_reply(out, reply)
 }

@@ -14,4 +14,4 @@ mod site_records;
 mod version_records;
 
 pub use book::Book;
-pub use rendering::render;
+pub use rendering::{render, render_onto};

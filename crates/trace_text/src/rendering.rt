@@ -14,11 +14,18 @@ pub fn render(what: &Record, line: u32, out: &mut Bytes) -> Result<(), NoMemory>
     ensures err { OnErr result (out.new ≡ out.old) }
 {
     let mut text = Bytes::new(out.allocator());
-    push_number(&mut text, line)?;
-    text.append(b" ")?;
-    push_record(&mut text, what)?;
-    text.append(b"\n")?;
+    render_onto(what, line, &mut text)?;
     out.append(text.as_slice())
+}
+
+/// Adds the line of a record. After `NoMemory` a part of it may stand there, so it takes no memory for the line alone.
+pub fn render_onto(what: &Record, line: u32, out: &mut Bytes) -> Result<(), NoMemory>
+    ensures { OnOk result (out.new ≡ out.old ++ entry_text line what.now) }
+{
+    push_number(out, line)?;
+    out.push(b' ')?;
+    push_record(out, what)?;
+    out.push(b'\n')
 }
 
 fn push_record(out: &mut Bytes, what: &Record) -> Result<(), NoMemory>

@@ -21,7 +21,7 @@ pub fn push_call_words(out: &mut Bytes, call: &Call) -> Result<(), NoMemory>
         } => {
             out.append(b"create ")?;
             out.append(path.as_slice())?;
-            out.append(b" ")?;
+            out.push(b' ')?;
             push_sites(out, *sites)
         }
         Call::MakeDir { path } => {
@@ -39,7 +39,7 @@ pub fn push_call_words(out: &mut Bytes, call: &Call) -> Result<(), NoMemory>
         Call::Rename { path, name } => {
             out.append(b"rename ")?;
             out.append(path.as_slice())?;
-            out.append(b" ")?;
+            out.push(b' ')?;
             out.append(name.as_slice())
         }
         Call::List { path } => {
@@ -53,7 +53,7 @@ pub fn push_call_words(out: &mut Bytes, call: &Call) -> Result<(), NoMemory>
         Call::Mail { path, bytes } => {
             out.append(b"mail ")?;
             out.append(path.as_slice())?;
-            out.append(b" ")?;
+            out.push(b' ')?;
             push_hex(out, bytes.as_slice())
         }
         Call::Mails { path } => {
@@ -63,29 +63,29 @@ pub fn push_call_words(out: &mut Bytes, call: &Call) -> Result<(), NoMemory>
         Call::Open { path, mode } => {
             out.append(b"open ")?;
             out.append(path.as_slice())?;
-            out.append(b" ")?;
+            out.push(b' ')?;
             push_opening(out, *mode)
         }
         Call::Read { fd, at, len } => {
             out.append(b"read ")?;
             push_number(out, u32::from(*fd))?;
-            out.append(b" ")?;
+            out.push(b' ')?;
             push_number(out, *at)?;
-            out.append(b" ")?;
+            out.push(b' ')?;
             push_number(out, u32::from(*len))
         }
         Call::Write { fd, at, bytes } => {
             out.append(b"write ")?;
             push_number(out, u32::from(*fd))?;
-            out.append(b" ")?;
+            out.push(b' ')?;
             push_number(out, *at)?;
-            out.append(b" ")?;
+            out.push(b' ')?;
             push_hex(out, bytes.as_slice())
         }
         Call::Cut { fd, len } => {
             out.append(b"cut ")?;
             push_number(out, u32::from(*fd))?;
-            out.append(b" ")?;
+            out.push(b' ')?;
             push_number(out, *len)
         }
         Call::Commit { fd } => {
@@ -122,34 +122,34 @@ pub fn push_op(out: &mut Bytes, op: &Op) -> Result<(), NoMemory>
         Op::Insert { name, ino, kind } => {
             out.append(b"insert ")?;
             out.append(name.as_slice())?;
-            out.append(b" ")?;
+            out.push(b' ')?;
             push_number(out, u32::from(*ino))?;
-            out.append(b" ")?;
+            out.push(b' ')?;
             push_kind(out, *kind)
         }
         Op::Remove { name, ino } => {
             out.append(b"remove ")?;
             out.append(name.as_slice())?;
-            out.append(b" ")?;
+            out.push(b' ')?;
             push_number(out, u32::from(*ino))
         }
         Op::Rename { component, name } => {
             out.append(b"rename ")?;
             out.append(component.as_slice())?;
-            out.append(b" ")?;
+            out.push(b' ')?;
             out.append(name.as_slice())
         }
         Op::Empty => out.append(b"empty"),
         Op::Read { at, len } => {
             out.append(b"read ")?;
             push_number(out, *at)?;
-            out.append(b" ")?;
+            out.push(b' ')?;
             push_number(out, u32::from(*len))
         }
         Op::Write { at, bytes } => {
             out.append(b"write ")?;
             push_number(out, *at)?;
-            out.append(b" ")?;
+            out.push(b' ')?;
             push_hex(out, bytes.as_slice())
         }
         Op::Cut { len } => {

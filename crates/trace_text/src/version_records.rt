@@ -21,13 +21,13 @@ pub fn push_commit(
 {
     out.append(b"commit ")?;
     push_file(out, file)?;
-    out.append(b" ")?;
+    out.push(b' ')?;
     push_number(out, u32::from(site))?;
-    out.append(b" ")?;
+    out.push(b' ')?;
     push_stamp(out, stamp)?;
-    out.append(b" ")?;
+    out.push(b' ')?;
     push_stamps(out, parents.as_slice())?;
-    out.append(b" ")?;
+    out.push(b' ')?;
     push_hex(out, content.as_slice())
 }
 
@@ -42,11 +42,11 @@ pub fn push_release(
 {
     out.append(b"release ")?;
     push_epoch(out, epoch)?;
-    out.append(b" ")?;
+    out.push(b' ')?;
     push_serial(out, inst)?;
-    out.append(b" ")?;
+    out.push(b' ')?;
     push_file(out, file)?;
-    out.append(b" ")?;
+    out.push(b' ')?;
     push_optional_stamp(out, stamp)
 }
 
@@ -55,8 +55,8 @@ pub fn push_adopt(out: &mut Bytes, file: FileId, site: u8, stamp: Stamp) -> Resu
 {
     out.append(b"adopt ")?;
     push_file(out, file)?;
-    out.append(b" ")?;
+    out.push(b' ')?;
     push_number(out, u32::from(site))?;
-    out.append(b" ")?;
+    out.push(b' ')?;
     push_stamp(out, stamp)
 }

@@ -54,8 +54,12 @@ none_found : (q : Option Numbered) → is_some (number_in q) ≡ false → q ≡
 none_found None e = refl
 none_found (Some u) e = absurd (cc)
 
+-- whatever world is shown, after the change the packet of this number has arrived in it
+abbrev pub Arrives : ℕ → ℕ → WorldState → WorldState → Type 0
+Arrives n k y z = (u : Numbered) (c : Config) (taken : Taken) (w : World) → w.over ≡ None → packet_at w k ≡ Some u → Shows c taken w y → Shows c taken (arrives c n u w) z
+
 -- one packet more is delivered
-pub deliver_more : (n budget left less k : ℕ) (x y z : WorldState) (r : Option ℕ) → left ≡ suc less → r ≡ Some k → ((c : Config) (taken : Taken) (w : World) → Shows c taken w y → next_number w ≡ r) → ((c : Config) (taken : Taken) (w : World) → Shows c taken w y → IfSome (next_packet w) (λ u. packet_at w u.number ≡ Some u)) → ((u : Numbered) (c : Config) (taken : Taken) (w : World) → w.over ≡ None → packet_at w k ≡ Some u → Shows c taken w y → Shows c taken (arrives c n u w) z) → Rests (λ c w. delivers c n left w) (λ c w. delivers c n budget w) x y → Rests (λ c w. delivers c n less w) (λ c w. delivers c n budget w) x z
+pub deliver_more : (n budget left less k : ℕ) (x y z : WorldState) (r : Option ℕ) → left ≡ suc less → r ≡ Some k → ((c : Config) (taken : Taken) (w : World) → Shows c taken w y → next_number w ≡ r) → ((c : Config) (taken : Taken) (w : World) → Shows c taken w y → IfSome (next_packet w) (λ u. packet_at w u.number ≡ Some u)) → Arrives n k y z → Rests (λ c w. delivers c n left w) (λ c w. delivers c n budget w) x y → Rests (λ c w. delivers c n less w) (λ c w. delivers c n budget w) x z
 deliver_more n budget left less k x y z r el er next known arrive h c taken w sh =
     let b = h c taken w sh in
     let v : World = b.0 in

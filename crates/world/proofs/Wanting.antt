@@ -39,7 +39,7 @@ use Rattle.world.specs.declared.fault.WorldFault.{WorldFault}
 use Rattle.world.specs.declared.fault.WorldFault.TheVariants.{NoMemory}
 use Rattle.world.proofs.LineLaws.{always, where_over}
 use Rattle.world.proofs.Over.{happens_over}
-use Rattle.world.proofs.Rounds.{found, within_limits}
+use Rattle.world.proofs.Rounds.{Arrives, found, within_limits}
 
 -- ---- a fault that is given on ----
 
@@ -141,7 +141,7 @@ next_needs n left less k y r el er next known c taken v sh need =
     (u, (within_limits v u v.over f.1.0, (subst (λ (j : ℕ). packet_at v j ≡ Some u) f.1.1 sent, (one.0, one.1))))
 
 pub deliver_needs : (n left less k : ℕ) (Whole : Config → World → Type 0) (x y z : WorldState) (r : Option ℕ) → left ≡ suc less → r ≡ Some k → ((c : Config) (taken : Taken) (w : World) → Shows c taken w y → next_number w ≡ r) → ((c : Config) (taken : Taken) (w : World) → Shows c taken w y → IfSome (next_packet w) (λ u. packet_at w u.number ≡ Some u))
-    → ((u : Numbered) (c : Config) (taken : Taken) (w : World) → w.over ≡ None → packet_at w k ≡ Some u → Shows c taken w y → Shows c taken (arrives c n u w) z) → StillNeeds (λ c w. WhereDelivered (CanHappen c) c n left w) Whole x y → StillNeeds (λ c w. WhereDelivered (CanHappen c) c n less w) Whole x z
+    → Arrives n k y z → StillNeeds (λ c w. WhereDelivered (CanHappen c) c n left w) Whole x y → StillNeeds (λ c w. WhereDelivered (CanHappen c) c n less w) Whole x z
 deliver_needs n left less k Whole x y z r el er next known arrive h c taken w sh whole =
     let b = h c taken w sh whole in
     let one = next_needs n left less k y r el er next known c taken b.0 b.1.0 b.1.1 in

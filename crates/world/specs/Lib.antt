@@ -1,3 +1,4 @@
+pub mod Reached
 pub mod States
 pub mod Shown
 pub mod Listed

@@ -4,6 +4,7 @@
 
 mod fault;
 mod lines;
+mod open;
 mod packets;
 mod settling;
 mod sites;

@@ -75,14 +75,16 @@ impl World {
     }
 
     /// The lowest-numbered packet that can be delivered; none where a limit was passed.
-    pub(crate) fn next(&self) -> Option<u32>
-        ensures value { (c : Config) (taken : Taken) (w : RunWorld) → Shows c taken w (state_of self.now) → next_number w ≡ result }
-        ensures known { (c : Config) (taken : Taken) (w : RunWorld) → Shows c taken w (state_of self.now) → IfSome (next_packet w) (λ x. packet_at w x.number ≡ Some x) }
+    pub(crate) fn next(&mut self) -> Option<u32>
+        ensures value { (c : Config) (taken : Taken) (w : RunWorld) → Shows c taken w (state_of self.old) → next_number w ≡ result }
+        ensures known { (c : Config) (taken : Taken) (w : RunWorld) → Shows c taken w (state_of self.old) → IfSome (next_packet w) (λ x. packet_at w x.number ≡ Some x) }
+        ensures kept { self.new ≡ self.old }
     {
         if self.book.passed().is_some() {
             return None;
         }
-        let up = self.cuts.up_table(&self.boots());
+        let boots = self.boots();
+        let up = self.cuts.up_table(&boots);
         self.book.next(&up)
     }
 

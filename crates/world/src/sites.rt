@@ -1,5 +1,5 @@
 ghost use Rattle.std.specs.Prelude.{◌≡◌, ◌≤◌, ◌==◌, ◌&&◌, not, false, [], ◌∷◌, IfErr, IfOk, OnOk};
-ghost use Rattle.the_run.specs.Worlds.{place_at, boot_of, links_of, is_up, happens, voids, says_only};
+ghost use Rattle.the_run.specs.Worlds.{place_at, boot_of, is_up, happens, voids, says_only};
 ghost use Rattle.the_run.specs.Runs.{is_stopped, is_in_no_epoch, is_busy, unless_void};
 ghost use Rattle.site_place.specs.Places.{event_of};
 ghost use Rattle.world.specs.States.{state_of, boot_at, boots_of};
@@ -9,7 +9,7 @@ ghost use Rattle.complete_laws.specs.Lines.{CanHappen};
 
 use crate::{World, WorldFault};
 use locus_ids::sizes::SITES;
-use locus_ids::{Links, NoMemory, SiteId};
+use locus_ids::{NoMemory, SiteId};
 use packet_order::Dispatch;
 use site_place::{SiteEvent, SitePlace};
 use std::alloc::Global;
@@ -62,13 +62,6 @@ impl World {
         ensures { result ≡ boots_of self.now.places.items }
     {
         boots_of(&self.places)
-    }
-
-    /// The circuits that are up at a site.
-    fn links_of(&self, site: SiteId) -> Links
-        ensures { Answers (λ w. links_of w site) (state_of self.now) result }
-    {
-        self.cuts.links_of(&self.boots(), site)
     }
 
     /// The boot number of a site that runs, else 0.
@@ -161,7 +154,8 @@ impl World {
             drop(event);
             return Ok(());
         }
-        let links = self.links_of(site);
+        let boots = self.boots();
+        let links = self.cuts.links_of(&boots, site);
         let out = self.places[at].happen(&links, event)?;
         self.note(line, &out)?;
         Ok(())

@@ -18,7 +18,7 @@ ghost use Rattle.world.specs.Faults.{MayCome};
 ghost use Rattle.copy_laws.specs.Hold.{VersionsAndCopiesHold};
 
 use crate::WorldFault;
-use circuits::CutCircuits;
+use crate::open::OpenCircuits;
 use epoch_rules::site_at;
 use locus_ids::sizes::SITES;
 use locus_ids::{Config, NoMemory};
@@ -34,7 +34,7 @@ pub struct World {
     pub(crate) alloc: Global,
     pub(crate) config: Config,
     pub(crate) places: Vec<SitePlace>,
-    pub(crate) cuts: CutCircuits,
+    pub(crate) cuts: OpenCircuits,
     pub(crate) book: RunBook,
 }
 
@@ -63,7 +63,7 @@ impl World {
             alloc,
             config,
             places,
-            cuts: CutCircuits::new(alloc),
+            cuts: OpenCircuits::new(alloc),
             book,
         })
     }

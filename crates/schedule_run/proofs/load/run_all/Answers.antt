@@ -38,3 +38,8 @@ returns-in_err-happen_all-clause-complete c = λ fault e.
     let a = c.in_ok-run_events.ensures.done (opening_lines 20000) (nothing_taken Nothing) c.in_ok-run.ensures.done in
     let o = subst AreInOrder (sym (load_whole c.args.number c.args.events (lines_left c.new-2.result) (events_of c.in_ok-lines.lines.items) (ap lines_left c.new-2.ensures) c.in_ok-lines.ensures)) (generated_in_order c.args.number c.args.events) in
     sym f ∙ c.in_err-happen_all.ensures.complete (opening_lines 20000 ++ lines_left c.new-2.result) (nothing_taken Nothing) o a
+
+pub returns-in_err-run_events-clause-goes_on : goal.returns-in_err-run_events-clause-goes_on
+returns-in_err-run_events-clause-goes_on c = λ limit e.
+    let f = same_fault c.in_err-run_events.field-0.0 _ c.from_residual-in_err-run_events.result c.from_residual-in_err-run_events.ensures.1 e in
+    c.in_err-run_events.ensures.goes_on limit (ap Err f)

@@ -21,3 +21,7 @@ returns-in_err-happen_all-clause-complete c = λ settled.
     let o = subst AreInOrder c.in_ok-lines.ensures (opening_in_order c.args.most settled) in
     given_on (λ fault. fault ≡ NoMemory) c.from_residual-in_err-happen_all.result c.in_err-happen_all.field-0.0 c.from_residual-in_err-happen_all.ensures
     (c.in_err-happen_all.ensures.complete header_lines (nothing_taken c.args.writing) o h)
+
+-- nothing but memory was wanting for the lines
+pub returns-in_err-lines-clause-complete : goal.returns-in_err-lines-clause-complete
+returns-in_err-lines-clause-complete c = λ settled. given_on (λ fault. fault ≡ NoMemory) c.from_residual-in_err-lines.result NoMemory c.from_residual-in_err-lines.ensures refl
