@@ -1,6 +1,7 @@
 ghost use Rattle.std.specs.Prelude.{◌≡◌, [], false};
 ghost use Rattle.locus_io.specs.Causes.{Rose};
 ghost use Rattle.audit_run.specs.Ends.{Ends};
+ghost use Rattle.audit_run.specs.Hearings.{Hears};
 
 use crate::fault::AuditFault;
 use crate::hearing::Hearing;
@@ -26,7 +27,7 @@ pub fn audit<S: Source>(alloc: Global, source: &mut S) -> Result<Answer, AuditFa
     }
 }
 
-/// Hears each line.
+/// Hears the lines, of which nothing is known yet.
 #[tactic(none)]
 fn hear_lines<S: Source>(
     alloc: Global,
@@ -38,6 +39,22 @@ fn hear_lines<S: Source>(
     ensures fault { result ≡ Err AuditFault.ReadFault → Rose (S.faults source.old) (S.faults source.new) }
 {
     let mut hearing = Hearing::new(alloc);
+    hear_each(alloc, reader, source, &mut hearing)
+}
+
+/// Hears each line. What is known of them is the caller's, so that none of the loop's ends drops it.
+#[tactic(none)]
+fn hear_each<S: Source>(
+    alloc: Global,
+    reader: &mut LineReader,
+    source: &mut S,
+    hearing: &mut Hearing,
+) -> Result<Answer, AuditFault>
+    requires unread { reader.old ≡ record { ahead = []; line = []; number = 0; limit = 4194304; ended = false } }
+    requires fresh { Hears [] [] hearing.old }
+    ensures ends { Ends result (S.left source.old) (S.left source.new) }
+    ensures fault { result ≡ Err AuditFault.ReadFault → Rose (S.faults source.old) (S.faults source.new) }
+{
     loop {
         match next_line(reader, source) {
             Ok(true) => {}

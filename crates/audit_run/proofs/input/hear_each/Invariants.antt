@@ -2,7 +2,7 @@ use Rattle.std.proofs.Common.{◌≤◌, ◌-◌, ◌≡◌, true}
 use Rattle.std.specs.Io.KnownBytes.{IsAtEnd}
 use Rattle.line_reader.specs.Readers.{still_read}
 use Rattle.audit_run.proofs.Ending.{SoFar}
-use Rattle.audit_run.proofs.input.hear_lines.Given as goal
+use Rattle.audit_run.proofs.input.hear_each.Given as goal
 
 abbrev pub invariant-loop-hearing : goal.invariant-loop-hearing
 invariant-loop-hearing g l = record {
