@@ -1,5 +1,5 @@
 -- What stands in the way of a mend or a make only after thousands of pages or scores of files. Here the past is given that by hand.
-use Rattle.std.specs.Prelude.{ℕ, ◌≡◌, true, false, ◌∷◌, map, take, codes}
+use Rattle.std.specs.Prelude.{ℕ, ◌≡◌, true, false, ◌∷◌, map, take}
 use Rattle.locus_ids.specs.declared.config.Config.{Config}
 use Rattle.locus_ids.specs.declared.ids.Mode.TheVariants as mode
 use Rattle.locus_ids.specs.declared.refusal.Refusal.TheVariants as refusal

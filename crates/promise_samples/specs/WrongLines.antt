@@ -1,5 +1,5 @@
 -- Traces whose records the rows let through, and that their lines don't ask for.
-use Rattle.std.specs.Prelude.{ℕ, List, [], ◌∷◌, ◌++◌, take, None, Some, codes}
+use Rattle.std.specs.Prelude.{ℕ, List, [], ◌∷◌, ◌++◌, take, Some, codes}
 use Rattle.locus_ids.specs.declared.ids.Mode.TheVariants as mode
 use Rattle.trace_book.specs.declared.call.Call.TheVariants as call
 use Rattle.trace_book.specs.declared.call.OpenMode.TheVariants as how

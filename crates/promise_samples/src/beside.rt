@@ -1,3 +1,5 @@
+ghost use Rattle.std.specs.Prelude.{reverse};
+ghost use Rattle.promises.specs.Progress.{LargeRoundsEnd};
 ghost use Rattle.promise_samples.specs.Altered.{Passes, Fails, mend, mend_again_after_its_refusal, refusal_for_want_of_a_number, another_refusal_without_a_number, write_refused_for_want_of_a_number};
 ghost use Rattle.promise_samples.specs.Examples.{Follows, IsAsked, IsNotAsked, ChangesRefused, CommitsUnaskedAt, IsLateAt, printed};
 ghost use Rattle.promise_samples.specs.First.{first};
@@ -31,7 +33,7 @@ ghost use Rattle.promise_samples.specs.ReplyBehindACall.{reply_behind_a_call};
 ghost use Rattle.promise_samples.specs.ArmedBoots.{armed_boots};
 ghost use Rattle.promise_samples.specs.VoidLines.{void_lines};
 ghost use Rattle.promise_samples.specs.TwoCloses.{two_closes};
-ghost use Rattle.promise_samples.specs.WrongBeside.{commit_that_is_not_asked, missing_changed, refused_and_done};
+ghost use Rattle.promise_samples.specs.WrongBeside.{commit_that_is_not_asked, missing_changed, refused_and_done, rounds_without_end};
 ghost use Rattle.promise_samples.specs.WrongLines.{version_not_left_beside_another, stop_where_nothing_is_delivered, stop_in_anothers_version, stop_in_an_adoption_where_no_site_ticks, stop_without_a_boot, stop_after_a_boot, join_of_anothers_epoch, join_of_anothers_part, join_by_a_void_merge, join_by_a_void_part, join_of_a_boot_that_asked_nothing, reply_beside_a_void, reply_in_place_of_a_void, void_round, record_of_an_earlier_line, record_of_no_line};
 ghost use Rattle.promise_samples.specs.WrongStops.{stopped_inside, stopped_after, stop_before_its_call, stop_after_the_calls, version_that_is_not_left, version_left_untold, version_after_a_fault, fuse_where_a_fault_was_armed, stop_a_line_late, stop_in_a_commit_that_is_not_asked, stop_that_does_not_come, boot_that_closes_a_half, boot_that_was_over, boot_with_nothing_to_close};
 ghost use Rattle.trace_samples.specs.FirstRun.{first_run};
@@ -155,10 +157,13 @@ pub fn rows_know_no_lines()
     ensures record_of_no_line { Follows record_of_no_line }
 {}
 
-/// What each row lets through fails a promise beside the headline, at the record that is wrong.
+/// What each row lets through fails a promise beside the headline, at the record that is wrong. A round with a budget of 262,144
+/// doesn't end by it.
 pub fn what_rows_let_through_fails_beside()
     ensures commit_follows { Follows commit_that_is_not_asked }
     ensures commit_is_not_asked { CommitsUnaskedAt 19 commit_that_is_not_asked }
     ensures missing_changed { IsLateAt 26 missing_changed }
     ensures refused_and_done { ChangesRefused refused_and_done }
+    ensures rounds_follow { Follows rounds_without_end }
+    ensures rounds_are_large { LargeRoundsEnd rounds_without_end.lines (reverse rounds_without_end.trace) → ⊥ }
 {}
