@@ -35,6 +35,7 @@ use Rattle.promise_laws.proofs.BudgetsPassed.{budgets_passed}
 use Rattle.promise_laws.proofs.CommitsAsked.{commits_asked}
 use Rattle.promise_laws.proofs.Delivered.{calm_rounds_deliver}
 use Rattle.promise_laws.proofs.MomentsHold.{after_events}
+use Rattle.promise_laws.proofs.OneHistory.{history_is_one}
 use Rattle.promise_laws.proofs.OneTrace.{trace_is_one}
 use Rattle.promise_laws.proofs.Steadying.{steady_rounds, together_is_told}
 use Rattle.promise_laws.proofs.VersionsNow.{versions_throughout}
@@ -58,6 +59,7 @@ run_lawful lines order none = tree_lawful lines none (record {
 pub the_run : (lines : List ScheduleLine) → AreInOrder lines → TheRun lines
 the_run lines order = record {
   trace = trace_is_one (run lines);
+  history = history_is_one (config_of lines) (run lines);
   events = after_events lines order;
   versions = run_versions_and_copies (config_of lines) lines;
   voids = voids_change_nothing lines order;

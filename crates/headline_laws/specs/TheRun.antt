@@ -8,6 +8,7 @@ use Rattle.copy_laws.specs.Hold.{VersionsAndCopiesHold}
 use Rattle.promise_laws.specs.Budgets.{BudgetsWerePassed}
 use Rattle.promise_laws.specs.Delivering.{CalmRoundsDeliverAll}
 use Rattle.promise_laws.specs.Moments.{HoldsAfterEvents}
+use Rattle.promise_laws.specs.OneHistory.{HistoryIsOne}
 use Rattle.promise_laws.specs.OneTrace.{TraceIsOne}
 use Rattle.promise_laws.specs.Steady.{SteadyRoundsAreCalm, TogetherIsTold}
 use Rattle.promise_laws.specs.Voiding.{VoidLinesChangeNothing}
@@ -18,6 +19,8 @@ use Rattle.headline_laws.specs.Carried.{CalmRoundsCarry}
 pub record TheRun (lines : List ScheduleLine) : Type 0 where
   -- all that is printed of it is of one trace
   pub trace : TraceIsOne (run lines)
+  -- and versions, by whichever name, are of one history
+  pub history : HistoryIsOne (config_of lines) (run lines)
   -- after each event each disk holds of each file just the version that its site has by the trace, whole; no call but a mend asks more than
   -- the components of its path and six, or seven for a mail; and a delivery, unless of a report, sends at most one packet that serves a call,
   -- besides opens of mends

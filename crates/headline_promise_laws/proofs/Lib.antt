@@ -18,6 +18,8 @@ pub mod FairInstances
 pub mod FairSteps
 pub mod Refusals
 pub mod FairRuns
+pub mod Promptly
+pub mod CommitsWhenAsked
 pub mod Headlines
 pub use Rattle.headline_laws.proofs as of_headline_laws
 pub use Rattle.headline_laws.proofs.of_promise_laws as of_promise_laws

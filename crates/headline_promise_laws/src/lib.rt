@@ -8,7 +8,7 @@ mod laws;
 mod lines;
 mod stops;
 
-pub use beside::refused_calls_change_nothing;
+pub use beside::{commits_wait_to_be_asked, owed_replies_come_first, refused_calls_change_nothing};
 pub use headline::{acknowledged_versions_are_new, every_run_keeps_the_headline};
 pub use laws::{
     commits_are_kept, files_are_flagged_rightly, files_come_back_whole, runs_are_one_tree,

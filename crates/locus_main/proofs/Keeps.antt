@@ -16,8 +16,10 @@ use Rattle.audited_runs.specs.of_headline_promise_laws.of_row_laws.Shown.{trace_
 use Rattle.audited_runs.proofs.of_headline_promise_laws.of_promise_laws.OneTrace.{trace_is_one}
 use Rattle.audited_runs.proofs.of_headline_promise_laws.of_headline_laws.Whole.{rows_hold, replies_hold, commits_hold, run_lawful, progress, convergence}
 use Rattle.audited_runs.proofs.of_headline_promise_laws.AskedFor.{run_asked_for}
+use Rattle.audited_runs.proofs.of_headline_promise_laws.CommitsWhenAsked.{run_commits_when_asked}
 use Rattle.audited_runs.proofs.of_headline_promise_laws.FairRuns.{run_refusals}
 use Rattle.audited_runs.proofs.of_headline_promise_laws.Headlines.{run_keeps_headline}
+use Rattle.audited_runs.proofs.of_headline_promise_laws.Promptly.{run_comes_promptly}
 use Rattle.audited_runs.proofs.of_headline_promise_laws.Stopping.{run_stops}
 use Rattle.audited_runs.specs.Answered.{IsAuditedWell}
 use Rattle.box_laws.proofs.Law.{runs_hold}
@@ -184,7 +186,7 @@ pub keeps_all : ((lines : List ScheduleLine) → AreInOrder lines → IsAuditedW
 keeps_all answered words result source left t u good as_run as_tree as_load = command_keeps Holds HoldsWithin words result (record { always = holds; inside = holds_within }) source left t u good as_run as_tree as_load
   where
     holds : (lines : List ScheduleLine) → AreInOrder lines → Holds lines (trace_of (run lines))
-    holds lines order = record { own = refl; rows = rows_hold lines order; replies = replies_hold lines order; commits = commits_hold lines order; headline = run_keeps_headline lines order; stops = run_stops lines order; refused = run_refusals lines order; boxes = runs_hold lines order; one_version = run_reads lines order }
+    holds lines order = record { own = refl; rows = rows_hold lines order; replies = replies_hold lines order; commits = commits_hold lines order; headline = run_keeps_headline lines order; stops = run_stops lines order; refused = run_refusals lines order; committed = run_commits_when_asked lines order; prompt = run_comes_promptly lines order; boxes = runs_hold lines order; one_version = run_reads lines order }
 
     holds_within : (lines : List ScheduleLine) → AreInOrder lines → (run lines).over ≡ None → HoldsWithin lines (trace_of (run lines))
     holds_within lines order none = record { audited = answered lines order; asked = run_asked_for lines order (run_lawful lines order none); lawful = run_lawful lines order none; progress = progress lines order none; convergence = convergence lines order none }

@@ -4,7 +4,7 @@ use Rattle.schedule_lines.specs.declared.line.ScheduleLine.{ScheduleLine}
 use Rattle.audited_runs.specs.of_headline_promise_laws.of_headline_laws.Commits.{CommitsHold}
 use Rattle.audited_runs.specs.of_headline_promise_laws.of_headline_laws.Replies.{RepliesHold}
 use Rattle.audited_runs.specs.of_headline_promise_laws.of_headline_laws.Rows.{RowsHold}
-use Rattle.audited_runs.specs.of_headline_promise_laws.of_promises.Beside.{refusals_change_nothing}
+use Rattle.audited_runs.specs.of_headline_promise_laws.of_promises.Beside.{comes_promptly, commits_when_asked, refusals_change_nothing}
 use Rattle.audited_runs.specs.of_headline_promise_laws.of_promises.Headline.{Headline}
 use Rattle.audited_runs.specs.of_headline_promise_laws.of_promises.Past.{nothing_yet}
 use Rattle.audited_runs.specs.of_headline_promise_laws.of_promises.Traces.{each}
@@ -29,6 +29,9 @@ pub record Holds (lines : List ScheduleLine) (trace : Trace) : Type 0 where
   pub stops : Stops lines (reverse trace)
   -- and a call that is refused, for another cause than that its epoch has changed, changes no named file
   pub refused : each refusals_change_nothing (config_of lines) (nothing_yet (config_of lines)) (reverse trace) ≡ true
+  -- a version is committed only where a call asks for it, and while a reply is owed at once only such replies come
+  pub committed : each (commits_when_asked (config_of lines)) (config_of lines) (nothing_yet (config_of lines)) (reverse trace) ≡ true
+  pub prompt : each (comes_promptly (config_of lines)) (config_of lines) (nothing_yet (config_of lines)) (reverse trace) ≡ true
   -- the same tree by folds of the trace, and what stands beside the headline
   pub rows : RowsHold lines trace
   pub replies : RepliesHold lines trace

@@ -3,6 +3,7 @@ pub mod Wrote
 pub mod AskedKinds
 pub mod AskedAgain
 pub mod OneTrace
+pub mod OneHistory
 pub mod Asking
 pub mod Walk
 pub mod HoldingOn
@@ -14,6 +15,7 @@ pub mod Delivered
 pub mod Staying
 pub mod Steadying
 pub mod MomentsHold
+pub mod VectorsNow
 pub mod VersionsNow
 pub mod VoidLines
 pub mod Answered

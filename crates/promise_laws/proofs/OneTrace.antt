@@ -31,7 +31,7 @@ shown_text (x ∷ xs) es = over x.told (shown_text xs)
     over (Shown r) old = old (record { line = x.number; what = r } ∷ es) ∙ sym (append_assoc (told (shown xs)) (entry_text x.number r) (text es))
     over _ old = old es
 
-tree_names : (xs : List Line) → entries xs ≡ shown xs
+pub tree_names : (xs : List Line) → entries xs ≡ shown xs
 tree_names [] = refl
 tree_names (x ∷ older) = over x.told (tree_names older)
   where
@@ -39,7 +39,7 @@ tree_names (x ∷ older) = over x.told (tree_names older)
     over (Shown r) e = ap (λ (t : Trace). record { line = x.number; what = r } ∷ t) e
     over _ e = e
 
-version_names : (xs : List Line) → printed_lines xs ≡ shown xs
+pub version_names : (xs : List Line) → printed_lines xs ≡ shown xs
 version_names [] = refl
 version_names (x ∷ older) = over x.told (version_names older)
   where

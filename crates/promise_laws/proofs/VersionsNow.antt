@@ -32,10 +32,12 @@ use Rattle.rest_laws.proofs.Shown.{shown_entries}
 use Rattle.promise_laws.specs.Moments.{IsUnderKept, VersionsHold, VersionsHoldThroughout}
 use Rattle.promise_laws.proofs.HoldingOn.{commits_held}
 use Rattle.promise_laws.proofs.RunsHold.{schedule_followed, schedule_rests}
+use Rattle.promise_laws.proofs.VectorsNow.{ToldSo, run_told, told_before, vectors_now}
 
-now_hold : (c : Config) (trace : List Line) → IsFollowed c trace → LawsBelow c trace → VersionsHold c (entries trace)
-now_hold c trace h laws = record {
+now_hold : (c : Config) (trace : List Line) → IsFollowed c trace → LawsBelow c trace → ToldSo trace → VersionsHold c (entries trace)
+now_hold c trace h laws told = record {
   ordered = record { through = order.through; apart = order.one };
+  vectors = vectors_now c trace told laws.once;
   kept = λ e f known stamp brought above. under e f known stamp above (below_kept c (entries trace) rows (commits_new c trace h laws.once) e f known brought);
   held = commits_held c trace h laws;
 }
@@ -52,9 +54,9 @@ now_hold c trace h laws = record {
     under : (e : EpochId) (f : FileId) (known stamp : Stamp) → is_ancestor (history c (entries trace)) f stamp known ≡ true → IsBelowKept c (entries trace) e f known → IsUnderKept c (entries trace) e f stamp
     under e f known stamp above k = record { top = k.top; is_kept = k.is_kept; above = order.through f stamp known k.top (stands e f k.top k.is_kept) above k.above }
 
-all_hold : (c : Config) (trace : List Line) → IsFollowed c trace → LawsBelow c trace → VersionsHoldThroughout c (entries trace)
-all_hold c [] h laws = now_hold c [] h laws
-all_hold c (x ∷ older) h laws = by_told x.told (now_hold c (x ∷ older) h laws) (all_hold c older h.1 (laws_before c x older laws))
+all_hold : (c : Config) (trace : List Line) → IsFollowed c trace → LawsBelow c trace → ToldSo trace → VersionsHoldThroughout c (entries trace)
+all_hold c [] h laws told = now_hold c [] h laws told
+all_hold c (x ∷ older) h laws told = by_told x.told (now_hold c (x ∷ older) h laws told) (all_hold c older h.1 (laws_before c x older laws) (told_before x older told))
   where
     by_told : (y : Told) → VersionsHold c (onto_entries x.number y (entries older)) → VersionsHoldThroughout c (entries older) → VersionsHoldThroughout c (onto_entries x.number y (entries older))
     by_told (Shown r) now old = (now, old)
@@ -62,4 +64,4 @@ all_hold c (x ∷ older) h laws = by_told x.told (now_hold c (x ∷ older) h law
 
 pub versions_throughout : (lines : List ScheduleLine) → AreInOrder lines → VersionsHoldThroughout (config_of lines) (trace_of (run lines))
 versions_throughout lines order = subst (VersionsHoldThroughout (config_of lines)) (sym (shown_entries (run lines).trace))
-    (all_hold (config_of lines) (run lines).trace (schedule_followed lines order) (rest_below (config_of lines) (run lines).trace (schedule_rests lines order)))
+    (all_hold (config_of lines) (run lines).trace (schedule_followed lines order) (rest_below (config_of lines) (run lines).trace (schedule_rests lines order)) (run_told lines))

@@ -1,5 +1,6 @@
 pub mod Committing
 pub mod OneTrace
+pub mod OneHistory
 pub mod Budgets
 pub mod Holding
 pub mod Delivering

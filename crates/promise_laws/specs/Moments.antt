@@ -5,7 +5,7 @@ use Rattle.locus_ids.specs.declared.ids.EpochId.{EpochId}
 use Rattle.locus_ids.specs.declared.ids.FileId.{FileId}
 use Rattle.locus_ids.specs.declared.ids.Stamp.{Stamp}
 use Rattle.commit_graph.specs.declared.history.Version.{Version}
-use Rattle.commit_graph.specs.Versions.{is_ancestor, is_in}
+use Rattle.commit_graph.specs.Versions.{is_ancestor, is_in, is_proper_ancestor}
 use Rattle.schedule_lines.specs.declared.line.Line.TheVariants as line
 use Rattle.schedule_lines.specs.declared.line.ScheduleLine.{ScheduleLine}
 use Rattle.schedule_lines.specs.declared.line.ScheduleLine.TheVariants.{Event}
@@ -17,6 +17,7 @@ use Rattle.tree_model.specs.Histories.{history}
 use Rattle.tree_model.specs.State.{has_stamp}
 use Rattle.tree_model.specs.Tree.{candidates, kept_in}
 use Rattle.lawful_trace.specs.Places.{line_at, lines_before}
+use Rattle.kept_laws.specs.Vectors.{has_below}
 use Rattle.orderly_laws.specs.Calm.{delivered, ticked}
 use Rattle.bound_laws.specs.Asking.{RequestsBounded}
 use Rattle.bound_laws.specs.Deliveries.{DeliveriesSendOne}
@@ -80,6 +81,8 @@ pub record IsUnderKept (c : Config) (now : Trace) (e : EpochId) (f : FileId) (st
 -- what holds of the one history of these records
 pub record VersionsHold (c : Config) (now : Trace) : Type 0 where
   pub ordered : AreOrdered (history c now)
+  -- of two versions one is a proper ancestor of the other just where its written vector is below the other's
+  pub vectors : (f : FileId) (a b : Stamp) → is_in (history c now) f a ≡ true → is_in (history c now) f b ≡ true → is_proper_ancestor (history c now) f a b ≡ has_below (history c now) f a b
   -- in each epoch each version that was brought to it or published in it, and each ancestor of one, is an ancestor of a kept one
   pub kept : (e : EpochId) (f : FileId) (known stamp : Stamp) → has_stamp (candidates c now e f) known ≡ true → is_ancestor (history c now) f stamp known ≡ true → IsUnderKept c now e f stamp
   -- everywhere and always each commit is an ancestor of what its own site holds

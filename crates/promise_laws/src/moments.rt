@@ -16,8 +16,9 @@ pub fn events_leave_all_so()
     ensures rounds { (c : Config) (lines : List ScheduleLine) → MomentsEndRounds c lines }
 {}
 
-/// After each record versions are ordered by ancestry, each version that was brought to an epoch or published there, and each ancestor of
-/// one, is an ancestor of one that the epoch keeps, and each commit is one of what its own site holds, or is that.
+/// After each record versions are ordered by ancestry, and written vectors tell that order; each version that was brought to an epoch or
+/// published there, and each ancestor of one, is an ancestor of one that the epoch keeps, and each commit is one of what its own site holds,
+/// or is that.
 pub fn versions_hold_throughout()
     ensures { (lines : List ScheduleLine) → AreInOrder lines → VersionsHoldThroughout (config_of lines) (trace_of (run lines)) }
 {}
