@@ -10,6 +10,9 @@ use std::marker::Model;
 /// The bytes of a chunk. What a storage keeps so far apart grows in chunks of its own.
 pub(crate) const CHUNK: usize = 1_048_576;
 
+/// Zeros are added in pieces of so many bytes.
+const PIECE: usize = 1_024;
+
 /// The bytes of a chunk up to the last one that was written; those behind it are zeros. Its memory is taken when it is made,
 /// and no byte of it is touched before it is written.
 #[derive(Drop)]
@@ -103,8 +106,35 @@ fn grow(written: &mut Vec<u8>, end: usize)
     ensures room { vec_capacity written.old ≤ vec_capacity written.new }
 {
     if written.len() < end {
-        let _ = written.resize(end, 0);
+        fill_up(written, end);
     }
+}
+
+/// Adds zeros up to a place, piece by piece.
+fn fill_up(written: &mut Vec<u8>, end: usize)
+    requires behind { length written.old.items ≤ end }
+    requires fit { end ≤ vec_capacity written.old }
+    ensures kept { (k : ℕ) → slice_index written.new.items k ≡ slice_index written.old.items k }
+    ensures long { length written.new.items ≡ end }
+    ensures room { vec_capacity written.old ≤ vec_capacity written.new }
+{
+    while written.len() < end {
+        let count = PIECE.min(end - written.len());
+        add_zeros(written, count);
+    }
+}
+
+/// Adds so many zeros, which take no memory that isn't there.
+#[inline]
+fn add_zeros(written: &mut Vec<u8>, count: usize)
+    requires few { count ≤ 1024 }
+    requires fit { length written.old.items + count ≤ vec_capacity written.old }
+    ensures kept { (k : ℕ) → slice_index written.new.items k ≡ slice_index written.old.items k }
+    ensures long { length written.new.items ≡ length written.old.items + count }
+    ensures room { vec_capacity written.old ≤ vec_capacity written.new }
+{
+    let zeros = [0; PIECE];
+    let _ = written.extend_from_slice(&zeros[..count]);
 }
 
 /// All of these bytes are zeros.

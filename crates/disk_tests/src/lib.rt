@@ -3,6 +3,8 @@
 #![tactic(auto)]
 
 #[cfg(test)]
+mod checks;
+#[cfg(test)]
 mod disk_model_tests;
 #[cfg(test)]
 mod pack_crash_tests;
@@ -16,3 +18,5 @@ mod packs;
 mod shadow_tests;
 #[cfg(test)]
 mod site_label_tests;
+#[cfg(test)]
+mod table_tests;

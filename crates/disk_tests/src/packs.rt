@@ -1,5 +1,5 @@
-// What the tests of packs make and look at.
-ghost use Rattle.std.specs.Prelude.{ℕ, ◌≤◌, ◌<◌, ◌+◌, ◌^◌, length, OnOk, IfOk};
+// What the tests of packs make and look at. Where a call fails, the test ends: so a function has no exit behind each of its calls.
+ghost use Rattle.std.specs.Prelude.{ℕ, ◌≤◌, ◌<◌, ◌+◌, ◌^◌, length};
 ghost use Rattle.locus_ids.specs.Sizes.{content_bytes_max};
 ghost use Rattle.disk_model.specs.Disk.{IsSettled};
 ghost use Rattle.disk_model.specs.ScriptDisk.{seen, moment};
@@ -11,23 +11,24 @@ use disk_model::{Disk, Leave, RecordDisk, ScriptDisk};
 use inode_pack::{NewVersion, Pack};
 use locus_ids::{Bytes, Ino, Kind, SiteId, Sites, Stamp};
 use pack_layout::page_at;
+use pack_slots::format;
 use std::alloc::Global;
-use std::test::Fail;
+use std::process::Abort;
 use version_vector::Vector;
 
 pub const BASE: u32 = 1_024;
 
 /// The length of a disk with one pack. It has no contract, so that no proof spells out so many zeros.
 pub fn disk_length() -> u32 {
-    4_196_352
+    5_310_464
 }
 
-pub fn first_site() -> Result<SiteId, &'static str> {
-    SiteId::new(1).ok_or("no site")
+pub fn first_site<R: Abort>(rt: &R) -> SiteId {
+    SiteId::new(1).expect(rt, "no site")
 }
 
-pub fn second_inode() -> Result<Ino, &'static str> {
-    Ino::new(2).ok_or("no inode")
+pub fn second_inode<R: Abort>(rt: &R) -> Ino {
+    Ino::new(2).expect(rt, "no inode")
 }
 
 /// A version of a file that nobody has changed yet. It may have any content.
@@ -44,88 +45,129 @@ pub fn unchanged_file(set: Sites) -> NewVersion
     }
 }
 
+/// A disk of zeros with room for one pack.
+pub fn new_disk<R: Abort>(rt: &R, alloc: Global) -> ScriptDisk {
+    ScriptDisk::new(alloc, disk_length()).expect(rt, "no memory")
+}
+
+/// A disk with room for one pack that keeps so many calls and so many written bytes.
+pub fn new_record<R: Abort>(rt: &R, alloc: Global, calls: u32, bytes: u32) -> RecordDisk {
+    RecordDisk::new(alloc, disk_length(), calls, bytes).expect(rt, "no memory")
+}
+
+/// A new pack of group 0.
+pub fn new_pack<R: Abort>(rt: &R, alloc: Global, disk: &mut ScriptDisk) -> Pack
+    ensures { Stands result (moment disk.new) }
+{
+    let site = first_site(rt);
+    settle(rt, disk);
+    assert!(rt; Sites(1).has(site));
+    format(disk, BASE, 0, site, Sites(1)).expect(rt, "a fault");
+    settle(rt, disk);
+    Pack::mount(alloc, disk, BASE, 0, site).expect(rt, "no pack")
+}
+
 /// Adopts a version of an inode.
-pub fn adopt<D: Disk>(pack: &mut Pack, disk: &mut D, ino: Ino, content: &Bytes) -> Result<(), Fail>
+pub fn adopt<D: Disk, R: Abort>(rt: &R, pack: &mut Pack, disk: &mut D, ino: Ino, content: &Bytes)
     requires stands { Stands pack.old (D.moment disk.old) }
     requires size { length content.now ≤ content_bytes_max }
-    ensures stands { OnOk result (Stands pack.new (D.moment disk.new)) }
+    ensures stands { Stands pack.new (D.moment disk.new) }
 {
-    pack.adopt(disk, ino, &unchanged_file(Sites(1)), content)?;
-    Ok(())
+    pack.adopt(disk, ino, &unchanged_file(Sites(1)), content)
+        .expect(rt, "not adopted");
 }
 
 /// A content of a page and a half, and the same byte everywhere.
-pub fn page_and_half(alloc: Global, byte: u8) -> Result<Bytes, Fail>
-    ensures { IfOk result (λ content. length content ≤ content_bytes_max) }
+pub fn page_and_half<R: Abort>(rt: &R, alloc: Global, byte: u8) -> Bytes
+    ensures { length result ≤ content_bytes_max }
 {
-    Ok(Bytes::from_slice(alloc, &[byte; 1_536])?)
+    Bytes::from_slice(alloc, &[byte; 1_536]).expect(rt, "no memory")
 }
 
-/// Commits a content over a version that is as long or longer. Only its first page is written.
-pub fn commit_first_page<D: Disk>(
+/// Commits a content over the version of inode 2, which is as long or longer. Only the marked pages are written.
+pub fn commit<D: Disk, R: Abort>(
+    rt: &R,
     pack: &mut Pack,
     disk: &mut D,
-    ino: Ino,
     content: &[u8],
-) -> Result<(), Fail>
+    marks: &[bool; 1_084],
+)
     requires stands { Stands pack.old (D.moment disk.old) }
     requires size { length content.now ≤ content_bytes_max }
-    ensures stands { OnOk result (Stands pack.new (D.moment disk.new)) }
+    ensures stands { Stands pack.new (D.moment disk.new) }
 {
-    let Some(slot) = pack.copy(ino.get()) else {
-        return Err("no version")?;
-    };
-    if (slot.size as usize) < content.len() {
-        return Err("a shorter version")?;
-    }
-    let mut marks = [false; 64];
+    let ino = second_inode(rt);
+    let slot = pack.copy(ino.get()).expect(rt, "no version");
+    assert!(rt; slot.size as usize >= content.len());
+    pack.commit(disk, ino, &unchanged_file(Sites(1)), content, marks)
+        .expect(rt, "not committed");
+}
+
+/// Commits a content of which the first page alone is written.
+pub fn commit_first_page<D: Disk, R: Abort>(rt: &R, pack: &mut Pack, disk: &mut D, content: &[u8])
+    requires stands { Stands pack.old (D.moment disk.old) }
+    requires size { length content.now ≤ content_bytes_max }
+    ensures stands { Stands pack.new (D.moment disk.new) }
+{
+    let mut marks = [false; 1_084];
     marks[0] = true;
-    pack.commit(disk, ino, &unchanged_file(Sites(1)), content, &marks)?;
-    Ok(())
+    commit(rt, pack, disk, content, &marks);
 }
 
 /// The disk that a crash at this moment leaves.
-pub fn crashed(
+pub fn crashed<R: Abort>(
+    rt: &R,
     alloc: Global,
     record: &RecordDisk,
     calls: usize,
     leave: Leave,
-) -> Result<ScriptDisk, Fail> {
-    let mut disk = ScriptDisk::new(alloc, disk_length())?;
-    if calls > record.calls() || disk.len() != record.len() {
-        return Err("no such call")?;
-    }
-    record.replay(calls, &mut disk)?;
+) -> ScriptDisk {
+    let mut disk = new_disk(rt, alloc);
+    assert!(rt; calls <= record.calls());
+    assert!(rt; disk.len() == record.len());
+    record.replay(calls, &mut disk).expect(rt, "a fault");
     disk.crash(leave);
-    Ok(disk)
+    disk
 }
 
 /// Makes all durable, so that a pack may be mounted.
-pub fn settle(disk: &mut ScriptDisk) -> Result<(), Fail>
-    ensures area { OnOk result (1024 + area_length ≤ length (seen disk.new)) }
-    ensures settled { OnOk result (IsSettled (moment disk.new)) }
+pub fn settle<R: Abort>(rt: &R, disk: &mut ScriptDisk)
+    ensures area { 1024 + area_length ≤ length (seen disk.new) }
+    ensures settled { IsSettled (moment disk.new) }
 {
-    disk.sync()?;
-    if disk.len() < 4_196_352 {
-        return Err("a short disk")?;
-    }
-    Ok(())
+    disk.sync().expect(rt, "a fault");
+    assert!(rt; disk.len() >= 5_310_464);
+}
+
+/// Where a byte of a data page stands.
+pub fn page_place<R: Abort>(rt: &R, page: u16, at: u32) -> u32 {
+    assert!(rt; page < 3_072);
+    assert!(rt; at < 1_024);
+    page_at(BASE, page) + at
 }
 
 /// A byte of the disk.
-pub fn byte_at(disk: &mut ScriptDisk, at: u32) -> Result<u8, Fail> {
+pub fn byte_at<R: Abort>(rt: &R, disk: &mut ScriptDisk, at: u32) -> u8 {
     let mut byte = [0];
-    if at >= disk.len() {
-        return Err("no such byte")?;
-    }
-    disk.read(at, &mut byte)?;
-    Ok(byte[0])
+    assert!(rt; at < disk.len());
+    disk.read(at, &mut byte).expect(rt, "a fault");
+    byte[0]
 }
 
-/// A byte of a data page.
-pub fn page_byte(disk: &mut ScriptDisk, page: u16, at: u32) -> Result<u8, Fail> {
-    if page >= 3_072 || at >= 1_024 {
-        return Err("no such page")?;
+/// The bytes at these places of the disk that a crash at this moment leaves, with torn bytes new.
+pub fn bytes_after<R: Abort>(
+    rt: &R,
+    alloc: Global,
+    record: &RecordDisk,
+    calls: usize,
+    places: &[u32],
+) -> Vec<u8> {
+    let mut disk = crashed(rt, alloc, record, calls, Leave::New);
+    let mut found = Vec::new(alloc);
+    for at in places {
+        found
+            .push(byte_at(rt, &mut disk, *at))
+            .expect(rt, "no memory");
     }
-    byte_at(disk, page_at(BASE, page) + at)
+    found
 }

@@ -1,35 +1,43 @@
-ghost use Rattle.std.specs.Prelude.{◌≡◌, ◌<◌, ℕ, length, slice_index_or, IfOk};
+ghost use Rattle.std.specs.Prelude.{◌≡◌, ◌<◌, ℕ, length, slice_index_or};
 ghost use Rattle.shadow_pages.specs.declared.base_page.BasePage.{BasePage};
 
+use crate::checks::holds;
 use locus_ids::{Bytes, ItemList};
 use shadow_pages::{BasePage, PageList, Shadow, ShadowFault};
 use std::alloc::Global;
-use std::test::Fail;
+use std::process::Abort;
 
 /// A base of ten bytes, whose one page is handed.
-fn ten_bytes(alloc: Global) -> Result<PageList, Fail>
-    ensures { IfOk result (λ base. (j : ℕ) × (j < length base) × ((d : BasePage) → (slice_index_or base j d).page ≡ 0)) }
+fn ten_bytes<R: Abort>(rt: &R, alloc: Global) -> PageList
+    ensures { (j : ℕ) × (j < length result) × ((d : BasePage) → (slice_index_or result j d).page ≡ 0) }
 {
     let mut pages = ItemList::new(alloc);
-    let bytes = Bytes::from_slice(alloc, &[7; 10])?;
-    pages.push(BasePage { page: 0, bytes })?;
-    Ok(pages)
+    let bytes = Bytes::from_slice(alloc, &[7; 10]).expect(rt, "no memory");
+    pages
+        .push(BasePage { page: 0, bytes })
+        .expect(rt, "no memory");
+    pages
 }
 
-/// Writes over a content of one page, which is handed.
+/// A content of ten bytes, of which no page is changed.
+fn unchanged<R: Abort>(rt: &R, alloc: Global) -> Shadow {
+    Shadow::new(alloc, 10).expect(rt, "no memory")
+}
+
+/// Writes over a content of one page, which is handed; nothing where it has more.
 fn write(
     shadow: &mut Shadow,
     at: u32,
     bytes: &[u8; 3],
     base: &PageList,
     free: u16,
-) -> Result<Result<(), ShadowFault>, Fail>
+) -> Option<Result<(), ShadowFault>>
     requires { (j : ℕ) × (j < length base.now) × ((d : BasePage) → (slice_index_or base.now j d).page ≡ 0) }
 {
     if shadow.size() > 1_024 || at > 2_000 {
-        return Err("more than one page")?;
+        return None;
     }
-    Ok(shadow.write(at, bytes, base, free))
+    Some(shadow.write(at, bytes, base, free))
 }
 
 /// Four bytes of a page from a place on; none where it is unchanged.
@@ -53,52 +61,68 @@ fn shape(shadow: &Shadow) -> [u32; 4] {
 }
 
 #[test]
-fn a_write_changes_the_pages_that_it_meets(rt: HostRuntime) -> Result<(), Fail> {
-    let base = ten_bytes(rt.alloc())?;
-    let mut shadow = Shadow::new(rt.alloc(), 10)?;
-    assert!(rt; shape(&shadow) == [10, 0, 0, 0]);
-    assert!(rt; part(&shadow, 0, 0) == None);
-    write(&mut shadow, 8, &[9, 8, 6], &base, 1)??;
-    assert!(rt; shape(&shadow) == [11, 1, 0, 1]);
-    assert!(rt; part(&shadow, 0, 6) == Some([7, 7, 9, 8]));
-    assert!(rt; part(&shadow, 0, 9) == Some([8, 6, 0, 0]));
+fn a_write_changes_the_pages_that_it_meets(rt: HostRuntime) {
+    let base = ten_bytes(&rt, rt.alloc());
+    let mut shadow = unchanged(&rt, rt.alloc());
+    holds(&rt, shape(&shadow) == [10, 0, 0, 0]);
+    holds(&rt, part(&shadow, 0, 0) == None);
+    holds(
+        &rt,
+        write(&mut shadow, 8, &[9, 8, 6], &base, 1) == Some(Ok(())),
+    );
+    holds(&rt, shape(&shadow) == [11, 1, 0, 1]);
+    holds(&rt, part(&shadow, 0, 6) == Some([7, 7, 9, 8]));
+    holds(&rt, part(&shadow, 0, 9) == Some([8, 6, 0, 0]));
     shadow.drop_all(5);
-    assert!(rt; shape(&shadow) == [5, 0, 0, 0]);
-    Ok(())
+    holds(&rt, shape(&shadow) == [5, 0, 0, 0]);
 }
 
 #[test]
-fn a_gap_is_filled_with_zeros_and_changes_the_last_page(rt: HostRuntime) -> Result<(), Fail> {
-    let base = ten_bytes(rt.alloc())?;
-    let mut shadow = Shadow::new(rt.alloc(), 10)?;
-    assert!(rt;
+fn a_gap_is_filled_with_zeros_and_changes_the_last_page(rt: HostRuntime) {
+    let base = ten_bytes(&rt, rt.alloc());
+    let mut shadow = unchanged(&rt, rt.alloc());
+    holds(
+        &rt,
         [
             shadow.needed(2_000, 1),
             shadow.needed(3, 4),
-            shadow.needed(1_020, 9)
-        ] == [2, 1, 2]
+            shadow.needed(1_020, 9),
+        ] == [2, 1, 2],
     );
-    let refused = write(&mut shadow, 1_500, &[9, 8, 6], &base, 1)?;
-    assert!(rt; refused == Err(ShadowFault::NoSpace { needed: 2, free: 1 }));
-    assert!(rt; shape(&shadow) == [10, 0, 0, 0]);
-    write(&mut shadow, 1_500, &[9, 8, 6], &base, 2)??;
-    assert!(rt; shape(&shadow) == [1_503, 2, 0, 2]);
-    assert!(rt; part(&shadow, 0, 8) == Some([7, 7, 0, 0]));
-    assert!(rt; part(&shadow, 1, 475) == Some([0, 9, 8, 6]));
-    Ok(())
+    let refused = write(&mut shadow, 1_500, &[9, 8, 6], &base, 1);
+    holds(
+        &rt,
+        refused == Some(Err(ShadowFault::NoSpace { needed: 2, free: 1 })),
+    );
+    holds(&rt, shape(&shadow) == [10, 0, 0, 0]);
+    holds(
+        &rt,
+        write(&mut shadow, 1_500, &[9, 8, 6], &base, 2) == Some(Ok(())),
+    );
+    holds(&rt, shape(&shadow) == [1_503, 2, 0, 2]);
+    holds(&rt, part(&shadow, 0, 8) == Some([7, 7, 0, 0]));
+    holds(&rt, part(&shadow, 1, 475) == Some([0, 9, 8, 6]));
 }
 
 #[test]
-fn what_a_cut_took_is_zeros_once_the_content_grows_again(rt: HostRuntime) -> Result<(), Fail> {
-    let base = ten_bytes(rt.alloc())?;
-    let mut shadow = Shadow::new(rt.alloc(), 10)?;
-    write(&mut shadow, 1_022, &[9, 8, 6], &base, 2)??;
+fn what_a_cut_took_is_zeros_once_the_content_grows_again(rt: HostRuntime) {
+    let base = ten_bytes(&rt, rt.alloc());
+    let mut shadow = unchanged(&rt, rt.alloc());
+    holds(
+        &rt,
+        write(&mut shadow, 1_022, &[9, 8, 6], &base, 2) == Some(Ok(())),
+    );
     shadow.cut(1_023);
-    assert!(rt; shadow.size() == 1_023);
-    assert!(rt; [part(&shadow, 0, 1_020), part(&shadow, 1, 0)] == [Some([0, 0, 9, 0]), None]);
+    holds(&rt, shadow.size() == 1_023);
+    holds(
+        &rt,
+        [part(&shadow, 0, 1_020), part(&shadow, 1, 0)] == [Some([0, 0, 9, 0]), None],
+    );
     shadow.cut(4);
-    write(&mut shadow, 6, &[1, 1, 1], &base, 0)??;
-    assert!(rt; part(&shadow, 0, 2) == Some([7, 7, 0, 0]));
-    assert!(rt; part(&shadow, 0, 6) == Some([1, 1, 1, 0]));
-    Ok(())
+    holds(
+        &rt,
+        write(&mut shadow, 6, &[1, 1, 1], &base, 0) == Some(Ok(())),
+    );
+    holds(&rt, part(&shadow, 0, 2) == Some([7, 7, 0, 0]));
+    holds(&rt, part(&shadow, 0, 6) == Some([1, 1, 1, 0]));
 }

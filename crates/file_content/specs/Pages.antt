@@ -1,8 +1,8 @@
 -- The pages of a content, of 1,024 bytes each, numbered from 0. The last one may be shorter.
-use Rattle.std.specs.Prelude.{ℕ, zero, suc, ◌+◌, ◌-◌, ◌*◌, ◌/◌, ◌==◌, min, Bool, true, false, not, cond, nat_lt, nat_le, List, [], ◌∷◌, ◌++◌, length, filter}
+use Rattle.std.specs.Prelude.{ℕ, zero, suc, ◌+◌, ◌-◌, ◌*◌, ◌/◌, ◌==◌, min, Bool, true, false, not, ◌&&◌, ◌||◌, cond, nat_lt, nat_le, List, [], ◌∷◌, ◌++◌, length, filter}
 use Rattle.std.specs.List.{list_any}
 use Rattle.std.specs.Str.{bytes_eq}
-use Rattle.locus_ids.specs.Sizes.{page_bytes}
+use Rattle.locus_ids.specs.Sizes.{page_bytes, slot_pages, table_pages, content_tables_max}
 use Rattle.file_content.specs.Contents.{part}
 
 -- how many pages so many bytes take
@@ -69,7 +69,31 @@ abbrev pub ascending : List ℕ → List ℕ
 ascending [] = []
 ascending (page ∷ pages) = placed page (ascending pages)
 
+-- Page numbers stand in a slot as far as it has room, and else in tables.
+
+-- under which table a page stands that the slot doesn't name
+abbrev pub table_of : ℕ → ℕ
+table_of page = (page - slot_pages) / table_pages
+
+-- the table has the number of this page
+abbrev pub is_under : ℕ → ℕ → Bool
+is_under table page = nat_le slot_pages page && (table_of page == table)
+
+-- how many pages of a content with so many stand under a table
+abbrev pub pages_under : (table pages : ℕ) → ℕ
+pages_under table pages = min table_pages (pages - (slot_pages + table_pages * table))
+
+-- how many tables a content has with so many pages
+abbrev pub tables_of : ℕ → ℕ
+tables_of pages = (pages - slot_pages + (table_pages - 1)) / table_pages
+
+-- a table is written anew exactly where the version has pages under it, and other ones than before: one of them is written,
+-- or they are more or fewer
+abbrev pub is_table_written : (before now : ℕ) → (pages : List ℕ) → ℕ → Bool
+is_table_written before now pages table =
+    nat_lt 0 (pages_under table now) && (not (pages_under table before == pages_under table now) || list_any (is_under table) pages)
+
 -- The tables of page numbers that a version writes, where the version before it had so many pages (0 where there is none), it
--- has so many itself, and these of them are written. There is none: the page numbers of the longest content fit its slot.
+-- has so many itself, and these of them are written.
 abbrev pub tables_written : (before now : ℕ) → List ℕ → List ℕ
-tables_written before now pages = []
+tables_written before now pages = filter (is_table_written before now pages) (pages_from 0 content_tables_max)

@@ -15,8 +15,8 @@ abbrev pub gate_left : Cut → Bool → Bool → Bool → Bool
 gate_left (Stops leave) writing was to = left_open was to leave
 gate_left Fails writing was to = cond writing was to
 
--- the new gate is open where so many calls have passed before the one that was cut off: the pages and what stands behind the
--- gate are written and synced first
+-- The new gate is open where so many calls have passed before the one that was cut off. What stands behind the gate and the
+-- blocks that it names, which `pages` counts (data pages, and tables too), are written and synced first.
 abbrev pub new_gate : ℕ → Cut → ℕ → Bool
 new_gate pages how passed =
     cond (nat_lt passed (pages + 2)) false (cond (nat_lt passed (pages + 4)) (gate_left how (passed == pages + 2) false true) true)

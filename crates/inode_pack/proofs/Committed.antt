@@ -27,9 +27,9 @@ use Rattle.stored_versions.specs.declared.new_version.NewVersion.{NewVersion}
 use Rattle.inode_pack.specs.declared.pack_fault.PackFault.{PackFault}
 use Rattle.inode_pack.specs.declared.pack_fault.PackFault.TheVariants.{Disk, NoSpace}
 use Rattle.inode_pack.specs.Pack.{PackState, number_in, Shows}
-use Rattle.pack_slots.specs.Copies.{copy_of, ShowsCopy, AreCopies}
-use Rattle.inode_pack.specs.Committing.{Makes, MayBeLeft, HoldsPages, with_copy, is_changed, is_free, needed, new_version, next_half}
-use Rattle.inode_pack.specs.PagePieces.{piece_at, page_pieces, pieces_of}
+use Rattle.pack_slots.specs.Copies.{numbers_in, copy_of, ShowsCopy, AreCopies}
+use Rattle.inode_pack.specs.Committing.{Makes, MayBeLeft, HoldsPages, with_copy, is_changed, is_free, is_free_table, tables_over, blocks_over, new_version, next_half}
+use Rattle.inode_pack.specs.PagePieces.{piece_at, page_pieces, table_pieces, block_pieces, pieces_of}
 use Rattle.inode_pack.proofs.Setup.{Setup}
 use Rattle.inode_pack.proofs.Making.{pieces, may_replace, copy_says, changed_byte, gate_torn, long_pieces, number_below}
 use Rattle.inode_pack.proofs.NewContent.{version_made}
@@ -38,7 +38,8 @@ use Rattle.gate_switch.specs.Gates.{new_gate}
 use Rattle.inode_switch.specs.Cutting.{IsViewBy, IsCutReplacing}
 use Rattle.inode_pack.specs.Cutting.{IsCutCommit}
 use Rattle.inode_pack.proofs.CutCommit.{cut_both}
-use Rattle.inode_pack.proofs.Leaving.{stage_sound, shows_sound, switched_shows}
+use Rattle.inode_pack.proofs.Leaving.{stage_kept, shows_kept, switched_shows}
+use Rattle.inode_pack.proofs.TablePlacing.{length-tables}
 
 -- a piece for each changed page
 one_piece : (at : ℕ) (o : Option (List ℕ)) → length (piece_at at o) ≡ (if is_some o then 1 else 0)
@@ -54,7 +55,9 @@ length-pages base numbers w (suc n) =
 
 -- before the first call
 pub left_at_start : (pack : PackState) (ino : ℕ) (made : Version) (old : List ℕ) → AreCopies pack.copies → Shows pack old → MayBeLeft pack ino made old old
-left_at_start pack ino made old are shows = record { view = inl (λ i low high. refl); sound = shows_sound pack old are shows; outside = torn_same pack.base 4195328 old }
+left_at_start pack ino made old are shows =
+    let kept = shows_kept pack old are shows in
+    record { view = inl (λ i low high. refl); sound = kept.sound; tables = kept.tables; outside = torn_same pack.base 5309440 old }
 
 module _ (pack : PackState) (ino : ℕ) (w : Working) (made : InodeCopy) (s : Setup pack ino w made) (old : List ℕ) (shows : Shows pack old) where
   abbrev gate : ℕ
@@ -63,39 +66,49 @@ module _ (pack : PackState) (ino : ℕ) (w : Working) (made : InodeCopy) (s : Se
   abbrev other : ℕ
   other = slot_at pack.base ino (other_half made.half)
 
-  pub same_pieces : pieces_of pack.base made w ≡ pieces pack ino w made s
-  same_pieces = ap (λ (i : ℕ). page_pieces pack.base made.slot.pages w (pages_of w.size) ++ record { at = slot_at pack.base i made.half + 1; bytes = drop 1 (slot_bytes made.slot) } ∷ []) s.own
+  pub same_pieces : (tables : List ℕ) → tables ≡ tables_over (copy_of pack.copies ino) w → pieces_of pack.base made tables w ≡ pieces pack ino w made s
+  same_pieces tables e =
+      ap (λ (ks : List ℕ). pieces_of pack.base made ks w) e
+      ∙ ap (λ (i : ℕ). block_pieces pack.base made (tables_over (copy_of pack.copies ino) w) w ++ record { at = slot_at pack.base i made.half + 1; bytes = drop 1 (slot_bytes made.slot) } ∷ []) s.own
 
   other_open : (o : Option InodeCopy) → o ≡ copy_of pack.copies ino → made.half ≡ next_half o → ShowsCopy pack.base ino old o → is_some o ≡ is_open old other
-  other_open None e half shown = sym (shown (other_half made.half))
+  other_open None e half shown = sym (shown.0 (other_half made.half))
   other_open (Some copy) e half shown =
       let f : other_half made.half ≡ copy.half = ap other_half half ∙ other_twice copy.half in
-      sym (ap (λ (one : Half). is_open old (slot_at pack.base ino one)) f ∙ (copy_says pack ino w made s old shows ino copy.half copy (sym e) shown.bytes).open_gate)
+      sym (ap (λ (one : Half). is_open old (slot_at pack.base ino one)) f ∙ (copy_says pack ino w made s old shows ino copy.half copy (sym e) shown.0.bytes).open_gate)
 
   -- the other slot is open where the inode has a copy
   pub closes_is : is_some (copy_of pack.copies ino) ≡ is_open old other
   closes_is = other_open (copy_of pack.copies ino) refl s.place (shows.copies ino s.low s.high)
 
-  pub stage_left : (version : NewVersion) → Makes (is_free pack.copies) (copy_of pack.copies ino) ino version w made
+  pub stage_left : (version : NewVersion) → Makes (is_free pack.copies) (is_free_table pack.copies) (copy_of pack.copies ino) ino version w made
       → (c : List ℕ) → IsStage (pieces pack ino w made s) gate (closing pack.base ino made.half old) old c → MayBeLeft pack ino (new_version pack.base ino version w old) old c
   stage_left version makes c stage =
       let may = may_replace pack ino w made s old shows in
+      let kept = stage_kept pack ino w made s old shows c stage in
       record {
         view = subst (λ (v : Version). IsOldOrNew pack.base ino v old c) (version_made pack ino w made s old shows version makes) (stage_view pack.base ino made.half (pieces pack ino w made s) old may c stage);
-        sound = stage_sound pack ino w made s old shows c stage;
+        sound = kept.sound;
+        tables = kept.tables;
         outside = stage_in_area pack.base ino made.half (pieces pack ino w made s) old may c stage;
       }
 
-  calls : (b : Bool) (n : ℕ) → n ≡ needed w → (let o : Option ℕ = if b then Some other else None in calls_of (pieces pack ino w made s) o) ≡ n + (if b then 6 else 4)
-  calls true n e = let l = length-pages pack.base made.slot.pages w (pages_of w.size) in omega (arith, length-append (page_pieces pack.base made.slot.pages w (pages_of w.size)) (record { at = gate + 1; bytes = drop 1 (slot_bytes made.slot) } ∷ []))
-  calls false n e = let l = length-pages pack.base made.slot.pages w (pages_of w.size) in omega (arith, length-append (page_pieces pack.base made.slot.pages w (pages_of w.size)) (record { at = gate + 1; bytes = drop 1 (slot_bytes made.slot) } ∷ []))
+  pub pieces_count : length (pieces pack ino w made s) ≡ blocks_over (copy_of pack.copies ino) w + 1
+  pieces_count =
+      let pages = page_pieces pack.base (numbers_in made) w (pages_of w.size) in
+      let ks = tables_over (copy_of pack.copies ino) w in
+      let tables = table_pieces pack.base made ks in
+      let changed = length-pages pack.base (numbers_in made) w (pages_of w.size) in
+      let written = length-tables pack.base made ks in
+      omega (arith, changed, written, length-append (pages ++ tables) (record { at = gate + 1; bytes = drop 1 (slot_bytes made.slot) } ∷ []), length-append pages tables)
 
-  pub pieces_count : length (pieces pack ino w made s) ≡ needed w + 1
-  pieces_count = let l = length-pages pack.base made.slot.pages w (pages_of w.size) in omega (arith, length-append (page_pieces pack.base made.slot.pages w (pages_of w.size)) (record { at = gate + 1; bytes = drop 1 (slot_bytes made.slot) } ∷ []))
+  calls : (b : Bool) → (let o : Option ℕ = if b then Some other else None in calls_of (pieces pack ino w made s) o) ≡ blocks_over (copy_of pack.copies ino) w + (if b then 6 else 4)
+  calls true = let count = pieces_count in omega arith
+  calls false = let count = pieces_count in omega arith
 
   -- how many calls that makes
-  pub calls_are : calls_of (pieces pack ino w made s) (closing pack.base ino made.half old) ≡ needed w + (if is_some (copy_of pack.copies ino) then 6 else 4)
-  calls_are = calls (is_open old other) (needed w) refl ∙ ap (λ (b : Bool). needed w + (if b then 6 else 4)) (sym closes_is)
+  pub calls_are : calls_of (pieces pack ino w made s) (closing pack.base ino made.half old) ≡ blocks_over (copy_of pack.copies ino) w + (if is_some (copy_of pack.copies ino) then 6 else 4)
+  calls_are = calls (is_open old other) ∙ ap (λ (b : Bool). blocks_over (copy_of pack.copies ino) w + (if b then 6 else 4)) (sym closes_is)
 
   abbrev new : List ℕ
   new = made_bytes pack.base ino made.half (pieces pack ino w made s) old
@@ -122,7 +135,7 @@ module _ (pack : PackState) (ino : ℕ) (w : Working) (made : InodeCopy) (s : Se
       → bytes_at (switched (pieces pack ino w made s) gate (closing pack.base ino made.half old) old) (page_at pack.base (number_in (copy_of (with_copy pack ino made).copies ino) i)) page_bytes ≡ page
   page_stands i page lt known =
       let is = own_copy pack.copies ino (Some made) s.low (let count = s.are.count in let high = s.high in omega arith) in
-      let n = get_or made.slot.pages i 0 in
+      let n = get_or (numbers_in made) i 0 in
       let full = s.whole i page lt known in
       let b = is_open old other in
       let long = long_closed b in
@@ -135,9 +148,10 @@ module _ (pack : PackState) (ino : ℕ) (w : Working) (made : InodeCopy) (s : Se
       (λ k less. after_close b n k ∙ changed_byte pack ino w made s old shows i k page lt known (omega arith))
 
 -- with the base and the pieces as the switch was given them
-module _ (pack : PackState) (ino : ℕ) (w : Working) (made : InodeCopy) (s : Setup pack ino w made) (old : List ℕ) (shows : Shows pack old) (base : ℕ) (given : List Piece) (at : base ≡ pack.base) (are : given ≡ pieces_of pack.base made w) where
+module _ (pack : PackState) (ino : ℕ) (w : Working) (made : InodeCopy) (s : Setup pack ino w made) (old : List ℕ) (shows : Shows pack old) (base : ℕ) (given : List Piece) (tables : List ℕ) (at : base ≡ pack.base) (are : given ≡ pieces_of pack.base made tables w)
+    (over : tables ≡ tables_over (copy_of pack.copies ino) w) where
   same : given ≡ pieces pack ino w made s
-  same = are ∙ same_pieces pack ino w made s old shows
+  same = are ∙ same_pieces pack ino w made s old shows tables over
 
   -- a fact of the one is a fact of the other
   moved : (P : ℕ → List Piece → Type 0) → P pack.base (pieces pack ino w made s) → P base given
@@ -152,13 +166,13 @@ module _ (pack : PackState) (ino : ℕ) (w : Working) (made : InodeCopy) (s : Se
   pub given_closes : (closes : Bool) → closes ≡ is_some (copy_of pack.copies ino) → closes ≡ is_open old (slot_at base ino (other_half made.half))
   given_closes closes is = is ∙ moved (λ b l. is_some (copy_of pack.copies ino) ≡ is_open old (slot_at b ino (other_half made.half))) (closes_is pack ino w made s old shows)
 
-  pub given_left : (version : NewVersion) → Makes (is_free pack.copies) (copy_of pack.copies ino) ino version w made
+  pub given_left : (version : NewVersion) → Makes (is_free pack.copies) (is_free_table pack.copies) (copy_of pack.copies ino) ino version w made
       → (c : List ℕ) → IsStage given (slot_at base ino made.half) (closing base ino made.half old) old c → MayBeLeft pack ino (new_version pack.base ino version w old) old c
   given_left version makes c stage =
       stage_left pack ino w made s old shows version makes c (back (λ b l. IsStage l (slot_at b ino made.half) (closing b ino made.half old) old c) stage)
 
-  pub given_calls : calls_of given (closing base ino made.half old) ≡ needed w + (if is_some (copy_of pack.copies ino) then 6 else 4)
-  given_calls = moved (λ b l. calls_of l (closing b ino made.half old) ≡ needed w + (if is_some (copy_of pack.copies ino) then 6 else 4)) (calls_are pack ino w made s old shows)
+  pub given_calls : calls_of given (closing base ino made.half old) ≡ blocks_over (copy_of pack.copies ino) w + (if is_some (copy_of pack.copies ino) then 6 else 4)
+  given_calls = moved (λ b l. calls_of l (closing b ino made.half old) ≡ blocks_over (copy_of pack.copies ino) w + (if is_some (copy_of pack.copies ino) then 6 else 4)) (calls_are pack ino w made s old shows)
 
   pub given_shows : (read : List ℕ) → read ≡ switched given (slot_at base ino made.half) (closing base ino made.half old) old → Shows (with_copy pack ino made) read
   given_shows read is =
@@ -172,25 +186,25 @@ module _ (pack : PackState) (ino : ℕ) (w : Working) (made : InodeCopy) (s : Se
       (moved (λ b l. bytes_at (switched l (slot_at b ino made.half) (closing b ino made.half old) old) (page_at pack.base (number_in (copy_of (with_copy pack ino made).copies ino) i)) page_bytes ≡ page)
       (page_stands pack ino w made s old shows i page lt known))
 
-  pub given_replaced : (version : NewVersion) → Makes (is_free pack.copies) (copy_of pack.copies ino) ino version w made
+  pub given_replaced : (version : NewVersion) → Makes (is_free pack.copies) (is_free_table pack.copies) (copy_of pack.copies ino) ino version w made
       → (read : List ℕ) → Replaced base ino (made_version base ino made.half given old) old read → Replaced pack.base ino (new_version pack.base ino version w old) old read
   given_replaced version makes read done =
       subst (λ (v : Version). Replaced pack.base ino v old read) (version_made pack ino w made s old shows version makes) (back (λ b l. Replaced b ino (made_version b ino made.half l old) old read) done)
 
-  -- a page for each that is changed, and what stands behind the gate
-  pub given_pages_are : length given ≡ needed w + 1
-  given_pages_are = moved (λ b l. length l ≡ needed w + 1) (pieces_count pack ino w made s old shows)
+  -- a piece for each page and table that is written, and what stands behind the gate
+  pub given_blocks_are : length given ≡ blocks_over (copy_of pack.copies ino) w + 1
+  given_blocks_are = moved (λ b l. length l ≡ blocks_over (copy_of pack.copies ino) w + 1) (pieces_count pack ino w made s old shows)
 
   -- what the switch left that was cut off
-  pub given_cut : (version : NewVersion) → Makes (is_free pack.copies) (copy_of pack.copies ino) ino version w made → (how : Cut) (passed : ℕ) (c : List ℕ) → MayBeLeft pack ino (new_version pack.base ino version w old) old c
-      → IsCutReplacing base ino made.half given (needed w) how passed old c → IsCutCommit pack ino (new_version pack.base ino version w old) (needed w) how passed old c
+  pub given_cut : (version : NewVersion) → Makes (is_free pack.copies) (is_free_table pack.copies) (copy_of pack.copies ino) ino version w made → (how : Cut) (passed : ℕ) (c : List ℕ) → MayBeLeft pack ino (new_version pack.base ino version w old) old c
+      → IsCutReplacing base ino made.half given (blocks_over (copy_of pack.copies ino) w) how passed old c → IsCutCommit pack ino (new_version pack.base ino version w old) (blocks_over (copy_of pack.copies ino) w) how passed old c
   given_cut version makes how passed c left cut =
       let all = pieces pack ino w made s in
-      let own = back (λ b l. IsCutReplacing b ino made.half l (needed w) how passed old c) cut in
+      let own = back (λ b l. IsCutReplacing b ino made.half l (blocks_over (copy_of pack.copies ino) w) how passed old c) cut in
       record {
         left = left;
-        view = subst (λ (v : Version). IsViewBy (new_gate (needed w) how passed) pack.base ino v old c) (version_made pack ino w made s old shows version makes) own.view;
-        both = cut_both pack ino made.half all (needed w) how passed old c s.are shows s.low s.high (closes_is pack ino w made s old shows) own;
+        view = subst (λ (v : Version). IsViewBy (new_gate (blocks_over (copy_of pack.copies ino) w) how passed) pack.base ino v old c) (version_made pack ino w made s old shows version makes) own.view;
+        both = cut_both pack ino made.half all (blocks_over (copy_of pack.copies ino) w) how passed old c s.are shows s.low s.high (closes_is pack ino w made s old shows) own;
       }
 
 -- the fault that is given on

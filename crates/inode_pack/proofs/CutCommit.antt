@@ -20,7 +20,7 @@ use Rattle.pack_slots.proofs.LosingLists.{losing_alone, losing_nowhere}
 
 -- a pack that is shown has no two open gates of an inode
 pub shows_none : (pack : PackState) (image : List ℕ) → AreCopies pack.copies → Shows pack image → (ino : ℕ) → 1 ≤ ino → ino ≤ inodes_max → has_losing_gate pack.base ino image ≡ false
-shows_none pack image are shows ino low high = found_gates pack.base ino image (copy_of pack.copies ino) false (record { says = shows.copies ino low high; own = are.own ino })
+shows_none pack image are shows ino low high = found_gates pack.base ino image (copy_of pack.copies ino) false (record { says = (shows.copies ino low high).0; own = are.own ino; tables = (shows.copies ino low high).1 })
 
 pub shows_no_losing : (pack : PackState) (image : List ℕ) → AreCopies pack.copies → Shows pack image → losing_inodes pack.base image ≡ []
 shows_no_losing pack image are shows = losing_nowhere pack.base image 1 inodes_max (λ i low high. shows_none pack image are shows i low (omega arith))

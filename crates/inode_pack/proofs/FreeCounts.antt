@@ -41,13 +41,16 @@ module _ (f : ℕ → Bool) where
       (λ (ge : suc n ≤ m). let e : suc n ≡ m = omega arith in ap (count_below f) e)
       (cases_lt m (suc n))
 
--- where no unused page is left from a number on, the others are all there are
+  -- where none passes from a number on, the others are all there are
+  pub none_passes : (from p total : ℕ) → total ≤ p → ((k : ℕ) → from ≤ k → k < p → f k ≡ false) → count_below f from < count_below f total → ⊥
+  none_passes from p total end none more = ⊎_elim
+      (λ (lt : from < total). let gap = count_gap from total (omega arith) (λ k low high. none k low (omega arith)) in absurd (omega arith))
+      (λ (ge : total ≤ from). let grows = count_grows total from ge in absurd (omega arith))
+      (cases_lt from total)
+
 pub none_left : (uses : List ℕ) (from p : ℕ) → length uses ≡ pack_pages → pack_pages ≤ p → ((k : ℕ) → from ≤ k → k < p → get_or uses k 0 ≢ 0)
     → count_below (λ k. get_or uses k 0 == 0) from < count_below (λ k. get_or uses k 0 == 0) (length uses) → ⊥
-none_left uses from p long end none more = ⊎_elim
-    (λ (lt : from < length uses). let gap = count_gap (λ (k : ℕ). get_or uses k 0 == 0) from (length uses) (omega arith) (λ k low high. ne_eqb (get_or uses k 0) 0 (none k low (omega arith))) in absurd (omega arith))
-    (λ (ge : length uses ≤ from). let grows = count_grows (λ (k : ℕ). get_or uses k 0 == 0) (length uses) from ge in absurd (omega arith))
-    (cases_lt from (length uses))
+none_left uses from p long end none more = none_passes (λ (k : ℕ). get_or uses k 0 == 0) from p (length uses) (omega arith) (λ k low high. ne_eqb (get_or uses k 0) 0 (none k low high)) more
 
 -- tests that differ at one number
 differ_once : (f g : ℕ → Bool) (x n : ℕ) → x < n → f x ≡ true → g x ≡ false → ((p : ℕ) → p ≢ x → g p ≡ f p) → count_below g n + 1 ≡ count_below f n

@@ -2,17 +2,23 @@ pub mod Committed
 pub mod Contents
 pub mod CutCommit
 pub mod FreeCounts
+pub mod TableCounts
+pub mod TablePlacing
+pub mod TableStreaming
 pub mod Leaving
 pub mod Making
 pub mod Marked
 pub mod Mounted
 pub mod NewContent
 pub mod NewCopies
+pub mod PageLists
 pub mod Passing
 pub mod Placing
+pub mod Planned
 pub mod PutPages
 pub mod Setup
 pub mod Streaming
 pub mod Taking
 pub mod Whole
+pub mod WrittenTables
 pub use Rattle.shadow_pages.proofs as of_shadow_pages

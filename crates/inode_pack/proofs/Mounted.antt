@@ -5,7 +5,7 @@ use Rattle.locus_ids.specs.Sizes.{inodes_max}
 use Rattle.pack_layout.specs.Layout.{area_length}
 use Rattle.pack_slots.specs.declared.inode_copy.InodeCopy.{InodeCopy}
 use Rattle.pack_slots.specs.declared.mount_fault.MountFault.{MountFault}
-use Rattle.pack_slots.specs.declared.mount_fault.MountFault.TheVariants.{Disk, NotAPack, BadSlot, SharedPage, NoMemory}
+use Rattle.pack_slots.specs.declared.mount_fault.MountFault.TheVariants.{Disk, NotAPack, BadSlot, SharedTable, SharedPage, NoMemory}
 use Rattle.inode_pack.specs.Pack.{PackState, Shows}
 use Rattle.pack_slots.specs.Copies.{AreCopies, IsPackOf, ShowsCopies, copy_of}
 use Rattle.pack_slots.specs.Mounting.{IsSound, IsCause, IsPassing, Recovers, KeepsPack}
@@ -15,17 +15,18 @@ use Rattle.pack_slots.proofs.SoundPack.{found_sound}
 use Rattle.gate_switch.proofs.Tearing.{torn_widens, torn_stays, bytes_below}
 
 pub keeps_itself : (base group site : ℕ) (image : List ℕ) → KeepsPack base group site image image
-keeps_itself base group site image = record { outside = torn_stays base area_length image; view = λ ino low high. refl; sound = λ is. is; order = record { n = 0; closed = λ ino low le. absurd (omega arith); others = λ ino beyond high. refl } }
+keeps_itself base group site image = record { outside = torn_stays base area_length image; view = λ ino low high. refl; sound = λ is. is; tables = λ ino half low high had. had; order = record { n = 0; closed = λ ino low le. absurd (omega arith); others = λ ino beyond high. refl } }
 
 -- the first bytes of the area stay
 pub named_still : (base group site : ℕ) (copies : List (Option InodeCopy)) (old new : List ℕ) → KeepsCopies base copies old new → IsPackOf base group site old → IsPackOf base group site new
-named_still base group site copies old new kept named = bytes_below (base + 1024) 1048576 old new kept.slots base 1024 (omega arith) ∙ named
+named_still base group site copies old new kept named = bytes_below (base + 1024) 2097152 old new kept.slots base 1024 (omega arith) ∙ named
 
 pub keeps_pack : (base group site : ℕ) (copies : List (Option InodeCopy)) (old new : List ℕ) → AreCopies copies → KeepsCopies base copies old new → KeepsPack base group site old new
 keeps_pack base group site copies old new are kept = record {
-  outside = torn_widens (base + 1024) 1048576 base area_length (omega arith) (omega arith) old new kept.slots;
+  outside = torn_widens (base + 1024) 2097152 base area_length (omega arith) (omega arith) old new kept.slots;
   view = kept.view;
   sound = λ is. found_sound base group site new copies are (named_still base group site copies old new kept is.named) kept.found;
+  tables = kept.tables;
   order = kept.order;
 }
 
@@ -42,6 +43,7 @@ no_cause : (base group site : ℕ) (image : List ℕ) (fault : MountFault) → I
 no_cause base group site image Disk sound cause = tt
 no_cause base group site image NotAPack sound cause = cause sound.named
 no_cause base group site image (BadSlot ino) sound cause = cause.1.bad (sound.inodes ino cause.1.low cause.1.high)
+no_cause base group site image (SharedTable number) sound cause = sound.tables number cause.1.shared
 no_cause base group site image (SharedPage number) sound cause = sound.pages number cause.1.shared
 no_cause base group site image NoMemory sound cause = tt
 

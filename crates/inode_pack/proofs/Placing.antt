@@ -51,7 +51,7 @@ module _ (base : ℕ) (numbers : List ℕ) (w : Working) (limit : ℕ) (whole : 
       (spared_piece (page_at base (get_or numbers n 0)) k (shadow_page w.pages n) (λ page is.
       subst (λ (m : ℕ). is_within (page_at base (get_or numbers n 0)) m k ≡ false) (sym (whole n page (omega arith) is)) (h n page (omega arith) is)))
 
-  module _ (old : List ℕ) (area : base + 4195328 ≤ length old) where
+  module _ (old : List ℕ) (area : base + 5309440 ≤ length old) where
     fits_page : (n m : ℕ) (page : List ℕ) → n < limit → m ≡ length old → shadow_page w.pages n ≡ Some page → page_at base (get_or numbers n 0) + length page ≤ m
     fits_page n m page lt long is = let number = inside n lt in let bytes = whole n page lt is in omega arith
 

@@ -9,12 +9,12 @@ use Rattle.pack_slots.specs.Cutting.{losing_inodes}
 use Rattle.inode_pack.specs.Pack.{PackState}
 use Rattle.inode_pack.specs.Committing.{MayBeLeft}
 
--- both gates of an inode are open, of which a version is written with so many pages, in the place of another or not
+-- both gates of an inode are open, of which a version is written with so many pages and tables, in the place of another or not
 abbrev pub are_both_open : Bool → ℕ → Cut → ℕ → Bool
-are_both_open replaces pages how passed = replaces && (new_gate pages how passed && old_gate pages how passed)
+are_both_open replaces blocks how passed = replaces && (new_gate blocks how passed && old_gate blocks how passed)
 
 -- What a commit or an adoption leaves that was cut off after so many calls: the new version where its gate is open.
-pub record IsCutCommit (pack : PackState) (ino : ℕ) (made : Version) (pages : ℕ) (how : Cut) (passed : ℕ) (old new : List ℕ) : Type 0 where
+pub record IsCutCommit (pack : PackState) (ino : ℕ) (made : Version) (blocks : ℕ) (how : Cut) (passed : ℕ) (old new : List ℕ) : Type 0 where
   pub left : MayBeLeft pack ino made old new
-  pub view : IsViewBy (new_gate pages how passed) pack.base ino made old new
-  pub both : losing_inodes pack.base new ≡ cond (are_both_open (is_some (copy_of pack.copies ino)) pages how passed) (ino ∷ []) []
+  pub view : IsViewBy (new_gate blocks how passed) pack.base ino made old new
+  pub both : losing_inodes pack.base new ≡ cond (are_both_open (is_some (copy_of pack.copies ino)) blocks how passed) (ino ∷ []) []

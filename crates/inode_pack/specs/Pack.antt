@@ -5,7 +5,7 @@ use Rattle.disk_model.specs.Disk.{Moment, IsSettled}
 use Rattle.file_content.specs.Pages.{pages_of}
 use Rattle.pack_layout.specs.Layout.{area_length}
 use Rattle.pack_slots.specs.declared.inode_copy.InodeCopy.{InodeCopy}
-use Rattle.pack_slots.specs.Copies.{copy_of, IsPackOf, ShowsCopies}
+use Rattle.pack_slots.specs.Copies.{copy_of, numbers_in, IsPackOf, ShowsCopies}
 
 -- where the area begins, the group and the site, and the copy of each inode from 1 on, where there is one
 pub record PackState : Type 0 where
@@ -34,7 +34,7 @@ pub record HasPage (pack : PackState) (ino page : ℕ) : Type 0 where
 -- the data page where page i of an inode's content stands; 0 where there is no copy
 abbrev pub number_in : Option InodeCopy → ℕ → ℕ
 number_in None i = 0
-number_in (Some copy) i = slice_index copy.slot.pages i
+number_in (Some copy) i = slice_index (numbers_in copy) i
 
 -- so many bytes of a page are those of the content there
 abbrev pub IsPageOf : List ℕ → ℕ → List ℕ → Type 0

@@ -7,6 +7,7 @@ mod data_pages;
 mod mount;
 mod new_content;
 mod new_pages;
+mod new_tables;
 mod next_ino;
 mod pack;
 mod pack_fault;

@@ -1,5 +1,6 @@
 // A pack is found again on a disk.
 ghost use Rattle.std.specs.Prelude.{◌≡◌, ℕ, ◌+◌, ◌≤◌, length, IfOk, IfErr, OnOk, OnErr};
+ghost use Rattle.locus_ids.specs.Sizes.{inodes_max};
 ghost use Rattle.disk_model.specs.Disk.{IsSettled, HasCause, Exactly};
 ghost use Rattle.disk_model.specs.Moments.{LeavesOnly, TellsMany};
 ghost use Rattle.pack_layout.specs.Layout.{area_length};
@@ -7,12 +8,14 @@ ghost use Rattle.pack_slots.specs.Copies.{AreCopies};
 ghost use Rattle.pack_slots.specs.Mounting.{IsSound, IsCause, IsPassing, Recovers, KeepsPack, mount_calls, disk_answer};
 ghost use Rattle.pack_slots.specs.Cutting.{IsCutMount};
 ghost use Rattle.inode_pack.specs.Pack.{Stands};
+ghost use Rattle.inode_pack.specs.Rows.{NoneAbove};
 
 use crate::Pack;
 use crate::data_pages::DataPages;
 use disk_model::Disk;
 use locus_ids::SiteId;
-use pack_slots::{MountFault, close_losing, read_pack};
+use locus_ids::sizes::INODES;
+use pack_slots::{InodeCopy, MountFault, close_losing, read_pack};
 use std::alloc::Global;
 
 impl Pack {
@@ -54,12 +57,28 @@ impl Pack {
     {
         let survey = read_pack(alloc, disk, base, group, site)?;
         close_losing(disk, base, &survey.copies, &survey.losing)?;
+        let last = last_with_copy(&survey.copies);
         Ok(Pack {
             base,
             group,
             site,
             copies: survey.copies,
+            last,
             pages: DataPages::new(survey.uses, survey.free),
         })
     }
+}
+
+/// The greatest inode with a copy, or 0.
+fn last_with_copy(copies: &[Option<InodeCopy>]) -> u16
+    requires { length copies.now ≡ inodes_max }
+    ensures { NoneAbove result copies.now }
+{
+    let mut last = 0;
+    for i in 0..INODES {
+        if copies[usize::from(i)].is_some() {
+            last = i + 1;
+        }
+    }
+    last
 }

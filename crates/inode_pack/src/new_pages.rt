@@ -1,17 +1,23 @@
 // The data pages that a new content takes.
-ghost use Rattle.std.specs.Prelude.{◌≡◌, ◌≢◌, ◌≤◌, ◌<◌, ◌==◌, ℕ, length, slice_index};
-ghost use Rattle.locus_ids.specs.Sizes.{content_bytes_max, content_pages_max, pack_pages};
+ghost use Rattle.std.specs.Prelude.{◌≡◌, ◌≢◌, ◌≤◌, ◌<◌, ◌+◌, ◌-◌, ◌==◌, ℕ, length, slice_index, slice_set, Some, OnOk, OnErr, IfOk};
+ghost use Rattle.locus_ids.specs.Sizes.{content_bytes_max, content_pages_max, slot_pages, pack_pages};
 ghost use Rattle.file_content.specs.Pages.{pages_of};
+ghost use Rattle.pack_layout.specs.Layout.{numbers_of};
 ghost use Rattle.shadow_pages.specs.Working.{count_below};
+ghost use Rattle.pack_slots.specs.declared.inode_copy.InodeCopy.{InodeCopy};
 ghost use Rattle.inode_pack.specs.PagePieces.{AreWhole};
 ghost use Rattle.inode_pack.specs.Pack.{number_in};
-ghost use Rattle.inode_pack.specs.Rows.{HasChanged, NoneBelow};
+ghost use Rattle.inode_pack.specs.Rows.{NoneBelow};
+ghost use Rattle.pack_slots.specs.Losing.{IsSlotApart};
 ghost use Rattle.inode_pack.specs.Committing.{needed, TakesPages};
 
 use crate::new_content::NewContent;
-use crate::plan::{Row, page_count};
-use locus_ids::sizes::{CONTENT_PAGES, PACK_PAGES};
+use crate::pages::page_number;
+use crate::plan::page_count;
+use locus_ids::sizes::{PACK_PAGES, SLOT_PAGES};
+use locus_ids::{ItemList, NoMemory};
 use pack_slots::InodeCopy;
+use std::alloc::Global;
 
 /// The first free data page from a number on. There is one.
 fn next_free(uses: &[u32], from: u16) -> u16
@@ -30,54 +36,74 @@ fn next_free(uses: &[u32], from: u16) -> u16
     PACK_PAGES
 }
 
-/// The data pages of a content so far; 0 where there is none.
-fn numbers_before(old: &Option<InodeCopy>) -> [u16; CONTENT_PAGES]
-    ensures { (i : ℕ) → i < content_pages_max → slice_index result i ≡ number_in old.now i }
+/// The page numbers of a content: those of its slot, and those that stand in its tables.
+#[derive(Drop)]
+pub struct Numbers {
+    pub first: [u16; SLOT_PAGES],
+    pub more: ItemList<u16>,
+}
+
+/// The data page of a page of a content so far; 0 where there is none.
+fn number_before(old: &Option<InodeCopy>, page: u16) -> u16
+    requires old { (one : InodeCopy) → old.now ≡ Some one → IsSlotApart one }
+    requires most { page < content_pages_max }
+    ensures { result ≡ number_in old.now page }
 {
     match old {
-        Some(copy) => copy.slot.pages,
-        None => [0; CONTENT_PAGES],
+        Some(copy) => page_number(copy, page),
+        None => 0,
     }
 }
 
-/// From the end of a content on no data page is named.
-fn end_at(numbers: &mut [u16; CONTENT_PAGES], end: u16)
-    requires { end ≤ content_pages_max }
-    ensures before { (i : ℕ) → i < end → slice_index numbers.new i ≡ slice_index numbers.old i }
-    ensures rest { (i : ℕ) → end ≤ i → i < content_pages_max → slice_index numbers.new i ≡ 65535 }
+/// A page has this number, where those before it have theirs.
+fn add(numbers: &mut Numbers, page: u16, number: u16) -> Result<(), NoMemory>
+    requires most { page < content_pages_max }
+    requires front { length numbers.old.first ≡ slot_pages }
+    requires before { length numbers.old.more ≡ page - slot_pages }
+    ensures front { length numbers.new.first ≡ slot_pages }
+    ensures more { OnOk result (length numbers.new.more ≡ page + 1 - slot_pages) }
+    ensures no_memory { OnErr result (slot_pages ≤ page) }
+    ensures set { OnOk result (numbers_of numbers.new.first numbers.new.more ≡ slice_set (numbers_of numbers.old.first numbers.old.more) page number) }
 {
-    for i in end..CONTENT_PAGES as u16 {
-        numbers[usize::from(i)] = 0xFFFF;
+    let at = usize::from(page);
+    if at < SLOT_PAGES {
+        numbers.first[at] = number;
+        return Ok(());
     }
+    numbers.more.push(number)
 }
 
 /// The data pages of a new content: those that are unchanged stay, the changed ones take the least free ones.
 pub fn take_pages<C: NewContent>(
+    alloc: Global,
     uses: &[u32],
     least: u16,
-    row: Row,
     old: &Option<InodeCopy>,
     content: &C,
-) -> [u16; CONTENT_PAGES]
+) -> Result<Numbers, NoMemory>
     requires count { length uses.now ≡ pack_pages }
+    requires old { (one : InodeCopy) → old.now ≡ Some one → IsSlotApart one }
     requires least { NoneBelow least uses.now }
-    requires changed { HasChanged row.first row.stop (C.working content.now) }
-    requires ordered { row.first ≤ row.stop }
-    requires inside { row.stop ≤ pages_of (C.working content.now).size }
     requires size { (C.working content.now).size ≤ content_bytes_max }
     requires room { needed (C.working content.now) ≤ count_below (λ p. slice_index uses.now p == 0) (length uses.now) }
-    ensures takes { TakesPages (λ p. slice_index uses.now p == 0) old.now (C.working content.now) result }
-    ensures whole { AreWhole (C.working content.now) (pages_of (C.working content.now).size) }
+    ensures takes { IfOk result (λ numbers. TakesPages (λ p. slice_index uses.now p == 0) old.now (C.working content.now) (numbers_of numbers.first numbers.more)) }
+    ensures front { IfOk result (λ numbers. length numbers.first ≡ slot_pages) }
+    ensures few { IfOk result (λ numbers. slot_pages + length numbers.more ≤ content_pages_max) }
+    ensures whole { IfOk result (λ numbers. AreWhole (C.working content.now) (pages_of (C.working content.now).size)) }
+    ensures no_memory { OnErr result (slot_pages < pages_of (C.working content.now).size) }
 {
-    let mut numbers = numbers_before(old);
+    let mut numbers = Numbers {
+        first: [0xFFFF; SLOT_PAGES],
+        more: ItemList::new(alloc),
+    };
     let mut from = least;
-    for i in row.first..row.stop {
+    for i in 0..page_count(content.size()) {
+        let mut number = number_before(old, i);
         if content.is_changed(i) {
-            let found = next_free(uses, from);
-            numbers[usize::from(i)] = found;
-            from = found + 1;
+            number = next_free(uses, from);
+            from = number + 1;
         }
+        add(&mut numbers, i, number)?;
     }
-    end_at(&mut numbers, page_count(content.size()));
-    numbers
+    Ok(numbers)
 }

@@ -1,6 +1,6 @@
-ghost use Rattle.std.specs.Prelude.{◌≡◌, ◌+◌, length, IfSome};
+ghost use Rattle.std.specs.Prelude.{◌≡◌, ◌<◌, ◌≤◌, ◌+◌, ℕ, length, None, IfSome};
 ghost use Rattle.std.specs.Option.{option_copied, option_map};
-ghost use Rattle.locus_ids.specs.Sizes.{pack_pages};
+ghost use Rattle.locus_ids.specs.Sizes.{inodes_max, pack_pages};
 ghost use Rattle.pack_slots.specs.Copies.{copy_of, named_pages, IsCopy};
 
 use crate::data_pages::DataPages;
@@ -18,6 +18,8 @@ pub struct Pack {
     pub(crate) site: SiteId,
     /// The copy of each inode, that of inode 1 first.
     pub(crate) copies: Vec<Option<InodeCopy>>,
+    /// The greatest inode with a copy, or 0.
+    pub(crate) last: u16,
     /// Which data pages these name.
     pub(crate) pages: DataPages,
 }
@@ -25,12 +27,13 @@ pub struct Pack {
 impl Model for Pack {
     ghost use Rattle.inode_pack.specs.Pack.{PackState};
     ghost use Rattle.pack_slots.specs.Copies.{AreCopies, AreUses};
+    ghost use Rattle.inode_pack.specs.Rows.{NoneAbove};
 
     ghost Value = { PackState };
 
     ghost view = { λ p. record { base = p.base; group = p.group; site = p.site; copies = p.copies.items } };
 
-    ghost invariant = { λ p. AreCopies p.copies.items × AreUses p.copies.items p.pages.uses p.pages.free };
+    ghost invariant = { λ p. AreCopies p.copies.items × AreUses p.copies.items p.pages.uses p.pages.free × NoneAbove p.last p.copies.items };
 }
 
 impl Pack {
@@ -46,11 +49,30 @@ impl Pack {
         ensures value { option_copied result ≡ option_map (λ copy. copy.slot) (copy_of self.now.copies ino) }
         ensures own { IfSome (copy_of self.now.copies ino) (λ copy. IsCopy ino copy) }
     {
+        match self.inode_copy(ino) {
+            Some(copy) => Some(&copy.slot),
+            None => None,
+        }
+    }
+
+    /// A number above which no inode has a copy.
+    pub fn last_ino(&self) -> u16
+        ensures most { result ≤ inodes_max }
+        ensures none { (ino : ℕ) → result < ino → copy_of self.now.copies ino ≡ None }
+    {
+        self.last
+    }
+
+    /// The copy of an inode, as far as there is one.
+    pub(crate) fn inode_copy(&self, ino: u16) -> Option<&InodeCopy>
+        ensures value { option_copied result ≡ copy_of self.now.copies ino }
+        ensures own { IfSome (copy_of self.now.copies ino) (λ copy. IsCopy ino copy) }
+    {
         if ino == 0 {
             return None;
         }
         match self.copies.get(usize::from(ino) - 1) {
-            Some(Some(copy)) => Some(&copy.slot),
+            Some(Some(copy)) => Some(copy),
             _ => None,
         }
     }

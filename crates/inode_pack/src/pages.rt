@@ -1,17 +1,18 @@
 // The data pages of a pack.
-ghost use Rattle.std.specs.Prelude.{◌≡◌, ◌<◌, ℕ, List, Some, OnOk};
-ghost use Rattle.locus_ids.specs.Sizes.{page_bytes, pack_pages};
+ghost use Rattle.std.specs.Prelude.{◌≡◌, ◌<◌, ◌≤◌, ◌+◌, ℕ, List, length, slice_index, Some, OnOk};
+ghost use Rattle.locus_ids.specs.Sizes.{page_bytes, content_pages_max, slot_pages, pack_pages};
 ghost use Rattle.disk_model.specs.Disk.{Goes, HasCause, TellsRead};
 ghost use Rattle.disk_model.specs.Images.{bytes_at, Same};
 ghost use Rattle.pack_layout.specs.Layout.{page_at};
 ghost use Rattle.inode_switch.specs.View.{Version, view};
-ghost use Rattle.pack_slots.specs.Copies.{copy_of};
+ghost use Rattle.pack_slots.specs.Copies.{copy_of, numbers_in};
 ghost use Rattle.inode_pack.specs.Pack.{Stands, HasPage, number_in, IsPageOf};
 
 use crate::Pack;
 use disk_model::{Disk, DiskFault};
-use locus_ids::sizes::PAGE_BYTES;
+use locus_ids::sizes::{PAGE_BYTES, SLOT_PAGES};
 use pack_layout::page_at;
+use pack_slots::InodeCopy;
 
 impl Pack {
     /// Reads a page of the content of an inode's version here, from 0. Bytes of the last page past the size have no meaning.
@@ -44,9 +45,26 @@ impl Pack {
         ensures number { result ≡ number_in (copy_of self.now.copies ino) page }
         ensures inside { result < pack_pages }
     {
-        match self.copy(ino) {
-            Some(slot) => slot.pages[usize::from(page)],
+        match self.inode_copy(ino) {
+            Some(copy) => page_number(copy, page),
             None => 0,
         }
+    }
+}
+
+/// The number of a page of a copy: one of the slot, or one of those that stand in its tables, and none behind them.
+pub fn page_number(copy: &InodeCopy, page: u16) -> u16
+    requires most { page < content_pages_max }
+    requires front { length copy.now.slot.pages ≡ slot_pages }
+    requires few { slot_pages + length copy.now.more ≤ content_pages_max }
+    ensures { result ≡ slice_index (numbers_in copy.now) page }
+{
+    let page = usize::from(page);
+    if page < SLOT_PAGES {
+        return copy.slot.pages[page];
+    }
+    match copy.more.get(page - SLOT_PAGES) {
+        Some(number) => *number,
+        None => 0xFFFF,
     }
 }

@@ -1,14 +1,17 @@
 // How often each data page is named.
-ghost use Rattle.std.specs.Prelude.{◌≡◌, ◌⊎◌, ◌≤◌, ◌<◌, ◌+◌, ◌==◌, ◌^◌, ℕ, length, slice_index, Option, Some, if◌then◌else◌};
+ghost use Rattle.std.specs.Prelude.{◌≡◌, ◌⊎◌, ◌≤◌, ◌<◌, ◌+◌, ◌==◌, ◌^◌, ℕ, length, slice_index, Option, Some, None, replicate, if◌then◌else◌};
 ghost use Rattle.locus_ids.specs.Sizes.{content_pages_max, pack_pages};
 ghost use Rattle.file_content.specs.Pages.{pages_of};
-ghost use Rattle.pack_layout.specs.Layout.{IsSlot};
+ghost use Rattle.pack_layout.specs.Layout.{IsSlot, none};
 ghost use Rattle.pack_slots.specs.declared.inode_copy.InodeCopy.{InodeCopy};
-ghost use Rattle.pack_slots.specs.Copies.{pages_in, times};
-ghost use Rattle.inode_pack.specs.Rows.{SameButFor, NoneBelow};
+ghost use Rattle.pack_slots.specs.Copies.{numbers_in, pages_in, times};
+ghost use Rattle.pack_slots.specs.Losing.{IsSlotApart};
+ghost use Rattle.inode_pack.specs.Rows.{SameButFor, NoneBelow, numbers_so_far};
+ghost use Rattle.inode_pack.specs.Committing.{pages_before};
 
+use crate::pages::page_number;
 use crate::plan::{Row, page_count};
-use locus_ids::sizes::{CONTENT_PAGES, PACK_PAGES};
+use locus_ids::sizes::PACK_PAGES;
 use pack_slots::InodeCopy;
 
 /// A number is named once less, where it is a data page.
@@ -56,28 +59,42 @@ fn pass_page(uses: &mut Vec<u32>, old: u16, made: u16, least: u16) -> u16
     least.min(old)
 }
 
+/// The number of a page of a content so far: none where there is none.
+fn number_so_far(old: &Option<InodeCopy>, page: u16) -> u16
+    requires most { page < content_pages_max }
+    requires old { (one : InodeCopy) → old.now ≡ Some one → IsSlotApart one }
+    ensures { result ≡ slice_index (numbers_so_far old.now) page }
+{
+    match old {
+        Some(one) => page_number(one, page),
+        None => 0xFFFF,
+    }
+}
+
 /// The numbers of one content are named in the place of those of another one, which are the same but for a row.
 fn pass_all(
     uses: &mut Vec<u32>,
-    old: &[u16; CONTENT_PAGES],
-    made: &[u16; CONTENT_PAGES],
+    old: &Option<InodeCopy>,
+    made: &InodeCopy,
     row: Row,
     least: u16,
 ) -> u16
     requires count { length uses.old.items ≡ pack_pages }
-    requires once { (p : ℕ) → p < pack_pages → times p old.now ≤ slice_index uses.old.items p }
-    requires few { (p : ℕ) → p < pack_pages → slice_index uses.old.items p + times p made.now < 2 ^ 32 }
+    requires old { (one : InodeCopy) → old.now ≡ Some one → IsSlotApart one }
+    requires made { IsSlotApart made.now }
+    requires once { (p : ℕ) → p < pack_pages → times p (numbers_so_far old.now) ≤ slice_index uses.old.items p }
+    requires few { (p : ℕ) → p < pack_pages → slice_index uses.old.items p + times p (numbers_in made.now) < 2 ^ 32 }
     requires least { NoneBelow least uses.old.items }
     requires ordered { row.first ≤ row.stop }
     requires inside { row.stop ≤ content_pages_max }
-    requires same { SameButFor row.first row.stop old.now made.now }
+    requires same { SameButFor row.first row.stop (numbers_so_far old.now) (numbers_in made.now) }
     ensures long { length uses.new.items ≡ pack_pages }
-    ensures named { (p : ℕ) → p < pack_pages → slice_index uses.new.items p + times p old.now ≡ slice_index uses.old.items p + times p made.now }
+    ensures named { (p : ℕ) → p < pack_pages → slice_index uses.new.items p + times p (numbers_so_far old.now) ≡ slice_index uses.old.items p + times p (numbers_in made.now) }
     ensures least { NoneBelow result uses.new.items }
 {
     let mut least = least;
-    for i in usize::from(row.first)..usize::from(row.stop) {
-        least = pass_page(uses, old[i], made[i], least);
+    for i in row.first..row.stop {
+        least = pass_page(uses, number_so_far(old, i), page_number(made, i), least);
     }
     least
 }
@@ -104,14 +121,16 @@ pub fn row_to_pass(old: &Option<InodeCopy>, row: Row, end: u16) -> Row
     requires inside { row.stop ≤ content_pages_max }
     ensures ordered { result.first ≤ result.stop }
     ensures inside { result.stop ≤ content_pages_max }
-    ensures covers { (one : InodeCopy) → old.now ≡ Some one → ((result.first ≡ 0) × (result.stop ≡ content_pages_max)) ⊎ ((result.first ≡ row.first) × (result.stop ≡ row.stop) × (pages_of one.slot.size ≤ end)) }
+    ensures first { old.now ≡ None → (result.first ≡ row.first) × (result.stop ≡ row.stop) }
+    ensures covers { (one : InodeCopy) → old.now ≡ Some one → ((result.first ≡ 0) × (result.stop ≡ pages_of one.slot.size) × (end ≤ pages_of one.slot.size)) ⊎ ((result.first ≡ row.first) × (result.stop ≡ row.stop) × (pages_of one.slot.size ≤ end)) }
 {
-    if pages_named(old) <= end {
+    let named = pages_named(old);
+    if named <= end {
         row
     } else {
         Row {
             first: 0,
-            stop: CONTENT_PAGES as u16,
+            stop: named,
         }
     }
 }
@@ -120,6 +139,7 @@ pub fn row_to_pass(old: &Option<InodeCopy>, row: Row, end: u16) -> Row
 pub fn pages_named(copy: &Option<InodeCopy>) -> u16
     requires { (one : InodeCopy) → copy.now ≡ Some one → IsSlot one.slot }
     ensures number { result ≡ length (pages_in copy.now) }
+    ensures before { result ≡ pages_before copy.now }
     ensures most { result ≤ content_pages_max }
 {
     match copy {
@@ -138,29 +158,18 @@ pub fn pass_pages(
     least: u16,
 ) -> u16
     requires count { length uses.old.items ≡ pack_pages }
-    requires slot { (one : InodeCopy) → old.now ≡ Some one → IsSlot one.slot }
+    requires old { (one : InodeCopy) → old.now ≡ Some one → IsSlotApart one }
+    requires made { IsSlotApart made.now }
     requires once { (p : ℕ) → p < pack_pages → times p (pages_in old.now) ≤ slice_index uses.old.items p }
-    requires made { IsSlot made.now.slot }
-    requires few { (p : ℕ) → p < pack_pages → slice_index uses.old.items p + times p (pages_in (Some made.now)) < 2 ^ 32 }
+    requires few { (p : ℕ) → p < pack_pages → slice_index uses.old.items p + times p (numbers_in made.now) < 2 ^ 32 }
     requires least { NoneBelow least uses.old.items }
     requires ordered { row.first ≤ row.stop }
     requires inside { row.stop ≤ content_pages_max }
-    requires same { (one : InodeCopy) → old.now ≡ Some one → SameButFor row.first row.stop one.slot.pages made.now.slot.pages }
+    requires same { (one : InodeCopy) → old.now ≡ Some one → SameButFor row.first row.stop (numbers_in one) (numbers_in made.now) }
+    requires none { old.now ≡ None → SameButFor row.first row.stop (replicate content_pages_max none) (numbers_in made.now) }
     ensures long { length uses.new.items ≡ pack_pages }
-    ensures named { (p : ℕ) → p < pack_pages → slice_index uses.new.items p + times p (pages_in old.now) ≡ slice_index uses.old.items p + times p (pages_in (Some made.now)) }
+    ensures named { (p : ℕ) → p < pack_pages → slice_index uses.new.items p + times p (pages_in old.now) ≡ slice_index uses.old.items p + times p (numbers_in made.now) }
     ensures least { NoneBelow result uses.new.items }
 {
-    match old {
-        Some(one) => pass_all(uses, &one.slot.pages, &made.slot.pages, row, least),
-        None => pass_all(
-            uses,
-            &[0xFFFF; CONTENT_PAGES],
-            &made.slot.pages,
-            Row {
-                first: 0,
-                stop: CONTENT_PAGES as u16,
-            },
-            least,
-        ),
-    }
+    pass_all(uses, old, made, row, least)
 }

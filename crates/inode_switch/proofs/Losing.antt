@@ -7,13 +7,13 @@ use Rattle.locus_ids.specs.Sizes.{inodes_max}
 use Rattle.disk_model.specs.Images.{overwritten, is_within, Torn}
 use Rattle.pack_layout.specs.declared.half.Half.{Half}
 use Rattle.pack_layout.specs.declared.half.Half.TheVariants.{First, Second}
-use Rattle.pack_layout.specs.Layout.{slot_at, page_at, other_half}
+use Rattle.pack_layout.specs.Layout.{slot_at, tables_at, table_at, page_at, other_half}
 use Rattle.pack_layout.proofs.Halves.{half_most, half_sum, other_twice}
-use Rattle.inode_switch.specs.View.{is_open, turn, page, version, view, SameView}
+use Rattle.inode_switch.specs.View.{is_open, turn, table, page, version, view, SameView}
 use Rattle.inode_switch.specs.Replace.{Loses, IsNext}
 use Rattle.gate_switch.proofs.Pieces.{torn_overwritten}
 use Rattle.inode_switch.proofs.Views.{Keeps, Agrees, same_view, same_version, same_open}
-use Rattle.inode_switch.proofs.OldOrNew.{own_by, one_slot, below_pages}
+use Rattle.inode_switch.proofs.OldOrNew.{own_by, one_slot, below_tables}
 
 beside : (at k : ℕ) → k ≢ at → is_within at 1 k ≡ false
 beside at k ne = grind (arith, nat_tests)
@@ -25,18 +25,19 @@ module _ (base ino : ℕ) (half : Half) (old : List ℕ) (loses : Loses base ino
   abbrev other : ℕ
   other = slot_at base ino (other_half half)
 
-  -- a slot that keeps all its bytes and those of its pages
+  -- a slot that keeps all its bytes and those of its tables and pages
   kept : (c : List ℕ) → length c ≡ length old → (i : ℕ) (one : Half) → 1 ≤ i → i ≤ inodes_max → ((k : ℕ) → k < 512 → get_or c (slot_at base i one + k) 0 ≡ get_or old (slot_at base i one + k) 0)
-      → ((k : ℕ) → base + 1049600 ≤ k → get_or c k 0 ≡ get_or old k 0) → is_open old (slot_at base i one) ≡ true → Keeps base (slot_at base i one) old c
+      → ((k : ℕ) → base + tables_at ≤ k → get_or c k 0 ≡ get_or old k 0) → is_open old (slot_at base i one) ≡ true → Keeps base (slot_at base i one) old c
   kept c long i one low high bytes pages is = record {
     long = long;
     few = loses.few i one low high is;
     bytes = bytes;
-    pages = λ n k lt in_page. pages (page_at base (page old (slot_at base i one) n) + k) (omega arith);
+    tables = λ t k lt in_table. pages (table_at base (table old (slot_at base i one) t) + k) (omega arith);
+    pages = λ n k lt in_page. pages (page_at base (page old base (slot_at base i one) n) + k) (omega arith);
   }
 
   agrees : (c : List ℕ) → length c ≡ length old → (i : ℕ) (one : Half) → 1 ≤ i → i ≤ inodes_max → ((k : ℕ) → k < 512 → get_or c (slot_at base i one + k) 0 ≡ get_or old (slot_at base i one + k) 0)
-      → ((k : ℕ) → base + 1049600 ≤ k → get_or c k 0 ≡ get_or old k 0) → Agrees base (slot_at base i one) old c
+      → ((k : ℕ) → base + tables_at ≤ k → get_or c k 0 ≡ get_or old k 0) → Agrees base (slot_at base i one) old c
   agrees c long i one low high bytes pages = ⊎_elim
       (λ (is : is_open old (slot_at base i one) ≡ true). inr (kept c long i one low high bytes pages is))
       (λ (is : is_open old (slot_at base i one) ≡ false).
@@ -49,8 +50,8 @@ module _ (base ino : ℕ) (half : Half) (old : List ℕ) (loses : Loses base ino
     each : (k : ℕ) → k ≢ gate → get_or c k 0 ≡ get_or old k 0
     each k ne = torn.outside k (beside gate k ne)
 
-    pages : (k : ℕ) → base + 1049600 ≤ k → get_or c k 0 ≡ get_or old k 0
-    pages k le = each k (below_pages base ino half k loses.high le)
+    pages : (k : ℕ) → base + tables_at ≤ k → get_or c k 0 ≡ get_or old k 0
+    pages k le = each k (below_tables base ino half k loses.high le)
 
     slot_bytes : (i : ℕ) (one : Half) → slot_at base i one ≢ gate → (k : ℕ) → k < 512 → get_or c (slot_at base i one + k) 0 ≡ get_or old (slot_at base i one + k) 0
     slot_bytes i one apart k lt = each (slot_at base i one + k) (λ e. apart (one_slot base i one ino half k lt e))

@@ -10,9 +10,9 @@ use Rattle.gate_switch.specs.Switch.{touches, TornIn, TornGate, IsStage, written
 use Rattle.pack_layout.specs.of_file_content.Pages.{pages_of}
 use Rattle.pack_layout.specs.declared.half.Half.{Half}
 use Rattle.pack_layout.specs.declared.half.Half.TheVariants as slot_half
-use Rattle.pack_layout.specs.Layout.{slot_at, page_at, other_half}
+use Rattle.pack_layout.specs.Layout.{slot_at, tables_at, table_at, page_at, other_half}
 use Rattle.pack_layout.proofs.Halves.{half_most, half_sum}
-use Rattle.inode_switch.specs.View.{is_open, turn, size, page, Version, version, Newer, Second, First, newer_of, newer, counting, version_in, view, SameView, Replaced, IsOldOrNew}
+use Rattle.inode_switch.specs.View.{is_open, turn, size, table, page, Version, version, Newer, Second, First, newer_of, newer, counting, version_in, view, SameView, Replaced, IsOldOrNew}
 use Rattle.inode_switch.specs.Replace.{MayReplace, made_bytes, made_version, closing, IsNext}
 use Rattle.gate_switch.proofs.Pieces.{torn_written, torn_overwritten, put_gate}
 use Rattle.inode_switch.proofs.Views.{Keeps, Agrees, same_view, same_version}
@@ -21,16 +21,16 @@ use Rattle.inode_switch.proofs.Views.{Keeps, Agrees, same_view, same_version}
 pub one_slot : (base i : ℕ) (each : Half) (ino : ℕ) (half : Half) (k : ℕ) → k < 512 → slot_at base i each + k ≡ slot_at base ino half → slot_at base i each ≡ slot_at base ino half
 one_slot base i each ino half k lt e = omega arith
 
-pub below_pages : (base ino : ℕ) (half : Half) (k : ℕ) → ino ≤ inodes_max → base + 1049600 ≤ k → k ≢ slot_at base ino half
-below_pages base ino half k high le e = omega (arith, half_most half)
+pub below_tables : (base ino : ℕ) (half : Half) (k : ℕ) → ino ≤ inodes_max → base + tables_at ≤ k → k ≢ slot_at base ino half
+below_tables base ino half k high le e = omega (arith, half_most half)
 
 module _ (base ino : ℕ) (half : Half) (pieces : List Piece) (old : List ℕ) (may : MayReplace base ino half pieces old) where
   abbrev gate : ℕ
   gate = slot_at base ino half
 
-  -- a slot that a change spares, with its pages, outside the places where it may change more
+  -- a slot that a change spares, with its tables and pages, outside the places where it may change more
   spared : (Out : ℕ → Type 0) (c : List ℕ) → length c ≡ length old → ((k : ℕ) → touches pieces k ≡ false → Out k → get_or c k 0 ≡ get_or old k 0)
-      → (i : ℕ) (each : Half) → 1 ≤ i → i ≤ inodes_max → ((k : ℕ) → k < 512 → Out (slot_at base i each + k)) → ((k : ℕ) → base + 1049600 ≤ k → Out k) → Agrees base (slot_at base i each) old c
+      → (i : ℕ) (each : Half) → 1 ≤ i → i ≤ inodes_max → ((k : ℕ) → k < 512 → Out (slot_at base i each + k)) → ((k : ℕ) → base + tables_at ≤ k → Out k) → Agrees base (slot_at base i each) old c
   spared Out c long same i each low high in_slot in_pages = ⊎_elim kept shut (cases_Bool (is_open old (slot_at base i each)))
     where
       kept : is_open old (slot_at base i each) ≡ true → Agrees base (slot_at base i each) old c
@@ -38,7 +38,8 @@ module _ (base ino : ℕ) (half : Half) (pieces : List Piece) (old : List ℕ) (
         long = long;
         few = s.few;
         bytes = λ k lt. same (slot_at base i each + k) (s.bytes k lt) (in_slot k lt);
-        pages = λ n k lt in_page. same (page_at base (page old (slot_at base i each) n) + k) (s.pages n k lt in_page) (in_pages (page_at base (page old (slot_at base i each) n) + k) (omega arith));
+        tables = λ t k lt in_table. same (table_at base (table old (slot_at base i each) t) + k) (s.tables t k lt in_table) (in_pages (table_at base (table old (slot_at base i each) t) + k) (omega arith));
+        pages = λ n k lt in_page. same (page_at base (page old base (slot_at base i each) n) + k) (s.pages n k lt in_page) (in_pages (page_at base (page old base (slot_at base i each) n) + k) (omega arith));
       }
 
       shut : is_open old (slot_at base i each) ≡ false → Agrees base (slot_at base i each) old c
@@ -53,7 +54,7 @@ module _ (base ino : ℕ) (half : Half) (pieces : List Piece) (old : List ℕ) (
       at : (i : ℕ) (each : Half) → 1 ≤ i → i ≤ inodes_max → Agrees base (slot_at base i each) old c
       at i each low high = ⊎_elim
           (λ (here : slot_at base i each ≡ gate). subst (λ (s : ℕ). Agrees base s old c) (sym here) (inl (may.shut, closed)))
-          (λ (apart : slot_at base i each ≢ gate). spared (λ k. k ≢ gate) c long same i each low high (λ k lt e. apart (one_slot base i each ino half k lt e)) (λ k le. below_pages base ino half k may.high le))
+          (λ (apart : slot_at base i each ≢ gate). spared (λ k. k ≢ gate) c long same i each low high (λ k lt e. apart (one_slot base i each ino half k lt e)) (λ k le. below_tables base ino half k may.high le))
           (cases_eq (slot_at base i each) gate)
 
   pub torn_pieces : (c : List ℕ) → TornIn pieces old c → SameView base old c
@@ -142,7 +143,8 @@ module _ (base ino : ℕ) (half : Half) (pieces : List Piece) (old : List ℕ) (
       long = long;
       few = subst (λ (n : ℕ). pages_of n ≤ content_pages_max) (sym size_same) may.few;
       bytes = λ k lt. each (gate' + k) (λ e. own_apart (sym (one_slot base ino half ino (other_half half) k lt e)));
-      pages = λ n k lt in_page. each _ (below_pages base ino (other_half half) (page_at base (page made gate' n) + k) may.high (omega arith));
+      tables = λ t k lt in_table. each _ (below_tables base ino (other_half half) (table_at base (table made gate' t) + k) may.high (omega arith));
+      pages = λ n k lt in_page. each _ (below_tables base ino (other_half half) (page_at base (page made base gate' n) + k) may.high (omega arith));
     }
 
     own_version : version c base gate' ≡ made_version base ino half pieces old
@@ -157,7 +159,7 @@ module _ (base ino : ℕ) (half : Half) (pieces : List Piece) (old : List ℕ) (
             (λ k none out. each k out.1 ∙ made_torn.outside k (beside gate' k out.0) ∙ mid_torn.outside k none)
             i one low high
             (λ k lt. ((λ e. omega (arith, half_most one, half_most half, may.low)), (λ e. omega (arith, half_most one, half_most (other_half half), may.low))))
-            (λ k le. (below_pages base ino half k may.high le, below_pages base ino (other_half half) k may.high le))
+            (λ k le. (below_tables base ino half k may.high le, below_tables base ino (other_half half) k may.high le))
 
     turn_other : is_open old other' ≡ true → turn c other' ≡ turn old other'
     turn_other is =

@@ -6,13 +6,13 @@ use Rattle.locus_ids.specs.Sizes.{page_bytes, content_pages_max}
 use Rattle.disk_model.specs.Images.{bytes_at}
 use Rattle.pack_layout.specs.declared.slot.Slot.{Slot}
 use Rattle.pack_layout.specs.of_file_content.Pages.{pages_of}
-use Rattle.pack_layout.specs.Layout.{area_length, page_at, IsSlot}
+use Rattle.pack_layout.specs.Layout.{area_length, page_at, NamePages, IsSlot}
 use Rattle.inode_switch.specs.Slots.{Says}
 use Rattle.inode_switch.specs.View.{size, page, bytes_of, version}
 
 module _ (image : List ℕ) (base at : ℕ) where
   abbrev chunk : ℕ → List ℕ
-  chunk i = bytes_at image (page_at base (page image at i)) page_bytes
+  chunk i = bytes_at image (page_at base (page image base at i)) page_bytes
 
   length-rows : (n : ℕ) → ((i : ℕ) → i < n → length (chunk i) ≡ page_bytes) → length (bytes_of image base at n) ≡ page_bytes * n
   length-rows zero whole = refl
@@ -34,18 +34,19 @@ module _ (image : List ℕ) (base at : ℕ) where
       ∙ ap (λ (m : ℕ). get_or (chunk n) m 0) rest ∙ ap (λ (m : ℕ). get_or (chunk m) k 0) (sym same))
       (cases_lt i n)
 
-  module _ (s : Slot) (is : IsSlot s) (says : Says image at s) (area : base + area_length ≤ length image) where
+  -- the view reads these numbers of the content's pages
+  module _ (s : Slot) (numbers : List ℕ) (is : IsSlot s) (says : Says image at s) (names : NamePages (pages_of s.size) numbers) (named : (i : ℕ) → i < pages_of s.size → page image base at i ≡ get_or numbers i 0)
+      (area : base + area_length ≤ length image) where
     few_pages : pages_of s.size ≤ content_pages_max
     few_pages = let small = is.size in omega arith
 
     whole : (j : ℕ) → j < pages_of (size image at) → length (chunk j) ≡ page_bytes
     whole j lt =
         let e = says.size in
-        let few = few_pages in
         let below : j < pages_of s.size = subst (λ (m : ℕ). j < pages_of m) e lt in
-        let number = is.pages.inside j below in
-        let f = says.pages j (omega arith) in
-        omega (arith, length-take page_bytes (drop (page_at base (page image at j)) image), length-drop (page_at base (page image at j)) image)
+        let number = names.inside j below in
+        let f = named j below in
+        omega (arith, length-take page_bytes (drop (page_at base (page image base at j)) image), length-drop (page_at base (page image base at j)) image)
 
     pub content_length : length (version image base at).content ≡ s.size
     content_length =
@@ -54,7 +55,7 @@ module _ (image : List ℕ) (base at : ℕ) where
         omega (arith, length-take (size image at) (bytes_of image base at (pages_of (size image at))))
 
     -- byte k stands in page k / 1024
-    pub content_byte : (k : ℕ) → k < s.size → get_or (version image base at).content k 0 ≡ get_or image (page_at base (get_or s.pages (k / page_bytes) 0) + k % page_bytes) 0
+    pub content_byte : (k : ℕ) → k < s.size → get_or (version image base at).content k 0 ≡ get_or image (page_at base (get_or numbers (k / page_bytes) 0) + k % page_bytes) 0
     content_byte k lt =
         let i = k / page_bytes in
         let r = k % page_bytes in
@@ -65,6 +66,6 @@ module _ (image : List ℕ) (base at : ℕ) where
         get_or-take (size image at) (bytes_of image base at (pages_of (size image at))) k 0 (omega arith)
         ∙ ap (λ (m : ℕ). get_or (bytes_of image base at (pages_of (size image at))) m 0) parts
         ∙ byte_in_row (pages_of (size image at)) i r whole below (omega arith)
-        ∙ get_or-take page_bytes (drop (page_at base (page image at i)) image) r 0 (omega arith)
-        ∙ get_or-drop (page_at base (page image at i)) image r 0
-        ∙ ap (λ (p : ℕ). get_or image (page_at base p + r) 0) (says.pages i (omega arith))
+        ∙ get_or-take page_bytes (drop (page_at base (page image base at i)) image) r 0 (omega arith)
+        ∙ get_or-drop (page_at base (page image base at i)) image r 0
+        ∙ ap (λ (p : ℕ). get_or image (page_at base p + r) 0) (named i (omega arith))

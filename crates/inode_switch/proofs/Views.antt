@@ -1,19 +1,32 @@
 -- Images that agree where the view looks have one view.
-use Rattle.std.proofs.Common.{◌≡◌, ◌⊎◌, inl, inr, ℕ, zero, suc, ◌+◌, ◌*◌, ◌≤◌, ◌<◌, Bool, true, false, List, ◌++◌, length, take, get_or, refl, sym, ◌∙◌, ap, subst, arith, ◌%◌}
-use Rattle.std.specs.Prelude.{Some, ◌==◌}
-use Rattle.locus_ids.specs.Sizes.{page_bytes, content_pages_max}
+use Rattle.std.proofs.Common.{◌≡◌, ◌⊎◌, inl, inr, ⊎_elim, ℕ, zero, suc, ◌+◌, ◌-◌, ◌*◌, ◌≤◌, ◌<◌, Bool, true, false, List, ◌++◌, length, take, get_or, refl, sym, ◌∙◌, ap, subst, arith, ◌%◌}
+use Rattle.std.specs.Prelude.{Some, ◌==◌, cond}
+use Rattle.std.proofs.lemmas.Bool.{cases_lt, lt-ltb, le-ltb}
+use Rattle.locus_ids.specs.Sizes.{page_bytes, content_pages_max, slot_pages, table_pages}
 use Rattle.disk_model.specs.Images.{bytes_at}
 use Rattle.gate_switch.proofs.Tearing.{same_bytes}
-use Rattle.pack_layout.specs.of_file_content.Pages.{pages_of}
-use Rattle.pack_layout.specs.Layout.{page_at}
-use Rattle.inode_switch.specs.View.{is_open, size, page, bytes_of, Version, version, Newer, Second, First, Neither, newer_of, newer, counting, version_in}
+use Rattle.pack_layout.specs.of_file_content.Pages.{pages_of, table_of, tables_of}
+use Rattle.pack_layout.specs.Layout.{page_at, table_at}
+use Rattle.inode_switch.specs.View.{is_open, size, number, number_place, table, page, bytes_of, Version, version, Newer, Second, First, Neither, newer_of, newer, counting, version_in}
 
--- a slot and its pages are the same in both
+-- a slot, its tables and its pages are the same in both
 pub record Keeps (base slot : ℕ) (a b : List ℕ) : Type 0 where
   pub long : length b ≡ length a
   pub few : pages_of (size a slot) ≤ content_pages_max
   pub bytes : (k : ℕ) → k < 512 → get_or b (slot + k) 0 ≡ get_or a (slot + k) 0
-  pub pages : (i k : ℕ) → i < pages_of (size a slot) → k < page_bytes → get_or b (page_at base (page a slot i) + k) 0 ≡ get_or a (page_at base (page a slot i) + k) 0
+  pub tables : (t k : ℕ) → t < tables_of (pages_of (size a slot)) → k < 1024 → get_or b (table_at base (table a slot t) + k) 0 ≡ get_or a (table_at base (table a slot t) + k) 0
+  pub pages : (i k : ℕ) → i < pages_of (size a slot) → k < page_bytes → get_or b (page_at base (page a base slot i) + k) 0 ≡ get_or a (page_at base (page a base slot i) + k) 0
+
+-- where the number of a page stands
+pub in_slot : (image : List ℕ) (base slot i : ℕ) → i < slot_pages → number_place image base slot i ≡ slot + 80 + 2 * i
+in_slot image base slot i lt = ap (λ (b : Bool). cond b (slot + 80 + 2 * i) (table_at base (table image slot (table_of i)) + 2 * ((i - slot_pages) % table_pages))) (lt-ltb i slot_pages lt)
+
+pub in_table : (image : List ℕ) (base slot i : ℕ) → slot_pages ≤ i → number_place image base slot i ≡ table_at base (table image slot (table_of i)) + 2 * ((i - slot_pages) % table_pages)
+in_table image base slot i le = ap (λ (b : Bool). cond b (slot + 80 + 2 * i) (table_at base (table image slot (table_of i)) + 2 * ((i - slot_pages) % table_pages))) (le-ltb i slot_pages le)
+
+-- two bytes that are the same are one number
+same_number : (a b : List ℕ) (at : ℕ) → get_or b at 0 ≡ get_or a at 0 → get_or b (at + 1) 0 ≡ get_or a (at + 1) 0 → number b at ≡ number a at
+same_number a b at high low = (λ i. high i * 256 + low i)
 
 module _ (base slot : ℕ) (a b : List ℕ) (keeps : Keeps base slot a b) where
   at_byte : (k : ℕ) → k < 512 → get_or b (slot + k) 0 ≡ get_or a (slot + k) 0
@@ -25,20 +38,40 @@ module _ (base slot : ℕ) (a b : List ℕ) (keeps : Keeps base slot a b) where
   same_size : size b slot ≡ size a slot
   same_size = (λ i. ((at_byte 7 (omega arith) i * 256 + at_byte 8 (omega arith) i) * 256 + at_byte 9 (omega arith) i) * 256 + at_byte 10 (omega arith) i)
 
-  same_page : (n : ℕ) → n < content_pages_max → page b slot n ≡ page a slot n
-  same_page n lt =
+  -- a number that stands in the slot
+  same_in_slot : (at : ℕ) → at + 1 < 512 → number b (slot + at) ≡ number a (slot + at)
+  same_in_slot at lt =
+      let e : slot + (at + 1) ≡ slot + at + 1 = omega arith in
+      same_number a b (slot + at) (at_byte at (omega arith)) (subst (λ (m : ℕ). get_or b m 0 ≡ get_or a m 0) e (at_byte (at + 1) lt))
+
+  same_table : (t : ℕ) → t < 2 → table b slot t ≡ table a slot t
+  same_table t lt = let e : slot + (200 + 2 * t) ≡ slot + 200 + 2 * t = omega arith in subst (λ (m : ℕ). number b m ≡ number a m) e (same_in_slot (200 + 2 * t) (omega arith))
+
+  same_page : (n : ℕ) → n < pages_of (size a slot) → page b base slot n ≡ page a base slot n
+  same_page n lt = ⊎_elim
+      (λ (below : n < slot_pages).
       let e : slot + (80 + 2 * n) ≡ slot + 80 + 2 * n = omega arith in
-      let f : slot + (81 + 2 * n) ≡ slot + 81 + 2 * n = omega arith in
-      let high = subst (λ (m : ℕ). get_or b m 0 ≡ get_or a m 0) e (at_byte (80 + 2 * n) (omega arith)) in
-      let low = subst (λ (m : ℕ). get_or b m 0 ≡ get_or a m 0) f (at_byte (81 + 2 * n) (omega arith)) in
-      (λ i. high i * 256 + low i)
+      ap (λ (m : ℕ). number b m) (in_slot b base slot n below) ∙ subst (λ (m : ℕ). number b m ≡ number a m) e (same_in_slot (80 + 2 * n) (omega arith)) ∙ sym (ap (λ (m : ℕ). number a m) (in_slot a base slot n below)))
+      (λ (above : slot_pages ≤ n). in_tables n lt above)
+      (cases_lt n slot_pages)
+    where
+      in_tables : (n : ℕ) → n < pages_of (size a slot) → slot_pages ≤ n → page b base slot n ≡ page a base slot n
+      in_tables n lt above =
+          let t = table_of n in
+          let r = 2 * ((n - slot_pages) % table_pages) in
+          let at = table_at base (table a slot t) + r in
+          let few : table_of n < 2 = omega (arith, keeps.few, lt) in
+          let inside : table_of n < tables_of (pages_of (size a slot)) = omega (arith, lt, above) in
+          let e : table_at base (table a slot t) + (r + 1) ≡ at + 1 = omega arith in
+          ap (λ (m : ℕ). number b m) (in_table b base slot n above ∙ ap (λ (m : ℕ). table_at base m + r) (same_table t few))
+          ∙ same_number a b at (keeps.tables t r inside (omega arith)) (subst (λ (m : ℕ). get_or b m 0 ≡ get_or a m 0) e (keeps.tables t (r + 1) inside (omega arith)))
+          ∙ sym (ap (λ (m : ℕ). number a m) (in_table a base slot n above))
 
   same_pages : (n : ℕ) → n ≤ pages_of (size a slot) → bytes_of b base slot n ≡ bytes_of a base slot n
   same_pages zero le = refl
   same_pages (suc n) le =
       let lt : n < pages_of (size a slot) = omega arith in
-      let below : n < content_pages_max = omega (arith, keeps.few) in
-      let one = ap (λ (p : ℕ). bytes_at b (page_at base p) page_bytes) (same_page n below) ∙ same_bytes a b (page_at base (page a slot n)) page_bytes keeps.long (λ k in_page. keeps.pages n k lt in_page) in
+      let one = ap (λ (p : ℕ). bytes_at b (page_at base p) page_bytes) (same_page n lt) ∙ same_bytes a b (page_at base (page a base slot n)) page_bytes keeps.long (λ k in_page. keeps.pages n k lt in_page) in
       let rest = same_pages n (omega arith) in
       (λ i. rest i ++ one i)
 

@@ -14,7 +14,8 @@ abbrev pub IsViewBy : Bool → ℕ → ℕ → Version → List ℕ → List ℕ
 IsViewBy true base ino made old new = Replaced base ino made old new
 IsViewBy false base ino made old new = SameView base old new
 
--- The view, and which gates are open, after so many calls passed and the next one was cut off; so many pages are written.
+-- The view, and which gates are open, after so many calls passed and the next one was cut off; so many pages and tables are
+-- written.
 pub record IsCutReplacing (base ino : ℕ) (half : Half) (pieces : List Piece) (pages : ℕ) (how : Cut) (passed : ℕ) (old new : List ℕ) : Type 0 where
   pub view : IsViewBy (new_gate pages how passed) base ino (made_version base ino half pieces old) old new
   pub mine : is_open new (slot_at base ino half) ≡ new_gate pages how passed

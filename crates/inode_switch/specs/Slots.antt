@@ -1,12 +1,13 @@
 -- What the view reads where the bytes of a slot stand.
-use Rattle.std.specs.Prelude.{ℕ, ◌+◌, ◌<◌, ◌≡◌, true, List, ◌∷◌, ◌++◌, slice_index}
+use Rattle.std.specs.Prelude.{ℕ, ◌+◌, ◌*◌, ◌<◌, ◌≡◌, true, List, ◌∷◌, ◌++◌, slice_index}
 use Rattle.std.specs.Int.{w16, w32, to_be_bytes}
 use Rattle.std.specs.List.{flat_map}
-use Rattle.locus_ids.specs.Sizes.{content_pages_max}
+use Rattle.locus_ids.specs.Sizes.{page_bytes, slot_pages, content_tables_max}
 use Rattle.disk_model.specs.Images.{bytes_at}
+use Rattle.pack_layout.specs.of_file_content.Pages.{pages_of, tables_of}
 use Rattle.pack_layout.specs.declared.slot.Slot.{Slot}
-use Rattle.pack_layout.specs.Layout.{kind_number, slot_bytes}
-use Rattle.inode_switch.specs.View.{is_open, turn, size, page}
+use Rattle.pack_layout.specs.Layout.{kind_number, slot_bytes, table_at, table_bytes, numbers_under}
+use Rattle.inode_switch.specs.View.{is_open, turn, size, number, table}
 
 -- the 512 bytes of an image at a place are those of this slot
 abbrev pub Holds : List ℕ → ℕ → Slot → Type 0
@@ -23,4 +24,9 @@ pub record Says (image : List ℕ) (at : ℕ) (s : Slot) : Type 0 where
   pub turn : turn image at ≡ s.turn
   pub size : size image at ≡ s.size
   pub fields : bytes_at image (at + 2) 78 ≡ field_bytes s
-  pub pages : (i : ℕ) → i < content_pages_max → page image at i ≡ slice_index s.pages i
+  pub pages : (i : ℕ) → i < slot_pages → number image (at + 80 + 2 * i) ≡ slice_index s.pages i
+  pub tables : (k : ℕ) → k < content_tables_max → table image at k ≡ slice_index s.tables k
+
+-- in an area, the tables of a slot hold those of these page numbers that the slot has no room for
+abbrev pub HoldsTables : List ℕ → ℕ → Slot → List ℕ → Type 0
+HoldsTables image base s numbers = (k : ℕ) → k < tables_of (pages_of s.size) → bytes_at image (table_at base (slice_index s.tables k)) page_bytes ≡ table_bytes (numbers_under numbers k)

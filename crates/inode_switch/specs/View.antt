@@ -1,10 +1,10 @@
 -- What an image of a pack stands for: for each inode nothing, or the version of the slot that counts.
-use Rattle.std.specs.Prelude.{ℕ, zero, suc, ◌+◌, ◌*◌, ◌%◌, ◌≤◌, ◌≡◌, ◌≢◌, ◌⊎◌, ◌==◌, Bool, true, false, List, [], ◌++◌, take, slice_index, Option, None, Some}
-use Rattle.locus_ids.specs.Sizes.{inodes_max, page_bytes}
+use Rattle.std.specs.Prelude.{ℕ, zero, suc, ◌+◌, ◌-◌, ◌*◌, ◌%◌, ◌≤◌, ◌≡◌, ◌≢◌, ◌⊎◌, ◌==◌, Bool, true, false, cond, nat_lt, List, [], ◌++◌, take, slice_index, Option, None, Some}
+use Rattle.locus_ids.specs.Sizes.{inodes_max, page_bytes, slot_pages, table_pages}
 use Rattle.disk_model.specs.Images.{bytes_at}
-use Rattle.pack_layout.specs.of_file_content.Pages.{pages_of}
+use Rattle.pack_layout.specs.of_file_content.Pages.{pages_of, table_of}
 use Rattle.pack_layout.specs.declared.half.Half.TheVariants as slot_half
-use Rattle.pack_layout.specs.Layout.{open_gate, page_at, slot_at}
+use Rattle.pack_layout.specs.Layout.{open_gate, page_at, slot_at, table_at}
 
 -- a slot begins with its gate and its turn
 abbrev pub is_open : List ℕ → ℕ → Bool
@@ -13,17 +13,30 @@ is_open image slot = slice_index image slot == open_gate
 abbrev pub turn : List ℕ → ℕ → ℕ
 turn image slot = slice_index image (slot + 1)
 
--- the size of the content stands seven bytes behind, the page numbers eighty; the greater bytes come first
+-- the size of the content stands seven bytes behind; the greater bytes come first
 abbrev pub size : List ℕ → ℕ → ℕ
 size image slot = ((slice_index image (slot + 7) * 256 + slice_index image (slot + 8)) * 256 + slice_index image (slot + 9)) * 256 + slice_index image (slot + 10)
 
-abbrev pub page : List ℕ → ℕ → ℕ → ℕ
-page image slot i = slice_index image (slot + 80 + 2 * i) * 256 + slice_index image (slot + 81 + 2 * i)
+-- a number of a page or of a table
+abbrev pub number : List ℕ → ℕ → ℕ
+number image at = slice_index image at * 256 + slice_index image (at + 1)
+
+-- the numbers of the slot's tables stand two hundred bytes behind
+abbrev pub table : List ℕ → ℕ → ℕ → ℕ
+table image slot k = number image (slot + 200 + 2 * k)
+
+-- where the number of a page stands: that of one of the first in the slot, eighty bytes behind, and else in a table
+abbrev pub number_place : List ℕ → ℕ → ℕ → ℕ → ℕ
+number_place image base slot i =
+    cond (nat_lt i slot_pages) (slot + 80 + 2 * i) (table_at base (table image slot (table_of i)) + 2 * ((i - slot_pages) % table_pages))
+
+abbrev pub page : List ℕ → ℕ → ℕ → ℕ → ℕ
+page image base slot i = number image (number_place image base slot i)
 
 -- the bytes of the first n pages in order
 abbrev pub bytes_of : List ℕ → ℕ → ℕ → ℕ → List ℕ
 bytes_of image base slot zero = []
-bytes_of image base slot (suc n) = bytes_of image base slot n ++ bytes_at image (page_at base (page image slot n)) page_bytes
+bytes_of image base slot (suc n) = bytes_of image base slot n ++ bytes_at image (page_at base (page image base slot n)) page_bytes
 
 -- a version: its kind, inode, set, size, stamp and vector as a slot spells them, and the content
 pub record Version : Type 0 where

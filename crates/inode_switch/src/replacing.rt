@@ -15,7 +15,7 @@ use locus_ids::Ino;
 use pack_layout::{Half, slot_at};
 
 /// Replaces the version of an inode in the pack whose area begins at `base`: the pieces of the source are the changed pages and
-/// what stands behind the gate of slot `half`. Whenever a crash comes, the pack is wholly old or wholly new. `closes` says
+/// tables, and what stands behind the gate of slot `half`. Whenever a crash comes, the pack is wholly old or wholly new. `closes` says
 /// whether the inode's other slot is open, and then to be closed.
 pub fn replace_inode<D: Disk, P: PieceSource>(
     disk: &mut D,

@@ -2,7 +2,7 @@
 use Rattle.std.proofs.Common.{◌≡◌, ℕ, ◌∷◌, [], List, refl, ◌<◌, ◌≤◌, ◌-◌, ◌+◌, arith, suc, zero, length, take, set, Ok, Err, ap, ◌∙◌}
 use Rattle.std.proofs.Math.Seq.{take-length}
 use Rattle.std.proofs.lemmas.List.{take_more_set}
-use Rattle.locus_ids.specs.Sizes.{sites_max, content_pages_max}
+use Rattle.locus_ids.specs.Sizes.{sites_max, slot_pages, content_tables_max}
 use Rattle.field_codec.specs.declared.faults.FieldFault.{FieldFault}
 use Rattle.field_codec.proofs.Loop.{with_front, goes_on, ends, is_done}
 use Rattle.locus_ids.specs.declared.ids.Kind.TheVariants.{File, Dir}
@@ -59,4 +59,4 @@ gate_is_byte (suc i) = omega arith
 pub slots_laws : Lawful slots
 slots_laws = made_laws slot_of parts_of (λ _. refl) (λ _. refl)
     (pair_laws (exactly_laws (open_gate ∷ []) gate_is_byte) (pair_laws (within_laws (from_to 0 2) u8 u8_laws) (pair_laws kinds_laws (pair_laws u16_laws (pair_laws sets_laws (pair_laws u32_laws (pair_laws stamps_laws
-    (pair_laws (repeated_laws sites_max u32_laws) (pair_laws (repeated_laws content_pages_max u16_laws) (zeros_laws 304))))))))))
+    (pair_laws (repeated_laws sites_max u32_laws) (pair_laws (repeated_laws slot_pages u16_laws) (pair_laws (repeated_laws content_tables_max u16_laws) (zeros_laws 308)))))))))))

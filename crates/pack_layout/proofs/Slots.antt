@@ -1,10 +1,10 @@
 -- A slot is its 512 bytes, both ways.
-use Rattle.std.proofs.Common.{◌≡◌, ℕ, suc, ◌^◌, ◌<◌, ◌≤◌, ◌⊎◌, inl, inr, true, List, [], ◌∷◌, ◌++◌, length, get_or, replicate, Result, Ok, Err, Option, Some, refl, sym, ap, ◌∙◌, arith}
+use Rattle.std.proofs.Common.{◌≡◌, ℕ, suc, ◌^◌, ◌<◌, ◌≤◌, ◌⊎◌, inl, inr, true, List, [], ◌∷◌, ◌++◌, length, get_or, min, replicate, Result, Ok, Err, Option, Some, refl, sym, ap, ◌∙◌, arith}
 use Rattle.std.specs.List.{flat_map}
 use Rattle.std.specs.Result.{IfOk}
 use Rattle.std.specs.Int.{w16, w32, to_be_bytes}
 use Rattle.std.proofs.lemmas.Bool.{le-leb, cases_lt}
-use Rattle.locus_ids.specs.Sizes.{sites_max, content_pages_max}
+use Rattle.locus_ids.specs.Sizes.{sites_max, slot_pages, content_tables_max, pack_pages, pack_tables}
 use Rattle.locus_ids.specs.declared.ids.Kind.{Kind}
 use Rattle.locus_ids.specs.declared.ids.Kind.TheVariants.{File, Dir}
 use Rattle.field_codec.specs.declared.faults.FieldFault.{FieldFault}
@@ -14,8 +14,8 @@ use Rattle.field_codec.proofs.Laws.{whole_takes, whole_again}
 use Rattle.field_codec.proofs.Loop.{spelled_alike}
 use Rattle.pack_layout.specs.declared.slot.Slot.{Slot}
 use Rattle.pack_layout.specs.declared.slot.BadSlot.{BadSlot}
-use Rattle.stored_versions.specs.of_file_content.Pages.{pages_of}
-use Rattle.pack_layout.specs.Layout.{open_gate, kind_number, slot_bytes, IsSlot, NamePages}
+use Rattle.stored_versions.specs.of_file_content.Pages.{pages_of, tables_of}
+use Rattle.pack_layout.specs.Layout.{open_gate, kind_number, slot_bytes, IsSlot, NameApart}
 use Rattle.pack_layout.specs.Fields.{repeated, kinds, slots}
 use Rattle.pack_layout.proofs.Laws.{slots_laws}
 
@@ -30,11 +30,15 @@ repeated_spelled n c xs =
 
 spelled : (s : Slot) → slots.spell s ≡ slot_bytes s
 spelled s =
-    let body : List ℕ → List ℕ → List ℕ → List ℕ = λ kind vector pages.
-    open_gate ∷ s.turn ∷ (kind ++ (to_be_bytes w16 s.ino ++ (to_be_bytes w16 s.set.0 ++ (to_be_bytes w32 s.size ++ ((s.stamp.site ∷ to_be_bytes w32 s.stamp.n) ++ (vector ++ (pages ++ replicate 304 0))))))) in
-    let one : body (kinds.spell s.kind) ((repeated sites_max u32).spell s.vector) ((repeated content_pages_max u16).spell s.pages) ≡ body (kind_number s.kind ∷ []) ((repeated sites_max u32).spell s.vector) ((repeated content_pages_max u16).spell s.pages) = ap (λ (k : List ℕ). body k ((repeated sites_max u32).spell s.vector) ((repeated content_pages_max u16).spell s.pages)) (kinds_spelled s.kind) in
-    one ∙ ap (λ (v : List ℕ). body (kind_number s.kind ∷ []) v ((repeated content_pages_max u16).spell s.pages)) (repeated_spelled sites_max u32 s.vector)
-    ∙ ap (λ (p : List ℕ). body (kind_number s.kind ∷ []) (flat_map u32.spell s.vector) p) (repeated_spelled content_pages_max u16 s.pages)
+    let body : List ℕ → List ℕ → List ℕ → List ℕ → List ℕ = λ kind vector pages tables.
+    open_gate ∷ s.turn ∷ (kind ++ (to_be_bytes w16 s.ino ++ (to_be_bytes w16 s.set.0 ++ (to_be_bytes w32 s.size ++ ((s.stamp.site ∷ to_be_bytes w32 s.stamp.n) ++ (vector ++ (pages ++ (tables ++ replicate 308 0)))))))) in
+    let v : List ℕ = (repeated sites_max u32).spell s.vector in
+    let p : List ℕ = (repeated slot_pages u16).spell s.pages in
+    let t : List ℕ = (repeated content_tables_max u16).spell s.tables in
+    let one : body (kinds.spell s.kind) v p t ≡ body (kind_number s.kind ∷ []) v p t = ap (λ (k : List ℕ). body k v p t) (kinds_spelled s.kind) in
+    one ∙ ap (λ (x : List ℕ). body (kind_number s.kind ∷ []) x p t) (repeated_spelled sites_max u32 s.vector)
+    ∙ ap (λ (x : List ℕ). body (kind_number s.kind ∷ []) (flat_map u32.spell s.vector) x t) (repeated_spelled slot_pages u16 s.pages)
+    ∙ ap (λ (x : List ℕ). body (kind_number s.kind ∷ []) (flat_map u32.spell s.vector) (flat_map u16.spell s.pages) x) (repeated_spelled content_tables_max u16 s.tables)
 
 kinds_fit : (k : Kind) → kinds.Fits k
 kinds_fit File = (omega arith, refl, (refl, tt))
@@ -51,9 +55,9 @@ stamp_fits : (site n : ℕ) → ((site ≡ 0) × (n ≡ 0)) ⊎ ((1 ≤ site) ×
 stamp_fits site n (inl p) = (omega (arith, p.0), omega (arith, p.1))
 stamp_fits site n (inr p) = (omega (arith, p.1), p.3)
 
-pages_fit : (n : ℕ) (pages : List ℕ) → NamePages n pages → (i : ℕ) → i < length pages → get_or pages i 0 < 2 ^ 16
-pages_fit n pages p i lt = elim (cases_lt i n) [
-  | inl few ↦ omega (arith, p.inside i few)
+numbers_fit : (most limit n : ℕ) (numbers : List ℕ) → limit ≤ 65536 → NameApart most limit n numbers → (i : ℕ) → i < length numbers → get_or numbers i 0 < 2 ^ 16
+numbers_fit most limit n numbers low p i lt = elim (cases_lt i n) [
+  | inl few ↦ omega (arith, low, p.inside i few)
   | inr le ↦ omega (arith, p.rest i le (omega (arith, p.count)))
 ]
 
@@ -62,7 +66,9 @@ fits s h =
     let v = h.vector in
     let p = h.pages in
     let sites : sites_max ≡ length s.vector = sym v.count in
-    let pages : content_pages_max ≡ length s.pages = sym p.count in (
+    let t = h.tables in
+    let pages : slot_pages ≡ length s.pages = sym p.count in
+    let tables : content_tables_max ≡ length s.tables = sym t.count in (
       tt,
       (
         (turn_fits s.turn h.turn, omega (arith, h.turn)),
@@ -76,7 +82,7 @@ fits s h =
                 omega (arith, h.size),
                 (
                   stamp_fits s.stamp.site s.stamp.n h.stamp,
-                  (((sites, tt), all_fit u32 s.vector (λ i lt. v.each i)), (((pages, tt), all_fit u16 s.pages (pages_fit (pages_of s.size) s.pages p)), tt)),
+                  (((sites, tt), all_fit u32 s.vector (λ i lt. v.each i)), (((pages, tt), all_fit u16 s.pages (numbers_fit slot_pages pack_pages (min (pages_of s.size) slot_pages) s.pages (omega arith) p)), (((tables, tt), all_fit u16 s.tables (numbers_fit content_tables_max pack_tables (tables_of (pages_of s.size)) s.tables (omega arith) t)), tt))),
                 ),
               ),
             ),

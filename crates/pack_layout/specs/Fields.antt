@@ -1,6 +1,6 @@
 -- A slot's fields one after the other.
 use Rattle.std.specs.Prelude.{ℕ, List, ◌∷◌, []}
-use Rattle.locus_ids.specs.Sizes.{sites_max, content_pages_max}
+use Rattle.locus_ids.specs.Sizes.{sites_max, slot_pages, content_tables_max}
 use Rattle.locus_ids.specs.declared.ids.Kind.{Kind}
 use Rattle.locus_ids.specs.declared.ids.Kind.TheVariants.{File, Dir}
 use Rattle.locus_ids.specs.declared.ids.Stamp.{Stamp}
@@ -25,7 +25,7 @@ abbrev pub stamps : Codec Stamp
 stamps = made (λ p. record { site = p.0; n = p.1 }) (λ t. (t.site, t.n)) (pair u8 u32)
 
 abbrev pub Parts : Type 0
-Parts = (Unit {0}) × (ℕ × (Kind × (ℕ × (Sites × (ℕ × (Stamp × (List ℕ × (List ℕ × (Unit {0})))))))))
+Parts = (Unit {0}) × (ℕ × (Kind × (ℕ × (Sites × (ℕ × (Stamp × (List ℕ × (List ℕ × (List ℕ × (Unit {0}))))))))))
 
 abbrev pub slot_of : Parts → Slot
 slot_of p = record {
@@ -37,10 +37,11 @@ slot_of p = record {
   stamp = p.1.1.1.1.1.1.0;
   vector = p.1.1.1.1.1.1.1.0;
   pages = p.1.1.1.1.1.1.1.1.0;
+  tables = p.1.1.1.1.1.1.1.1.1.0;
 }
 
 abbrev pub parts_of : Slot → Parts
-parts_of s = (tt, (s.turn, (s.kind, (s.ino, (s.set, (s.size, (s.stamp, (s.vector, (s.pages, tt)))))))))
+parts_of s = (tt, (s.turn, (s.kind, (s.ino, (s.set, (s.size, (s.stamp, (s.vector, (s.pages, (s.tables, tt))))))))))
 
 abbrev pub slots : Codec Slot
-slots = made slot_of parts_of (pair (exactly (open_gate ∷ [])) (pair (u8_in 0 2) (pair kinds (pair u16 (pair sets (pair u32 (pair stamps (pair (repeated sites_max u32) (pair (repeated content_pages_max u16) (zeros 304))))))))))
+slots = made slot_of parts_of (pair (exactly (open_gate ∷ [])) (pair (u8_in 0 2) (pair kinds (pair u16 (pair sets (pair u32 (pair stamps (pair (repeated sites_max u32) (pair (repeated slot_pages u16) (pair (repeated content_tables_max u16) (zeros 308)))))))))))

@@ -1,12 +1,13 @@
 ghost use Rattle.std.specs.Prelude.{◌≡◌, ◌≢◌, ℕ, ◌<◌, ◌≤◌, ◌↔◌, length, IsTrue, slice_index};
-ghost use Rattle.locus_ids.specs.Sizes.{content_pages_max, pack_pages};
-ghost use Rattle.stored_versions.specs.of_file_content.Pages.{pages_of};
-ghost use Rattle.pack_layout.specs.Layout.{NamePages, IsSlot};
+ghost use Rattle.locus_ids.specs.Sizes.{pack_pages};
+ghost use Rattle.pack_layout.specs.Layout.{NameApart, none, IsSlot};
 ghost use Rattle.stored_versions.specs.Versions.{IsStamp, AgreesWith};
 
 use crate::Slot;
 use locus_ids::Stamp;
-use locus_ids::sizes::{CONTENT_BYTES, CONTENT_PAGES, INODES, PACK_PAGES, PAGE_BYTES, SITES};
+use locus_ids::sizes::{
+    CONTENT_BYTES, INODES, PACK_PAGES, PACK_TABLES, PAGE_BYTES, SITES, SLOT_PAGES, TABLE_PAGES,
+};
 
 fn is_stamp(stamp: Stamp) -> bool
     ensures { IsTrue result ↔ IsStamp stamp }
@@ -38,54 +39,41 @@ fn agrees_with(stamp: Stamp, counters: &[u32; SITES]) -> bool
     counters[stamp.site as usize - 1] == stamp.n
 }
 
-/// Whether a page number stands among the first ones.
-fn is_among(pages: &[u16], n: usize, page: u16) -> bool
-    requires { n ≤ length pages.now }
-    ensures no { IsTrue result → (i : ℕ) × (i < n) × (slice_index pages.now i ≡ page) }
-    ensures yes { (i : ℕ) → i < n → slice_index pages.now i ≡ page → IsTrue result }
+/// Whether the first `n` numbers are different ones below a limit.
+pub fn are_apart(n: usize, limit: u16, numbers: &[u16]) -> bool
+    requires few { n ≤ length numbers.now }
+    requires limit { limit ≤ pack_pages }
+    ensures { IsTrue result ↔ (((i : ℕ) → i < n → slice_index numbers.now i < limit) × ((i j : ℕ) → i < j → j < n → slice_index numbers.now i ≢ slice_index numbers.now j)) }
 {
+    let mut marks = [false; PACK_PAGES as usize];
     for i in 0..n {
-        if pages[i] == page {
-            return true;
-        }
-    }
-    false
-}
-
-/// Whether the first `n` pages are different ones of the area.
-fn are_pages(n: usize, pages: &[u16; CONTENT_PAGES]) -> bool
-    requires { n ≤ content_pages_max }
-    ensures { IsTrue result ↔ (((i : ℕ) → i < n → slice_index pages.now i < pack_pages) × ((i j : ℕ) → i < j → j < n → slice_index pages.now i ≢ slice_index pages.now j)) }
-{
-    for i in 0..n {
-        if pages[i] >= PACK_PAGES {
+        if numbers[i] >= limit || marks[usize::from(numbers[i])] {
             return false;
         }
-        if is_among(pages, i, pages[i]) {
+        marks[usize::from(numbers[i])] = true;
+    }
+    true
+}
+
+/// Whether all numbers from the place `n` on name nothing.
+pub fn are_none(n: usize, numbers: &[u16]) -> bool
+    requires { n ≤ length numbers.now }
+    ensures { IsTrue result ↔ ((i : ℕ) → n ≤ i → i < length numbers.now → slice_index numbers.now i ≡ none) }
+{
+    for i in n..numbers.len() {
+        if numbers[i] != 0xFFFF {
             return false;
         }
     }
     true
 }
 
-/// Whether all pages from number `n` on are none.
-fn are_none(n: usize, pages: &[u16; CONTENT_PAGES]) -> bool
-    requires { n ≤ content_pages_max }
-    ensures { IsTrue result ↔ ((i : ℕ) → n ≤ i → i < content_pages_max → slice_index pages.now i ≡ 65535) }
+fn name_apart(n: usize, limit: u16, numbers: &[u16]) -> bool
+    requires few { n ≤ length numbers.now }
+    requires limit { limit ≤ pack_pages }
+    ensures { IsTrue result ↔ NameApart (length numbers.now) limit n numbers.now }
 {
-    for i in n..CONTENT_PAGES {
-        if pages[i] != 0xFFFF {
-            return false;
-        }
-    }
-    true
-}
-
-fn name_pages(n: usize, pages: &[u16; CONTENT_PAGES]) -> bool
-    requires { n ≤ content_pages_max }
-    ensures { IsTrue result ↔ NamePages n pages.now }
-{
-    are_pages(n, pages) && are_none(n, pages)
+    are_apart(n, limit, numbers) && are_none(n, numbers)
 }
 
 /// Whether a slot may stand on a disk.
@@ -99,5 +87,8 @@ pub fn is_slot(slot: &Slot) -> bool
         return false;
     }
     let pages = (slot.size as usize + (PAGE_BYTES - 1)) / PAGE_BYTES;
-    agrees_with(slot.stamp, &slot.vector.parts()) && name_pages(pages, &slot.pages)
+    let tables = (pages.max(SLOT_PAGES) - SLOT_PAGES + (TABLE_PAGES - 1)) / TABLE_PAGES;
+    agrees_with(slot.stamp, &slot.vector.parts())
+        && name_apart(pages.min(SLOT_PAGES), PACK_PAGES, &slot.pages)
+        && name_apart(tables, PACK_TABLES, &slot.tables)
 }

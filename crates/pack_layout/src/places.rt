@@ -1,19 +1,23 @@
 ghost use Rattle.std.specs.Prelude.{◌≡◌, ◌+◌, ◌≤◌, ◌<◌, ◌^◌};
-ghost use Rattle.locus_ids.specs.Sizes.{inodes_max, pack_pages};
-ghost use Rattle.pack_layout.specs.Layout.{area_at, area_length, page_at, slot_at};
+ghost use Rattle.locus_ids.specs.Sizes.{inodes_max, pack_pages, pack_tables};
+ghost use Rattle.pack_layout.specs.Layout.{area_at, area_length, page_at, slot_at, table_at};
 
 use crate::Half;
 use locus_ids::Ino;
 
 const LABEL_LENGTH: u32 = 1_024;
 
-const AREA_LENGTH: u32 = 4_195_328;
+const AREA_LENGTH: u32 = 5_309_440;
 
 const SLOTS_AT: u32 = 1_024;
 
 const SLOT_LENGTH: u32 = 512;
 
-const PAGES_AT: u32 = 1_049_600;
+const TABLES_AT: u32 = 2_098_176;
+
+const TABLE_LENGTH: u32 = 1_024;
+
+const PAGES_AT: u32 = 2_163_712;
 
 const PAGE_LENGTH: u32 = 1_024;
 
@@ -54,6 +58,15 @@ pub fn slot_at(base: u32, ino: Ino, half: Half) -> u32
         Half::First => first,
         Half::Second => first + SLOT_LENGTH,
     }
+}
+
+/// The place of a table of page numbers, in the area from `base`.
+pub fn table_at(base: u32, table: u16) -> u32
+    requires area { base + area_length < 2 ^ 32 }
+    requires table { table < pack_tables }
+    ensures { result ≡ table_at base table }
+{
+    base + TABLES_AT + TABLE_LENGTH * table as u32
 }
 
 /// The place of a data page, in the area from `base`.

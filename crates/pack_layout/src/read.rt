@@ -1,5 +1,5 @@
 ghost use Rattle.std.specs.Prelude.{◌≡◌, ℕ, ◌≢◌, ◌↔◌, List, length, Result, Option, Ok, Some, None, IsErr, IfOk, slice_index};
-ghost use Rattle.locus_ids.specs.Sizes.{sites_max, content_pages_max};
+ghost use Rattle.locus_ids.specs.Sizes.{sites_max, slot_pages, content_tables_max};
 ghost use Rattle.field_codec.specs.Codec.{u16, u32, whole};
 ghost use Rattle.field_codec.specs.Lists.{read_times};
 ghost use Rattle.field_codec.specs.Reads.{Reads};
@@ -10,7 +10,7 @@ ghost use Rattle.pack_layout.specs.Fields.{kinds, stamps, slots, repeated};
 use crate::check::is_slot;
 use crate::{BadSlot, Slot};
 use field_codec::{FieldFault, Fields};
-use locus_ids::sizes::{CONTENT_PAGES, SITES};
+use locus_ids::sizes::{CONTENT_TABLES, SITES, SLOT_PAGES};
 use locus_ids::{Kind, Sites, Stamp};
 use version_vector::Vector;
 
@@ -46,14 +46,24 @@ fn read_counters(fields: &mut Fields) -> Result<[u32; SITES], FieldFault>
     Ok(counters)
 }
 
-fn read_pages(fields: &mut Fields) -> Result<[u16; CONTENT_PAGES], FieldFault>
-    ensures { Reads (repeated content_pages_max u16) (λ pages. pages) fields.old result fields.new }
+fn read_pages(fields: &mut Fields) -> Result<[u16; SLOT_PAGES], FieldFault>
+    ensures { Reads (repeated slot_pages u16) (λ pages. pages) fields.old result fields.new }
 {
-    let mut pages = [0; CONTENT_PAGES];
-    for i in 0..CONTENT_PAGES {
+    let mut pages = [0; SLOT_PAGES];
+    for i in 0..SLOT_PAGES {
         pages[i] = fields.get_u16()?;
     }
     Ok(pages)
+}
+
+fn read_tables(fields: &mut Fields) -> Result<[u16; CONTENT_TABLES], FieldFault>
+    ensures { Reads (repeated content_tables_max u16) (λ tables. tables) fields.old result fields.new }
+{
+    let mut tables = [0; CONTENT_TABLES];
+    for i in 0..CONTENT_TABLES {
+        tables[i] = fields.get_u16()?;
+    }
+    Ok(tables)
 }
 
 fn read_fields(fields: &mut Fields) -> Result<Slot, FieldFault>
@@ -68,7 +78,8 @@ fn read_fields(fields: &mut Fields) -> Result<Slot, FieldFault>
     let stamp = read_stamp(fields)?;
     let vector = Vector::from_parts(read_counters(fields)?);
     let pages = read_pages(fields)?;
-    fields.zeros(304)?;
+    let tables = read_tables(fields)?;
+    fields.zeros(308)?;
     Ok(Slot {
         turn,
         kind,
@@ -78,6 +89,7 @@ fn read_fields(fields: &mut Fields) -> Result<Slot, FieldFault>
         stamp,
         vector,
         pages,
+        tables,
     })
 }
 

@@ -1,7 +1,7 @@
 ghost use Rattle.std.specs.Prelude.{◌≡◌};
 ghost use Rattle.pack_layout.specs.Layout.{newer};
 
-use locus_ids::sizes::{CONTENT_PAGES, SITES};
+use locus_ids::sizes::{CONTENT_TABLES, SITES, SLOT_PAGES};
 use locus_ids::{Kind, Sites, Stamp};
 use thiserror::Error;
 use version_vector::Vector;
@@ -19,8 +19,10 @@ pub struct Slot {
     pub size: u32,
     pub stamp: Stamp,
     pub vector: Vector<SITES>,
-    /// The data pages of the content in order; 0xFFFF past its end.
-    pub pages: [u16; CONTENT_PAGES],
+    /// The first data pages of the content in order; 0xFFFF past its end.
+    pub pages: [u16; SLOT_PAGES],
+    /// The tables that name its other data pages; 0xFFFF where it has none under them.
+    pub tables: [u16; CONTENT_TABLES],
 }
 
 /// An open slot whose bytes are none of a slot of its inode.

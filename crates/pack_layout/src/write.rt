@@ -35,8 +35,8 @@ fn put_counters(out: &mut [u8], at: usize, counters: &[u32])
     }
 }
 
-/// Writes the numbers of all pages.
-fn put_pages(out: &mut [u8], at: usize, pages: &[u16])
+/// Writes the numbers of pages or of tables.
+pub(crate) fn put_pages(out: &mut [u8], at: usize, pages: &[u16])
     requires { at + 2 * length pages.now ≤ length out.old }
     ensures { take (at + 2 * length pages.now) out.new ≡ take at out.old ++ flat_map (to_be_bytes w16) pages.now }
 {
@@ -45,10 +45,10 @@ fn put_pages(out: &mut [u8], at: usize, pages: &[u16])
     }
 }
 
-/// Writes a slot but for its gate and for the 304 zeros at its end.
+/// Writes a slot but for its gate and for the 308 zeros at its end.
 pub fn write_fields(slot: &Slot, out: &mut [u8])
-    requires { length out.old ≡ 207 }
-    ensures { out.new ++ replicate 304 0 ≡ drop 1 (slot_bytes slot.now) }
+    requires { length out.old ≡ 203 }
+    ensures { out.new ++ replicate 308 0 ≡ drop 1 (slot_bytes slot.now) }
 {
     put(out, 0, &[slot.turn, number_of(slot.kind)]);
     put(out, 2, &slot.ino.to_be_bytes());
@@ -58,6 +58,7 @@ pub fn write_fields(slot: &Slot, out: &mut [u8])
     put(out, 11, &slot.stamp.n.to_be_bytes());
     put_counters(out, 15, &slot.vector.parts());
     put_pages(out, 79, &slot.pages);
+    put_pages(out, 199, &slot.tables);
 }
 
 /// Writes a slot but for its gate, which stands before the rest and is written by itself.
@@ -65,6 +66,6 @@ pub fn write_body(slot: &Slot, out: &mut [u8; 511])
     ensures { out.new ≡ drop 1 (slot_bytes slot.now) }
 {
     let mut body = [0; 511];
-    write_fields(slot, &mut body[..207]);
+    write_fields(slot, &mut body[..203]);
     *out = body;
 }

@@ -22,12 +22,12 @@ use Rattle.pack_slots.proofs.Gates.{AreClosed, same_gate, others_same, still_fou
 use Rattle.pack_slots.proofs.LosingLists.{losing_same, losing_nowhere, losing_parts, losing_count, closings_behind}
 
 -- both gates of an inode, where its losing one is torn to an open or to a closed one
-own_gates : (base ino : ℕ) (a b : List ℕ) (copy : Option InodeCopy) → 1 ≤ ino → IsFound base ino a copy true → Torn (slot_at base ino (losing_half copy)) 1 a b → (t : Bool) → is_open b (slot_at base ino (losing_half copy)) ≡ t → has_losing_gate base ino b ≡ t
-own_gates base ino a b None low found torn t is = absurd found.says
-own_gates base ino a b (Some copy) low found torn false is = found_gates base ino b (Some copy) false (found_shut base ino (other_half copy.half) a b low torn copy refl is found)
-own_gates base ino a b (Some copy) low found torn true is =
+own_gates : (base ino : ℕ) (a b : List ℕ) (copy : Option InodeCopy) → 1 ≤ ino → ino ≤ inodes_max → IsFound base ino a copy true → Torn (slot_at base ino (losing_half copy)) 1 a b → (t : Bool) → is_open b (slot_at base ino (losing_half copy)) ≡ t → has_losing_gate base ino b ≡ t
+own_gates base ino a b None low high found torn t is = absurd found.says
+own_gates base ino a b (Some copy) low high found torn false is = found_gates base ino b (Some copy) false (found_shut base ino (other_half copy.half) a b low high torn copy refl is found)
+own_gates base ino a b (Some copy) low high found torn true is =
     let was : is_open a (slot_at base ino (other_half copy.half)) ≡ true = found.says.beside in
-    found_gates base ino b (Some copy) true (still_found base ino a b (unchanged base ino (other_half copy.half) a b low torn
+    found_gates base ino b (Some copy) true (still_found base ino a b (unchanged base ino (other_half copy.half) a b low high torn
     (eqb-true (get_or b (slot_at base ino (other_half copy.half)) 0) 165 is ∙ sym (eqb-true (get_or a (slot_at base ino (other_half copy.half)) 0) 165 was))) (Some copy) true found)
 
 module _ (base n : ℕ) (old now : List ℕ) (copies : List (Option InodeCopy)) (losing : List Bool) (was : AreFound base inodes_max old copies losing) (closed : AreClosed base n now copies losing) (lt : n < inodes_max) (loses : is_losing losing (n + 1) ≡ true) where
@@ -57,7 +57,7 @@ module _ (base n : ℕ) (old now : List ℕ) (copies : List (Option InodeCopy)) 
   module _ (c : List ℕ) (torn : Torn gate 1 now c) where
     others : (ino : ℕ) → 1 ≤ ino → ino ≢ n + 1 → has_losing_gate base ino c ≡ has_losing_gate base ino now
     others ino low ne =
-        let same = others_same base (n + 1) (losing_half copy) now c (omega arith) torn ino low ne in
+        let same = others_same base (n + 1) (losing_half copy) now c (omega arith) (omega arith) torn ino low ne in
         (λ i. same_gate base ino now c same First i && same_gate base ino now c same Second i)
 
     -- the gates behind this one are as they were, and those before it are closed
@@ -66,7 +66,7 @@ module _ (base n : ℕ) (old now : List ℕ) (copies : List (Option InodeCopy)) 
         losing_parts base c n lt
         ∙ ap (λ (l : List ℕ). l ++ (cond (has_losing_gate base (n + 1) c) ((n + 1) ∷ []) [] ++ losing_from base c (n + 2) (inodes_max - 1 - n)))
         (losing_nowhere base c 1 n (λ i low high. others i low (λ e. omega arith) ∙ below i low (omega arith)))
-        ∙ ap (λ (b : Bool). cond b ((n + 1) ∷ []) [] ++ losing_from base c (n + 2) (inodes_max - 1 - n)) (own_gates base (n + 1) now c copy (omega arith) this_found torn t is)
+        ∙ ap (λ (b : Bool). cond b ((n + 1) ∷ []) [] ++ losing_from base c (n + 2) (inodes_max - 1 - n)) (own_gates base (n + 1) now c copy (omega arith) (omega arith) this_found torn t is)
         ∙ ap (λ (l : List ℕ). cond t ((n + 1) ∷ []) [] ++ l) (losing_same base c old (n + 2) (inodes_max - 1 - n) (λ i low high. others i (omega arith) (λ e. omega arith) ∙ above i (omega arith) (omega arith)))
 
   old_parts : losing_inodes base old ≡ losing_from base old 1 n ++ ((n + 1) ∷ losing_from base old (n + 2) (inodes_max - 1 - n))

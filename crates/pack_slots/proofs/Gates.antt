@@ -9,17 +9,18 @@ use Rattle.disk_model.specs.Images.{Torn, bytes_at, overwritten, is_within}
 use Rattle.pack_layout.specs.of_file_content.Pages.{pages_of}
 use Rattle.pack_layout.specs.declared.half.Half.{Half}
 use Rattle.pack_layout.specs.declared.half.Half.TheVariants.{First, Second}
-use Rattle.pack_layout.specs.Layout.{area_length, slot_at, other_half}
-use Rattle.pack_layout.proofs.Halves.{half_most, half_sum, other_twice, both_slots}
+use Rattle.pack_layout.specs.Layout.{area_length, tables_at, slot_at, table_at, other_half}
+use Rattle.pack_layout.proofs.Halves.{half_most, half_sum, other_twice, cases_half, both_slots}
 use Rattle.inode_switch.specs.View.{is_open, turn, size, SameView}
 use Rattle.inode_switch.specs.Replace.{Loses}
 use Rattle.inode_switch.proofs.SlotBytes.{says}
+use Rattle.inode_switch.proofs.OldOrNew.{below_tables}
 use Rattle.inode_switch.proofs.of_gate_switch.Tearing.{same_bytes}
 use Rattle.inode_switch.proofs.of_gate_switch.Pieces.{put_gate, torn_overwritten}
 use Rattle.pack_slots.specs.declared.inode_copy.InodeCopy.{InodeCopy}
-use Rattle.pack_slots.specs.Copies.{copy_of}
-use Rattle.pack_slots.specs.Slots.{IsFound}
-use Rattle.pack_slots.specs.Mounting.{ClosesAscending, losing_gates, has_losing_gate}
+use Rattle.pack_slots.specs.Copies.{copy_of, ShowsTables, ShowsCopies}
+use Rattle.pack_slots.specs.Slots.{HasNumbers, HasTables, IsFound}
+use Rattle.pack_slots.specs.Mounting.{KeepsTables, ClosesAscending, losing_gates, has_losing_gate}
 use Rattle.pack_slots.specs.Losing.{AreFound, IsClosing, KeepsCopies, closed_if, losing_half, is_losing}
 use Rattle.pack_slots.proofs.Finding.{found_good}
 use Rattle.inode_switch.proofs.of_gate_switch.Tearing.{torn_widens, torn_joins, torn_stays}
@@ -32,6 +33,25 @@ AreClosed base n image copies losing = (ino : ℕ) → 1 ≤ ino → ino ≤ ino
 pub record SameSlots (base ino : ℕ) (a b : List ℕ) : Type 0 where
   pub long : length b ≡ length a
   pub bytes : (half : Half) (k : ℕ) → k < 512 → get_or b (slot_at base ino half + k) 0 ≡ get_or a (slot_at base ino half + k) 0
+  pub tables : (k : ℕ) → base + tables_at ≤ k → get_or b k 0 ≡ get_or a k 0
+
+-- tables stand behind all slots
+still_tables : (base : ℕ) (a b : List ℕ) (copy : Option InodeCopy) → length b ≡ length a → ((k : ℕ) → base + tables_at ≤ k → get_or b k 0 ≡ get_or a k 0) → ShowsTables base a copy → ShowsTables base b copy
+still_tables base a b None long same shows = tt
+still_tables base a b (Some copy) long same shows = λ k lt.
+    same_bytes a b (table_at base (get_or copy.slot.tables k 0)) 1024 long (λ j in_table. same (table_at base (get_or copy.slot.tables k 0) + j) (omega arith)) ∙ shows k lt
+
+numbers_still : (base place : ℕ) (a b : List ℕ) → length b ≡ length a → ((k : ℕ) → base + tables_at ≤ k → get_or b k 0 ≡ get_or a k 0) → bytes_at b place 512 ≡ bytes_at a place 512 → HasNumbers base place a → HasNumbers base place b
+numbers_still base place a b long same bytes has = record {
+  slot = has.slot;
+  more = has.more;
+  bytes = bytes ∙ has.bytes;
+  is = has.is;
+  has = record {
+    tables = λ k lt. same_bytes a b (table_at base (get_or has.slot.tables k 0)) 1024 long (λ j in_table. same (table_at base (get_or has.slot.tables k 0) + j) (omega arith)) ∙ has.has.tables k lt;
+    pages = has.has.pages;
+  };
+}
 
 module _ (base ino : ℕ) (a b : List ℕ) (same : SameSlots base ino a b) where
   pub same_gate : (half : Half) → is_open b (slot_at base ino half) ≡ is_open a (slot_at base ino half)
@@ -42,10 +62,11 @@ module _ (base ino : ℕ) (a b : List ℕ) (same : SameSlots base ino a b) where
 
   pub still_found : (copy : Option InodeCopy) (loses : Bool) → IsFound base ino a copy loses → IsFound base ino b copy loses
   still_found None true found = absurd found.says
-  still_found None false found = record { says = λ half. same_gate half ∙ found.says half; own = found.own }
+  still_found None false found = record { says = λ half. same_gate half ∙ found.says half; own = found.own; tables = tt }
   still_found (Some copy) false found = record {
     says = record { bytes = same_slot copy.half ∙ found.says.bytes; other = same_gate (other_half copy.half) ∙ found.says.other };
     own = found.own;
+    tables = still_tables base a b (Some copy) same.long same.tables found.tables;
   }
   still_found (Some copy) true found =
       let other = found.says.other in
@@ -57,7 +78,11 @@ module _ (base ino : ℕ) (a b : List ℕ) (same : SameSlots base ino a b) where
           next = (let e = same.bytes (other_half copy.half) 1 (omega arith) in let n = found.says.next.0 in omega arith, found.says.next.1 ∙ ap (λ (k : ℕ). (k + 1) % 3) (sym (same.bytes (other_half copy.half) 1 (omega arith))));
         };
         own = found.own;
+        tables = still_tables base a b (Some copy) same.long same.tables found.tables;
       }
+
+  same_tables : (half : Half) → HasTables base (slot_at base ino half) a → HasTables base (slot_at base ino half) b
+  same_tables half had is = numbers_still base (slot_at base ino half) a b same.long same.tables (same_slot half) (had (sym (same_gate half) ∙ is))
 
 -- places of slots
 slots_apart : (base i : ℕ) (one : Half) (ino : ℕ) (half : Half) (k : ℕ) → k < 512 → 1 ≤ i → 1 ≤ ino → i ≢ ino → slot_at base i one + k ≢ slot_at base ino half
@@ -71,11 +96,15 @@ beside : (at k : ℕ) → k ≢ at → is_within at 1 k ≡ false
 beside at k ne = grind (arith, nat_tests)
 
 -- a gate of one inode is torn
-module _ (base ino : ℕ) (half : Half) (a b : List ℕ) (low : 1 ≤ ino) (torn : Torn (slot_at base ino half) 1 a b) where
+module _ (base ino : ℕ) (half : Half) (a b : List ℕ) (low : 1 ≤ ino) (high : ino ≤ inodes_max) (torn : Torn (slot_at base ino half) 1 a b) where
+  in_tables : (k : ℕ) → base + tables_at ≤ k → get_or b k 0 ≡ get_or a k 0
+  in_tables k le = torn.outside k (beside (slot_at base ino half) k (below_tables base ino half k high le))
+
   pub others_same : (i : ℕ) → 1 ≤ i → i ≢ ino → SameSlots base i a b
   others_same i from ne = record {
     long = torn.long;
     bytes = λ one k lt. torn.outside (slot_at base i one + k) (beside (slot_at base ino half) (slot_at base i one + k) (slots_apart base i one ino half k lt from low ne));
+    tables = in_tables;
   }
 
   -- and it is as it was
@@ -86,11 +115,17 @@ module _ (base ino : ℕ) (half : Half) (a b : List ℕ) (low : 1 ≤ ino) (torn
         (λ (here : slot_at base ino one + k ≡ slot_at base ino half). subst (λ (n : ℕ). get_or b n 0 ≡ get_or a n 0) (sym here) e)
         (λ (apart : slot_at base ino one + k ≢ slot_at base ino half). torn.outside (slot_at base ino one + k) (beside (slot_at base ino half) (slot_at base ino one + k) apart))
         (cases_eq (slot_at base ino one + k) (slot_at base ino half));
+    tables = in_tables;
   }
 
   other_slot : (one : Half) → half ≡ other_half one → bytes_at b (slot_at base ino one) 512 ≡ bytes_at a (slot_at base ino one) 512
   other_slot one e = same_bytes a b (slot_at base ino one) 512 torn.long
       (λ k lt. torn.outside (slot_at base ino one + k) (beside (slot_at base ino half) (slot_at base ino one + k) (subst (λ (h : Half). slot_at base ino one + k ≢ slot_at base ino h) (sym e) (halves_apart base ino one k lt))))
+
+  other_gate : (one : Half) → half ≡ other_half one → is_open b (slot_at base ino one) ≡ is_open a (slot_at base ino one)
+  other_gate one e =
+      let at : slot_at base ino one + 0 ≡ slot_at base ino one = omega arith in
+      ap (λ (n : ℕ). n == 165) (subst (λ (k : ℕ). get_or b k 0 ≡ get_or a k 0) at (torn.outside (slot_at base ino one + 0) (beside (slot_at base ino half) (slot_at base ino one + 0) (subst (λ (h : Half). slot_at base ino one + 0 ≢ slot_at base ino h) (sym e) (halves_apart base ino one 0 (omega arith))))))
 
   -- the copy stays where the other gate is closed
   pub found_shut : (copy : InodeCopy) → half ≡ other_half copy.half → is_open b (slot_at base ino half) ≡ false → IsFound base ino a (Some copy) true → IsFound base ino b (Some copy) false
@@ -100,6 +135,7 @@ module _ (base ino : ℕ) (half : Half) (a b : List ℕ) (low : 1 ≤ ino) (torn
       other = subst (λ (one : Half). is_open b (slot_at base ino one) ≡ false) e shut;
     };
     own = found.own;
+    tables = still_tables base a b (Some copy) torn.long in_tables found.tables;
   }
 
   pub found_torn : (copy : InodeCopy) → half ≡ other_half copy.half → IsFound base ino a (Some copy) true → (loses : Bool) × IsFound base ino b (Some copy) loses
@@ -109,6 +145,26 @@ module _ (base ino : ℕ) (half : Half) (a b : List ℕ) (low : 1 ≤ ino) (torn
       (true, still_found base ino a b (unchanged (eqb-true (get_or b (slot_at base ino half) 0) 165 is ∙ sym (eqb-true (get_or a (slot_at base ino half) 0) 165 was))) (Some copy) true found))
       (λ (is : is_open b (slot_at base ino half) ≡ false). (false, found_shut copy e is found))
       (cases_Bool (is_open b (slot_at base ino half)))
+
+  -- the other gate is as it was, and one that is still open has its tables
+  module _ (was : is_open a (slot_at base ino half) ≡ true) where
+    own_keeps : (one : Half) → HasTables base (slot_at base ino one) a → HasTables base (slot_at base ino one) b
+    own_keeps one had is = ⊎_elim
+        (λ (e : one ≡ half).
+        let still : is_open b (slot_at base ino half) ≡ true = subst (λ (h : Half). is_open b (slot_at base ino h) ≡ true) e is in
+        same_tables base ino a b (unchanged (eqb-true (get_or b (slot_at base ino half) 0) 165 still ∙ sym (eqb-true (get_or a (slot_at base ino half) 0) 165 was))) one had is)
+        (λ (e : one ≡ other_half half).
+        let apart : half ≡ other_half one = sym (other_twice half) ∙ ap other_half (sym e) in
+        let bytes = other_slot one apart in
+        let gate : is_open b (slot_at base ino one) ≡ is_open a (slot_at base ino one) = other_gate one apart in
+        numbers_still base (slot_at base ino one) a b torn.long in_tables bytes (had (sym gate ∙ is)))
+        (cases_half one half)
+
+    pub torn_keeps : KeepsTables base a b
+    torn_keeps i one from most = ⊎_elim
+        (λ (e : i ≡ ino). subst (λ (n : ℕ). HasTables base (slot_at base n one) a → HasTables base (slot_at base n one) b) (sym e) (own_keeps one))
+        (λ (ne : i ≢ ino). same_tables base i a b (others_same i from ne) one)
+        (cases_eq i ino)
 
 -- the pages of what is open are few
 module _ (base n : ℕ) (image : List ℕ) (copies : List (Option InodeCopy)) (losing : List Bool) (closed : AreClosed base n image copies losing) where
@@ -145,20 +201,26 @@ none_within : (at k : ℕ) → is_within at 0 k ≡ false
 none_within at k = grind (arith, nat_tests)
 
 -- the inode whose gate is torn where it loses
-module _ (base ino : ℕ) (a b : List ℕ) (low : 1 ≤ ino) where
+module _ (base ino : ℕ) (a b : List ℕ) (low : 1 ≤ ino) (high : ino ≤ inodes_max) where
   nothing_torn : (at : ℕ) → Torn at 0 a b → SameSlots base ino a b
-  nothing_torn at torn = record { long = torn.long; bytes = λ half k lt. torn.outside (slot_at base ino half + k) (none_within at (slot_at base ino half + k)) }
+  nothing_torn at torn = record { long = torn.long; bytes = λ half k lt. torn.outside (slot_at base ino half + k) (none_within at (slot_at base ino half + k)); tables = λ k le. torn.outside k (none_within at k) }
 
   own_torn : (copy : Option InodeCopy) (loses : Bool) → IsFound base ino a copy loses → Torn (slot_at base ino (losing_half copy)) (if loses then 1 else 0) a b → (still : Bool) × IsFound base ino b copy still
   own_torn copy false found torn = (false, still_found base ino a b (nothing_torn (slot_at base ino (losing_half copy)) torn) copy false found)
   own_torn None true found torn = absurd found.says
-  own_torn (Some copy) true found torn = found_torn base ino (other_half copy.half) a b low torn copy refl found
+  own_torn (Some copy) true found torn = found_torn base ino (other_half copy.half) a b low high torn copy refl found
 
   own_shut : (copy : Option InodeCopy) (loses : Bool) → IsFound base ino a copy loses → Torn (slot_at base ino (losing_half copy)) (if loses then 1 else 0) a b
       → (loses ≡ true → is_open b (slot_at base ino (losing_half copy)) ≡ false) → IsFound base ino b copy false
   own_shut copy false found torn shut = still_found base ino a b (nothing_torn (slot_at base ino (losing_half copy)) torn) copy false found
   own_shut None true found torn shut = absurd found.says
-  own_shut (Some copy) true found torn shut = found_shut base ino (other_half copy.half) a b low torn copy refl (shut refl) found
+  own_shut (Some copy) true found torn shut = found_shut base ino (other_half copy.half) a b low high torn copy refl (shut refl) found
+
+-- each open slot has its tables as before
+own_tables : (base ino : ℕ) (a b : List ℕ) → 1 ≤ ino → ino ≤ inodes_max → (copy : Option InodeCopy) (loses : Bool) → IsFound base ino a copy loses → Torn (slot_at base ino (losing_half copy)) (if loses then 1 else 0) a b → KeepsTables base a b
+own_tables base ino a b low high copy false found torn = (λ i one from most. same_tables base i a b (nothing_torn base i a b from most (slot_at base ino (losing_half copy)) torn) one)
+own_tables base ino a b low high None true found torn = absurd found.says
+own_tables base ino a b low high (Some copy) true found torn = torn_keeps base ino (other_half copy.half) a b low high torn found.says.beside
 
 same_test : (n ino : ℕ) → ino ≢ n + 1 → nat_lt n ino ≡ nat_lt (n + 1) ino
 same_test n ino ne = grind (arith, nat_tests)
@@ -203,11 +265,11 @@ module _ (base n : ℕ) (a b : List ℕ) (copies : List (Option InodeCopy)) (los
       | inr is ↦ torn_widens this_gate 0 this_gate 1 (omega arith) (omega arith) a b (subst (λ (t : Bool). Torn this_gate (if t then 1 else 0) a b) is torn)
     ]
 
-    in_slots : Torn (base + 1024) 1048576 a b
-    in_slots = let most = half_most (losing_half this_copy) in torn_widens this_gate 1 (base + 1024) 1048576 (omega arith) (omega arith) a b one_byte
+    in_slots : Torn (base + 1024) 2097152 a b
+    in_slots = let most = half_most (losing_half this_copy) in torn_widens this_gate 1 (base + 1024) 2097152 (omega arith) (omega arith) a b one_byte
 
     others : (ino : ℕ) → 1 ≤ ino → ino ≤ inodes_max → ino ≢ n + 1 → IsFound base ino b (copy_of copies ino) (nat_lt n ino && is_losing losing ino)
-    others ino low high ne = still_found base ino a b (others_same base (n + 1) (losing_half this_copy) a b (omega arith) one_byte ino low ne) (copy_of copies ino) (nat_lt n ino && is_losing losing ino) (closed ino low high)
+    others ino low high ne = still_found base ino a b (others_same base (n + 1) (losing_half this_copy) a b (omega arith) (omega arith) one_byte ino low ne) (copy_of copies ino) (nat_lt n ino && is_losing losing ino) (closed ino low high)
 
     ascends : (old : List ℕ) → AreFound base inodes_max old copies losing → ClosesAscending base old b
     ascends old was = record {
@@ -222,12 +284,13 @@ module _ (base n : ℕ) (a b : List ℕ) (copies : List (Option InodeCopy)) (los
 
     pub crash_keeps : (old : List ℕ) → AreFound base inodes_max old copies losing → KeepsCopies base copies old a → SameView base a b → KeepsCopies base copies old b
     crash_keeps old was kept view = record {
-      slots = torn_joins (base + 1024) 1048576 old a b kept.slots in_slots;
+      slots = torn_joins (base + 1024) 2097152 old a b kept.slots in_slots;
       view = λ i low high. view i low high ∙ kept.view i low high;
       found = λ ino low high. ⊎_elim
-          (λ (e : ino ≡ n + 1). subst (λ (i : ℕ). (still : Bool) × IsFound base i b (copy_of copies i) still) (sym e) (own_torn base (n + 1) a b (omega arith) this_copy (is_losing losing (n + 1)) this_found torn))
+          (λ (e : ino ≡ n + 1). subst (λ (i : ℕ). (still : Bool) × IsFound base i b (copy_of copies i) still) (sym e) (own_torn base (n + 1) a b (omega arith) (omega arith) this_copy (is_losing losing (n + 1)) this_found torn))
           (λ (ne : ino ≢ n + 1). (nat_lt n ino && is_losing losing ino, others ino low high ne))
           (cases_eq ino (n + 1));
+      tables = λ ino half low high had. own_tables base (n + 1) a b (omega arith) (omega arith) this_copy (is_losing losing (n + 1)) this_found torn ino half low high (kept.tables ino half low high had);
       order = ascends old was;
     }
 
@@ -236,7 +299,7 @@ module _ (base n : ℕ) (a b : List ℕ) (copies : List (Option InodeCopy)) (los
         (λ (e : ino ≡ n + 1).
         let none : nat_lt (n + 1) ino ≡ false = grind (arith, nat_tests) in
         subst (λ (t : Bool). IsFound base ino b (copy_of copies ino) (t && is_losing losing ino)) (sym none)
-        (subst (λ (i : ℕ). IsFound base i b (copy_of copies i) false) (sym e) (own_shut base (n + 1) a b (omega arith) this_copy (is_losing losing (n + 1)) this_found torn shut)))
+        (subst (λ (i : ℕ). IsFound base i b (copy_of copies i) false) (sym e) (own_shut base (n + 1) a b (omega arith) (omega arith) this_copy (is_losing losing (n + 1)) this_found torn shut)))
         (λ (ne : ino ≢ n + 1). subst (λ (t : Bool). IsFound base ino b (copy_of copies ino) (t && is_losing losing ino)) (same_test n ino ne) (others ino low high ne))
         (cases_eq ino (n + 1))
 
@@ -244,11 +307,18 @@ module _ (base n : ℕ) (a b : List ℕ) (copies : List (Option InodeCopy)) (los
 pub none_closed : (base : ℕ) (image : List ℕ) (copies : List (Option InodeCopy)) (losing : List Bool) → AreFound base inodes_max image copies losing → AreClosed base 0 image copies losing
 none_closed base image copies losing found ino low high = subst (λ (t : Bool). IsFound base ino image (copy_of copies ino) (t && is_losing losing ino)) (sym (lt-ltb 0 ino (omega arith))) (found ino low high)
 
+pub all_shown : (base : ℕ) (image : List ℕ) (copies : List (Option InodeCopy)) (losing : List Bool) → AreClosed base inodes_max image copies losing → ShowsCopies base image (copy_of copies)
+all_shown base image copies losing closed ino low high =
+    let none : nat_lt inodes_max ino ≡ false = grind (arith, nat_tests) in
+    let found = subst (λ (t : Bool). IsFound base ino image (copy_of copies ino) (t && is_losing losing ino)) none (closed ino low high) in
+    (found.says, found.tables)
+
 pub keeps_start : (base : ℕ) (image : List ℕ) (copies : List (Option InodeCopy)) (losing : List Bool) → AreFound base inodes_max image copies losing → KeepsCopies base copies image image
 keeps_start base image copies losing found = record {
-  slots = torn_stays (base + 1024) 1048576 image;
+  slots = torn_stays (base + 1024) 2097152 image;
   view = λ i low high. refl;
   found = λ ino low high. (is_losing losing ino, found ino low high);
+  tables = λ ino half low high had. had;
   order = record { n = 0; closed = λ ino low le. absurd (omega arith); others = λ ino beyond high. refl };
 }
 

@@ -1,34 +1,37 @@
--- The data pages that the copies of a pack name.
-use Rattle.std.proofs.Common.{◌≡◌, ℕ, zero, suc, ◌+◌, ◌<◌, ◌≤◌, List, [], ◌∷◌, ◌++◌, length, take, set, get_or, Option, None, arith, length-append}
+-- The data pages and the tables that the copies of a pack name.
+use Rattle.std.proofs.Common.{◌≡◌, ℕ, zero, suc, ◌+◌, ◌<◌, ◌≤◌, List, [], ◌∷◌, ◌++◌, length, take, set, get_or, Option, None, ap, arith, length-append}
+use Rattle.std.specs.List.{flat_map}
 use Rattle.pack_slots.specs.declared.inode_copy.InodeCopy.{InodeCopy}
-use Rattle.pack_slots.specs.Copies.{pages_in, named_pages, times}
+use Rattle.pack_slots.specs.Copies.{times}
 use Rattle.pack_slots.proofs.PageTimes.{times-append}
 
-pub named_part : (p : ℕ) (copies : List (Option InodeCopy)) (i : ℕ) → times p (pages_in (get_or copies i None)) ≤ times p (named_pages copies)
-named_part p [] i = omega arith
-named_part p (copy ∷ copies) zero = omega (arith, times-append p (pages_in copy) (named_pages copies))
-named_part p (copy ∷ copies) (suc i) = omega (arith, times-append p (pages_in copy) (named_pages copies), named_part p copies i)
+-- what copies name: their pages or their tables
+module _ (names : Option InodeCopy → List ℕ) (nothing : names None ≡ []) where
+  pub named_part : (p : ℕ) (copies : List (Option InodeCopy)) (i : ℕ) → times p (names (get_or copies i None)) ≤ times p (flat_map names copies)
+  named_part p [] i = let e = ap (times p) nothing in omega arith
+  named_part p (copy ∷ copies) zero = omega (arith, times-append p (names copy) (flat_map names copies))
+  named_part p (copy ∷ copies) (suc i) = omega (arith, times-append p (names copy) (flat_map names copies), named_part p copies i)
 
--- those of two inodes
-pub named_two : (p : ℕ) (copies : List (Option InodeCopy)) (i j : ℕ) → i < j → times p (pages_in (get_or copies i None)) + times p (pages_in (get_or copies j None)) ≤ times p (named_pages copies)
-named_two p [] i j lt = omega arith
-named_two p (copy ∷ copies) zero zero lt = absurd (omega arith)
-named_two p (copy ∷ copies) zero (suc j) lt = omega (arith, times-append p (pages_in copy) (named_pages copies), named_part p copies j)
-named_two p (copy ∷ copies) (suc i) zero lt = absurd (omega arith)
-named_two p (copy ∷ copies) (suc i) (suc j) lt = omega (arith, times-append p (pages_in copy) (named_pages copies), named_two p copies i j (omega arith))
+  -- that of two inodes
+  pub named_two : (p : ℕ) (copies : List (Option InodeCopy)) (i j : ℕ) → i < j → times p (names (get_or copies i None)) + times p (names (get_or copies j None)) ≤ times p (flat_map names copies)
+  named_two p [] i j lt = let e = ap (times p) nothing in omega arith
+  named_two p (copy ∷ copies) zero zero lt = absurd (omega arith)
+  named_two p (copy ∷ copies) zero (suc j) lt = omega (arith, times-append p (names copy) (flat_map names copies), named_part p copies j)
+  named_two p (copy ∷ copies) (suc i) zero lt = absurd (omega arith)
+  named_two p (copy ∷ copies) (suc i) (suc j) lt = omega (arith, times-append p (names copy) (flat_map names copies), named_two p copies i j (omega arith))
 
--- after one copy is another
-pub named-set : (p : ℕ) (copies : List (Option InodeCopy)) (i : ℕ) (made : Option InodeCopy) → i < length copies
-    → times p (named_pages (set copies i made)) + times p (pages_in (get_or copies i None)) ≡ times p (named_pages copies) + times p (pages_in made)
-named-set p [] i made lt = absurd (omega arith)
-named-set p (copy ∷ copies) zero made lt = omega (arith, times-append p (pages_in copy) (named_pages copies), times-append p (pages_in made) (named_pages copies))
-named-set p (copy ∷ copies) (suc i) made lt = omega (arith, times-append p (pages_in copy) (named_pages copies), times-append p (pages_in copy) (named_pages (set copies i made)), named-set p copies i made (omega arith))
+  -- after one copy is another
+  pub named-set : (p : ℕ) (copies : List (Option InodeCopy)) (i : ℕ) (made : Option InodeCopy) → i < length copies
+      → times p (flat_map names (set copies i made)) + times p (names (get_or copies i None)) ≡ times p (flat_map names copies) + times p (names made)
+  named-set p [] i made lt = absurd (omega arith)
+  named-set p (copy ∷ copies) zero made lt = omega (arith, times-append p (names copy) (flat_map names copies), times-append p (names made) (flat_map names copies))
+  named-set p (copy ∷ copies) (suc i) made lt = omega (arith, times-append p (names copy) (flat_map names copies), times-append p (names copy) (flat_map names (set copies i made)), named-set p copies i made (omega arith))
 
-pub length-named_set : (copies : List (Option InodeCopy)) (i : ℕ) (made : Option InodeCopy) → i < length copies
-    → length (named_pages (set copies i made)) + length (pages_in (get_or copies i None)) ≡ length (named_pages copies) + length (pages_in made)
-length-named_set [] i made lt = absurd (omega arith)
-length-named_set (copy ∷ copies) zero made lt = omega (arith, length-append (pages_in copy) (named_pages copies), length-append (pages_in made) (named_pages copies))
-length-named_set (copy ∷ copies) (suc i) made lt = omega (arith, length-append (pages_in copy) (named_pages copies), length-append (pages_in copy) (named_pages (set copies i made)), length-named_set copies i made (omega arith))
+  pub length-named_set : (copies : List (Option InodeCopy)) (i : ℕ) (made : Option InodeCopy) → i < length copies
+      → length (flat_map names (set copies i made)) + length (names (get_or copies i None)) ≡ length (flat_map names copies) + length (names made)
+  length-named_set [] i made lt = absurd (omega arith)
+  length-named_set (copy ∷ copies) zero made lt = omega (arith, length-append (names copy) (flat_map names copies), length-append (names made) (flat_map names copies))
+  length-named_set (copy ∷ copies) (suc i) made lt = omega (arith, length-append (names copy) (flat_map names copies), length-append (names copy) (flat_map names (set copies i made)), length-named_set copies i made (omega arith))
 
 -- each of these is below n
 abbrev pub AreBelow : ℕ → List ℕ → Type 0

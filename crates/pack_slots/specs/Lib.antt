@@ -5,4 +5,5 @@ pub mod Found
 pub mod Losing
 pub mod Mounting
 pub mod Slots
+pub mod Tables
 pub use Rattle.inode_switch.specs as of_inode_switch

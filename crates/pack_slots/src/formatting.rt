@@ -3,7 +3,7 @@ ghost use Rattle.std.specs.Prelude.{◌≡◌, ℕ, ◌+◌, ◌≤◌, ◌<◌,
 ghost use Rattle.disk_model.specs.Disk.{Goes, IsSettled, HasCause};
 ghost use Rattle.disk_model.specs.Images.{bytes_at, Torn};
 ghost use Rattle.locus_ids.specs.Sites.{has};
-ghost use Rattle.pack_layout.specs.Layout.{area_length, slot_bytes};
+ghost use Rattle.pack_layout.specs.Layout.{area_length, tables_at, slot_bytes};
 ghost use Rattle.disk_model.specs.Moments.{TellsMany};
 ghost use Rattle.pack_slots.specs.Copies.{ShowsCopies};
 ghost use Rattle.pack_slots.specs.Mounting.{IsSound};
@@ -11,7 +11,7 @@ ghost use Rattle.pack_slots.specs.Format.{new_copy, root_slot, IsNew};
 
 use crate::superblock::superblock;
 use disk_model::{Disk, DiskFault};
-use locus_ids::sizes::CONTENT_PAGES;
+use locus_ids::sizes::{CONTENT_TABLES, SLOT_PAGES};
 use locus_ids::{Kind, SiteId, Sites, Stamp};
 use pack_layout::{Slot, write_body};
 use version_vector::Vector;
@@ -19,7 +19,7 @@ use version_vector::Vector;
 const OPEN_GATE: u8 = 0xA5;
 
 /// Makes the area from `base` a pack of the group at the site: it has the root directory, empty, stored at the sites of the
-/// set, and nothing else. What the data pages hold stays.
+/// set, and nothing else. What the tables and the data pages hold stays.
 pub fn format<D: Disk>(
     disk: &mut D,
     base: u32,
@@ -36,7 +36,7 @@ pub fn format<D: Disk>(
     ensures durable { OnOk result (IsSettled (D.moment disk.new)) }
     ensures crash { Goes (Torn base area_length) (D.moment disk.old) (D.moment disk.new) }
     ensures cause { HasCause (D.moment disk.old).faults (D.moment disk.new).faults result }
-    ensures tells { TellsMany 67 (D.moment disk.old).passing (D.moment disk.new).passing result }
+    ensures tells { TellsMany 131 (D.moment disk.old).passing (D.moment disk.new).passing result }
 {
     disk.write_at(base, &superblock(group, site))?;
     zero_slots(disk, base)?;
@@ -47,11 +47,11 @@ pub fn format<D: Disk>(
 /// Writes zeros over all slots.
 fn zero_slots<D: Disk>(disk: &mut D, base: u32) -> Result<(), DiskFault>
     requires { base + area_length ≤ length (D.moment disk.old).seen }
-    ensures zeros { OnOk result ((k : ℕ) → 1024 ≤ k → k < 1049600 → slice_index (D.moment disk.new).seen (base + k) ≡ 0) }
-    ensures outside { OnOk result (Torn (base + 1024) 1048576 (D.moment disk.old).seen (D.moment disk.new).seen) }
-    ensures crash { Goes (Torn (base + 1024) 1048576) (D.moment disk.old) (D.moment disk.new) }
+    ensures zeros { OnOk result ((k : ℕ) → 1024 ≤ k → k < tables_at → slice_index (D.moment disk.new).seen (base + k) ≡ 0) }
+    ensures outside { OnOk result (Torn (base + 1024) 2097152 (D.moment disk.old).seen (D.moment disk.new).seen) }
+    ensures crash { Goes (Torn (base + 1024) 2097152) (D.moment disk.old) (D.moment disk.new) }
     ensures cause { HasCause (D.moment disk.old).faults (D.moment disk.new).faults result }
-    ensures tells { TellsMany 64 (D.moment disk.old).passing (D.moment disk.new).passing result }
+    ensures tells { TellsMany 128 (D.moment disk.old).passing (D.moment disk.new).passing result }
 {
     write_pieces(disk, base, &[0; 16_384])
 }
@@ -61,14 +61,14 @@ fn write_pieces<D: Disk>(disk: &mut D, base: u32, zeros: &[u8]) -> Result<(), Di
     requires area { base + area_length ≤ length (D.moment disk.old).seen }
     requires long { length zeros.now ≡ 16384 }
     requires zeros { (j : ℕ) → j < 16384 → slice_index zeros.now j ≡ 0 }
-    ensures zeros { OnOk result ((k : ℕ) → 1024 ≤ k → k < 1049600 → slice_index (D.moment disk.new).seen (base + k) ≡ 0) }
-    ensures outside { OnOk result (Torn (base + 1024) 1048576 (D.moment disk.old).seen (D.moment disk.new).seen) }
-    ensures crash { Goes (Torn (base + 1024) 1048576) (D.moment disk.old) (D.moment disk.new) }
+    ensures zeros { OnOk result ((k : ℕ) → 1024 ≤ k → k < tables_at → slice_index (D.moment disk.new).seen (base + k) ≡ 0) }
+    ensures outside { OnOk result (Torn (base + 1024) 2097152 (D.moment disk.old).seen (D.moment disk.new).seen) }
+    ensures crash { Goes (Torn (base + 1024) 2097152) (D.moment disk.old) (D.moment disk.new) }
     ensures cause { HasCause (D.moment disk.old).faults (D.moment disk.new).faults result }
-    ensures tells { TellsMany 64 (D.moment disk.old).passing (D.moment disk.new).passing result }
+    ensures tells { TellsMany 128 (D.moment disk.old).passing (D.moment disk.new).passing result }
 {
     let _len = disk.len();
-    for i in 0..64 {
+    for i in 0..128 {
         disk.write_at(base + 1_024 + 16_384 * i, zeros)?;
     }
     Ok(())
@@ -109,6 +109,7 @@ fn root(set: Sites) -> Slot
         size: 0,
         stamp: Stamp { site: 0, n: 0 },
         vector: Vector::zero(),
-        pages: [0xFFFF; CONTENT_PAGES],
+        pages: [0xFFFF; SLOT_PAGES],
+        tables: [0xFFFF; CONTENT_TABLES],
     }
 }

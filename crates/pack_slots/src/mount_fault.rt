@@ -11,9 +11,13 @@ pub enum MountFault {
     /// The area doesn't begin as one of a pack of this group at this site.
     #[error("not a pack")]
     NotAPack,
-    /// An open slot of the inode is none of it, or both are open with equal turns.
+    /// An open slot of the inode is none of it, or both are open with equal turns, or the tables of the counting one don't name
+    /// different pages with it.
     #[error("bad slot of inode {ino}")]
     BadSlot { ino: u16 },
+    /// The counting slots of two inodes name the table.
+    #[error("shared table {table}")]
+    SharedTable { table: u16 },
     /// The counting slots of two inodes name the data page.
     #[error("shared page {page}")]
     SharedPage { page: u16 },

@@ -12,7 +12,7 @@ pub(crate) fn superblock(group: u8, site: SiteId) -> [u8; 1024]
     ensures { result ≡ superblock group site }
 {
     let mut block = [0; 1024];
-    block[..8].copy_from_slice(b"LOCUSPK1");
+    block[..8].copy_from_slice(b"LOCUSPK2");
     block[8] = group;
     block[9] = site.get();
     block

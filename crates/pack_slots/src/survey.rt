@@ -10,7 +10,8 @@ ghost use Rattle.pack_slots.specs.Losing.{AreFound};
 
 use crate::inodes::read_inodes;
 use crate::superblock::is_pack_of;
-use crate::uses::{count_uses, least_shared};
+use crate::tables::read_tables;
+use crate::uses::{count_uses, least_shared, shared_table};
 use crate::{InodeCopy, MountFault};
 use disk_model::Disk;
 use locus_ids::SiteId;
@@ -30,7 +31,8 @@ pub struct Survey {
     pub free: u16,
 }
 
-/// Reads the slots of the pack of a group at a site whose area begins at `base`, each once, and finds each fault of it.
+/// Reads the slots of the pack of a group at a site whose area begins at `base`, and the tables of those that
+/// count, each once, and finds each fault of it.
 pub fn read_pack<D: Disk>(
     alloc: Global,
     disk: &mut D,
@@ -54,7 +56,14 @@ pub fn read_pack<D: Disk>(
     if !is_pack_of(disk, base, group, site)? {
         return Err(MountFault::NotAPack);
     }
-    let inodes = read_inodes(alloc, disk, base)?;
+    let mut inodes = read_inodes(alloc, disk, base)?;
+    read_tables(disk, base, &mut inodes.copies)?;
+    if let Some(ino) = inodes.bad {
+        return Err(MountFault::BadSlot { ino });
+    }
+    if let Some(table) = shared_table(&inodes.copies) {
+        return Err(MountFault::SharedTable { table });
+    }
     let uses = count_uses(alloc, &inodes.copies)?;
     if let Some(page) = least_shared(&uses.counts) {
         return Err(MountFault::SharedPage { page });

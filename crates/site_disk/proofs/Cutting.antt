@@ -26,7 +26,7 @@ use Rattle.site_disk.specs.declared.boot_fault.BootFault.{BootFault}
 use Rattle.site_disk.specs.Image.{label_on, one_half}
 use Rattle.site_disk.specs.Boots.{fault_of_label, fault_of_mount, disk_answer, label_calls, label_left, files_left, IsCutBoot}
 use Rattle.site_disk.proofs.Labels.{label_there}
-use Rattle.site_disk.proofs.Leaving.{label_torn, label_inside, areas_inside, both_inside, sound_still, copies_still}
+use Rattle.site_disk.proofs.Leaving.{label_torn, label_inside, areas_inside, both_inside, sound_still, copies_still, tables_still, tables_joined}
 
 -- ---- the image ----
 
@@ -46,6 +46,7 @@ label_cut site groups how before passed old left is few =
       label = here ∙ sym same;
       both = both_agree 0 groups old left (label_torn old left is.outside) ∙ sym (ap (λ (b : Bool). cond b files (closings_left how (passed - label_calls both) files)) within);
       copies = λ sound. copies_still site groups old left sound is.outside;
+      tables = λ sound. tables_still old left is.outside;
       outside = label_inside (length groups) old left is.outside;
     }
 
@@ -63,6 +64,7 @@ packs_cut site groups how before passed old mid left torn has alone cut enough =
       label = label_there site (before + 1) left still (shut_same n mid left cut.outside alone) ∙ sym same;
       both = cut.both ∙ ap (λ (l : List FileId). closings_left how (passed - label_calls both) l) (both_agree 0 groups old mid (label_torn old mid torn)) ∙ sym (ap (λ (b : Bool). cond b files (closings_left how (passed - label_calls both) files)) behind);
       copies = λ sound. (cut.kept (sound_still site groups old mid sound torn)).copies ∙ copies_still site groups old mid sound torn;
+      tables = λ sound. tables_joined old mid left (tables_still old mid torn) (cut.kept (sound_still site groups old mid sound torn)).tables;
       outside = both_inside (length groups) old mid left (label_inside (length groups) old mid torn) (areas_inside (length groups) mid left cut.outside);
     }
 
@@ -99,6 +101,7 @@ cut_by : (T U : Type 0) (fault : MountFault) (A B : Type 0) → OnErr (mount_ans
 cut_by T U mount.Disk A B cut makes = makes cut
 cut_by T U mount.NotAPack A B cut makes = tt
 cut_by T U (mount.BadSlot ino) A B cut makes = tt
+cut_by T U (mount.SharedTable table) A B cut makes = tt
 cut_by T U (mount.SharedPage page) A B cut makes = tt
 cut_by T U mount.NoMemory A B cut makes = tt
 

@@ -43,7 +43,9 @@ mount_cause site groups old mid mount.NotAPack torn (inl passing) = absurd passi
 mount_cause site groups old mid mount.NotAPack torn (inr first) = cause_behind 0 site groups mid old mount.NotAPack (label_back old mid torn) first
 mount_cause site groups old mid (mount.BadSlot ino) torn (inl passing) = absurd passing
 mount_cause site groups old mid (mount.BadSlot ino) torn (inr first) = cause_behind 0 site groups mid old (mount.BadSlot ino) (label_back old mid torn) first
+mount_cause site groups old mid (mount.SharedTable table) torn (inl passing) = absurd passing
 mount_cause site groups old mid (mount.SharedPage page) torn (inl passing) = absurd passing
+mount_cause site groups old mid (mount.SharedTable table) torn (inr first) = cause_behind 0 site groups mid old (mount.SharedTable table) (label_back old mid torn) first
 mount_cause site groups old mid (mount.SharedPage page) torn (inr first) = cause_behind 0 site groups mid old (mount.SharedPage page) (label_back old mid torn) first
 mount_cause site groups old mid mount.NoMemory torn cause = tt
 
@@ -51,6 +53,7 @@ pub mount_passing : (fault : MountFault) → IsPassingMount fault → IsPassing 
 mount_passing mount.Disk passing = tt
 mount_passing mount.NotAPack passing = passing
 mount_passing (mount.BadSlot ino) passing = passing
+mount_passing (mount.SharedTable table) passing = passing
 mount_passing (mount.SharedPage page) passing = passing
 mount_passing mount.NoMemory passing = tt
 
@@ -66,6 +69,7 @@ mount_tells : (T U : Type 0) (groups old mid : List ℕ) (p q r : Passing) (faul
 mount_tells T U groups old mid p q r mount.Disk torn first later = whole_tells groups old mid p q r (Err Failed) torn first later
 mount_tells T U groups old mid p q r mount.NotAPack torn first later = tt
 mount_tells T U groups old mid p q r (mount.BadSlot ino) torn first later = tt
+mount_tells T U groups old mid p q r (mount.SharedTable table) torn first later = tt
 mount_tells T U groups old mid p q r (mount.SharedPage page) torn first later = tt
 mount_tells T U groups old mid p q r mount.NoMemory torn first later = tt
 

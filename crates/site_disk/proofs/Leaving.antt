@@ -12,7 +12,8 @@ use Rattle.site_label.specs.Raising.{MayBeLeft as LabelLeft}
 use Rattle.site_label.proofs.Image.{boot_same}
 use Rattle.site_packs.specs.Copies.{copies_on}
 use Rattle.site_packs.specs.Packs.{areas_end}
-use Rattle.site_packs.specs.Mounting.{AreSound, AreKept, KeepsCopies, mount_calls}
+use Rattle.site_packs.specs.Mounting.{AreSound, AreKept, AreTablesKept, KeepsCopies, mount_calls}
+use Rattle.site_packs.proofs.Areas.{tables_agree}
 use Rattle.site_packs.proofs.Mounts.{AgreeBehind, kept_start, kept_agree, copies_kept, sound_kept, sound_behind, gates_agree}
 use Rattle.site_disk.specs.Boots.{MayBeLeft}
 
@@ -43,6 +44,12 @@ sound_still site groups a b sound torn = sound_kept 0 site groups a b (kept_by s
 pub copies_still : (site : ℕ) (groups a b : List ℕ) → AreSound site groups a → Torn 0 1024 a b → copies_on groups b ≡ copies_on groups a
 copies_still site groups a b sound torn = copies_kept 0 site groups a b (kept_by site groups a b sound torn)
 
+pub tables_still : (a b : List ℕ) → Torn 0 1024 a b → AreTablesKept a b
+tables_still a b torn m = tables_agree (area_at m) a b (label_torn a b torn m (omega arith))
+
+pub tables_joined : (a b c : List ℕ) → AreTablesKept a b → AreTablesKept b c → AreTablesKept a c
+tables_joined a b c first later m ino half low high had = later m ino half low high (first m ino half low high had)
+
 pub calls_still : (groups a b : List ℕ) → Torn 0 1024 a b → mount_calls groups b ≡ mount_calls groups a
 calls_still groups a b torn = ap (λ (n : ℕ). 2 * n) (gates_agree 0 groups a b (label_torn a b torn))
 
@@ -52,6 +59,7 @@ label_left site groups old c sound left = record {
   number = left.number;
   copies = copies_still site groups old c sound left.outside;
   sound = sound_still site groups old c sound left.outside;
+  tables = tables_still old c left.outside;
   outside = label_inside (length groups) old c left.outside;
 }
 
@@ -64,6 +72,7 @@ packs_left site groups old mid c sound left keeps = record {
       (left.number boot has);
   copies = keeps.copies ∙ copies_still site groups old mid sound left.outside;
   sound = keeps.sound (sound_still site groups old mid sound left.outside);
+  tables = tables_joined old mid c (tables_still old mid left.outside) keeps.tables;
   outside = both_inside (length groups) old mid c (label_inside (length groups) old mid left.outside) (areas_inside (length groups) mid c keeps.outside);
 }
 

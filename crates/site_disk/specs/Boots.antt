@@ -18,10 +18,10 @@ use Rattle.site_label.specs.Raising.{are_open}
 use Rattle.site_packs.specs.Copies.{copies_on}
 use Rattle.site_packs.specs.Cutting.{both_open_on}
 use Rattle.site_packs.specs.Packs.{areas_end}
-use Rattle.site_packs.specs.Mounting.{AreSound, IsFirstCause, mount_calls}
+use Rattle.site_packs.specs.Mounting.{AreSound, AreTablesKept, IsFirstCause, mount_calls}
 use Rattle.site_disk.specs.Image.{label_on, one_half}
 use Rattle.site_disk.specs.declared.boot_fault.BootFault.{BootFault}
-use Rattle.site_disk.specs.declared.boot_fault.BootFault.TheVariants.{Disk, NotALabel, Spent, NotAPack, BadSlot, SharedPage, NoMemory}
+use Rattle.site_disk.specs.declared.boot_fault.BootFault.TheVariants.{Disk, NotALabel, Spent, NotAPack, BadSlot, SharedTable, SharedPage, NoMemory}
 
 -- a fault of the label, and of the first pack that doesn't mount
 abbrev pub fault_of_label : LabelFault → BootFault
@@ -33,15 +33,17 @@ abbrev pub fault_of_mount : MountFault → BootFault
 fault_of_mount mount.Disk = Disk
 fault_of_mount mount.NotAPack = NotAPack
 fault_of_mount (mount.BadSlot ino) = BadSlot ino
+fault_of_mount (mount.SharedTable table) = SharedTable table
 fault_of_mount (mount.SharedPage page) = SharedPage page
 fault_of_mount mount.NoMemory = NoMemory
 
--- what a crash within a boot leaves: the number from before or the raised one, the same copies in packs that mount, and behind
--- the packs all as before
+-- What a crash within a boot leaves: the number from before or the raised one, the same copies in packs that mount, each open
+-- slot with its tables as before, and behind the packs all as before.
 pub record MayBeLeft (site : ℕ) (groups old new : List ℕ) : Type 0 where
   pub number : (boot : ℕ) → HasBoot site boot old → HasBoot site boot new ⊎ HasBoot site (boot + 1) new
   pub copies : copies_on groups new ≡ copies_on groups old
   pub sound : AreSound site groups new
+  pub tables : AreTablesKept old new
   pub outside : Torn 0 (areas_end (length groups)) old new
 
 -- Why a disk isn't booted: the label has no number or the greatest one, or it has one that may be raised, and a pack is the
@@ -52,6 +54,7 @@ IsCause site groups image NotALabel = (boot : ℕ) → HasBoot site boot image �
 IsCause site groups image Spent = HasBoot site 4294967295 image
 IsCause site groups image NotAPack = IsFirstCause 0 site groups image mount.NotAPack
 IsCause site groups image (BadSlot ino) = IsFirstCause 0 site groups image (mount.BadSlot ino)
+IsCause site groups image (SharedTable table) = IsFirstCause 0 site groups image (mount.SharedTable table)
 IsCause site groups image (SharedPage page) = IsFirstCause 0 site groups image (mount.SharedPage page)
 IsCause site groups image NoMemory = Unit {0}
 
@@ -62,6 +65,7 @@ IsPassing NotALabel = ⊥
 IsPassing Spent = ⊥
 IsPassing NotAPack = ⊥
 IsPassing (BadSlot ino) = ⊥
+IsPassing (SharedTable table) = ⊥
 IsPassing (SharedPage page) = ⊥
 IsPassing NoMemory = Unit {0}
 
@@ -72,6 +76,7 @@ IsEarly NotALabel = Unit {0}
 IsEarly Spent = Unit {0}
 IsEarly NotAPack = ⊥
 IsEarly (BadSlot ino) = ⊥
+IsEarly (SharedTable table) = ⊥
 IsEarly (SharedPage page) = ⊥
 IsEarly NoMemory = ⊥
 
@@ -83,6 +88,7 @@ disk_answer (Err NotALabel) = Ok tt
 disk_answer (Err Spent) = Ok tt
 disk_answer (Err NotAPack) = Ok tt
 disk_answer (Err (BadSlot ino)) = Ok tt
+disk_answer (Err (SharedTable table)) = Ok tt
 disk_answer (Err (SharedPage page)) = Ok tt
 disk_answer (Err NoMemory) = Ok tt
 
@@ -103,6 +109,7 @@ TellsBoot calls before after (Err NotALabel) = TellsMany {T = Unit {0}} {E = Dis
 TellsBoot calls before after (Err Spent) = TellsMany {T = Unit {0}} {E = DiskFault} 0 before after (Ok tt)
 TellsBoot calls before after (Err NotAPack) = Unit {0}
 TellsBoot calls before after (Err (BadSlot ino)) = Unit {0}
+TellsBoot calls before after (Err (SharedTable table)) = Unit {0}
 TellsBoot calls before after (Err (SharedPage page)) = Unit {0}
 TellsBoot calls before after (Err NoMemory) = Unit {0}
 
@@ -120,4 +127,5 @@ pub record IsCutBoot (site : ℕ) (groups : List ℕ) (how : Cut) (before passed
   pub label : label_on new ≡ label_left (are_open old) how passed before
   pub both : both_open_on groups new ≡ files_left (are_open old) how passed (both_open_on groups old)
   pub copies : AreSound site groups old → copies_on groups new ≡ copies_on groups old
+  pub tables : AreSound site groups old → AreTablesKept old new
   pub outside : Torn 0 (areas_end (length groups)) old new

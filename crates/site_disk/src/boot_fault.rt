@@ -23,6 +23,9 @@ pub enum BootFault {
     /// An open slot of an inode is none of it, or both are open with equal turns.
     #[error("bad slot of inode {ino}")]
     BadSlot { ino: u16 },
+    /// The counting slots of two inodes of a pack name the table.
+    #[error("shared table {table}")]
+    SharedTable { table: u16 },
     /// The counting slots of two inodes name the data page.
     #[error("shared page {page}")]
     SharedPage { page: u16 },
@@ -50,6 +53,7 @@ impl From<MountFault> for BootFault {
             MountFault::Disk => BootFault::Disk,
             MountFault::NotAPack => BootFault::NotAPack,
             MountFault::BadSlot { ino } => BootFault::BadSlot { ino },
+            MountFault::SharedTable { table } => BootFault::SharedTable { table },
             MountFault::SharedPage { page } => BootFault::SharedPage { page },
             MountFault::NoMemory => BootFault::NoMemory,
         }

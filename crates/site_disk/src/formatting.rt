@@ -39,9 +39,9 @@ impl SiteDisk {
         ensures outside { OnOk result (Torn 0 (disk_length config.now site) (D.moment disk.old).seen (D.moment disk.new).seen) }
         ensures crash { Goes (Torn 0 (disk_length config.now site)) (D.moment disk.old) (D.moment disk.new) }
 
-        // The label takes a write and a sync, each pack 67 of them.
+        // The label takes a write and a sync, each pack 131 of them.
         ensures cause { HasCause (D.moment disk.old).faults (D.moment disk.new).faults (disk_answer result) }
-        ensures tells { TellsFormat (2 + 67 * length (groups_at config.now site)) (D.moment disk.old).passing (D.moment disk.new).passing result }
+        ensures tells { TellsFormat (2 + 131 * length (groups_at config.now site)) (D.moment disk.old).passing (D.moment disk.new).passing result }
     {
         Label::format(disk, site)?;
         SitePacks::format(config, site, disk)?;

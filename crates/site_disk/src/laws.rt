@@ -6,8 +6,10 @@ ghost use Rattle.site_label.specs.Label.{HasBoot};
 ghost use Rattle.the_run.specs.Worlds.{formatted};
 ghost use Rattle.the_run.specs.Disks.{Disk, Armed, Cut, Whole, CutOff, one_label, new_gate, old_gate, cut_disk, boot_writes, boots, boots_freely};
 ghost use Rattle.gate_switch.specs.Gates.{new_gate as new_gate_left, old_gate as old_gate_left};
+ghost use Rattle.role_steps.specs.Storage.{copy_of};
 ghost use Rattle.role_steps.specs.Views.{Store, DiskWrite};
 ghost use Rattle.site_packs.specs.Copies.{copies_on};
+ghost use Rattle.site_packs.specs.Committing.{blocks_over};
 ghost use Rattle.site_packs.specs.Cutting.{IsCut};
 ghost use Rattle.site_packs.specs.Packs.{PacksState, groups_of};
 ghost use Rattle.site_disk.specs.Image.{label_on, one_half};
@@ -50,5 +52,5 @@ pub fn cut_gates_are_the_runs()
 /// A commit or an adoption that is cut off leaves the disk that it leaves in the run, where the store before had the copies of
 /// the image before, and one half of the label is open after it.
 pub fn cut_commit_is_the_runs()
-    ensures { (p : PacksState) (boot : ℕ) (before : Store) (w : DiskWrite) (how : Cut) (passed : ℕ) (image after : List ℕ) → IsCut p w.copy (length w.pages) (as_cut how) passed image after → copies_on (groups_of p) image ≡ before.copies → label_on after ≡ one_half boot → disk_on (groups_of p) after ≡ cut_disk boot before w how passed }
+    ensures { (p : PacksState) (boot : ℕ) (before : Store) (w : DiskWrite) (how : Cut) (passed : ℕ) (image after : List ℕ) → IsCut p w.copy (blocks_over (copy_of before w.copy.file) w.copy.content w.pages) (as_cut how) passed image after → copies_on (groups_of p) image ≡ before.copies → label_on after ≡ one_half boot → disk_on (groups_of p) after ≡ cut_disk boot before w how passed }
 {}

@@ -1,25 +1,29 @@
 -- Images that agree on the area of a pack: the pack is the same in both.
-use Rattle.std.proofs.Common.{◌≡◌, ◌≢◌, ◌⊎◌, inl, inr, ⊎_elim, ℕ, zero, suc, ◌+◌, ◌-◌, ◌*◌, ◌%◌, ◌≤◌, ◌<◌, Bool, true, false, List, length, get_or, Option, None, Some, refl, sym, ap, subst, ◌∙◌, arith}
-use Rattle.std.specs.Prelude.{◌==◌, ◌&&◌, if◌then◌else◌}
-use Rattle.std.proofs.lemmas.Bool.{cases_Bool, cases_lt}
-use Rattle.locus_ids.specs.Sizes.{inodes_max, page_bytes, content_pages_max, pack_pages}
+use Rattle.std.proofs.Common.{◌≡◌, ◌≢◌, ◌⊎◌, inl, inr, ⊎_elim, ℕ, zero, suc, ◌+◌, ◌-◌, ◌%◌, ◌≤◌, ◌<◌, Bool, true, false, List, length, get_or, Option, None, Some, refl, sym, ap, subst, ◌∙◌, arith}
+use Rattle.std.specs.Prelude.{◌==◌, ◌&&◌, if◌then◌else◌, IfSome}
+use Rattle.std.proofs.lemmas.Bool.{cases_lt}
+use Rattle.locus_ids.specs.Sizes.{inodes_max, page_bytes, slot_pages, content_tables_max, pack_pages, pack_tables}
 use Rattle.disk_model.specs.Images.{bytes_at, Torn}
-use Rattle.file_content.specs.Pages.{pages_of}
+use Rattle.file_content.specs.Pages.{pages_of, tables_of}
 use Rattle.pack_layout.specs.declared.half.Half.{Half}
 use Rattle.pack_layout.specs.declared.half.Half.TheVariants as slot_half
-use Rattle.pack_layout.specs.Layout.{area_length, area_at, slot_at, page_at, other_half}
+use Rattle.pack_layout.specs.declared.slot.Slot.{Slot}
+use Rattle.pack_layout.specs.Layout.{area_length, area_at, slot_at, table_at, page_at, numbers_of, IsSlot, other_half}
 use Rattle.pack_layout.proofs.Halves.{half_most}
 use Rattle.gate_switch.proofs.Tearing.{same_bytes, is_outside}
-use Rattle.pack_slots.specs.of_inode_switch.View.{is_open, turn, size, page, Newer, First, Second, Neither, newer_of, newer, counting, view}
+use Rattle.pack_slots.specs.of_inode_switch.View.{is_open, turn, size, table, page, Version, version, version_in, Newer, First, Second, Neither, newer_of, newer, counting, view}
+use Rattle.pack_slots.specs.of_inode_switch.Slots.{Says, HoldsTables}
 use Rattle.pack_slots.proofs.of_inode_switch.SlotBytes.{says}
-use Rattle.pack_slots.proofs.of_inode_switch.Views.{Agrees, same_view}
+use Rattle.pack_slots.proofs.of_inode_switch.TableBytes.{page_named}
+use Rattle.pack_slots.proofs.of_inode_switch.Views.{Keeps, same_version}
+use Rattle.pack_slots.proofs.Numbers.{first_numbers}
 use Rattle.pack_slots.specs.declared.inode_copy.InodeCopy.{InodeCopy}
 use Rattle.pack_slots.specs.declared.mount_fault.MountFault.{MountFault}
-use Rattle.pack_slots.specs.declared.mount_fault.MountFault.TheVariants.{Disk, NotAPack, BadSlot, SharedPage, NoMemory}
+use Rattle.pack_slots.specs.declared.mount_fault.MountFault.TheVariants.{Disk, NotAPack, BadSlot, SharedTable, SharedPage, NoMemory}
 use Rattle.inode_pack.specs.Pack.{PackState, Shows}
-use Rattle.pack_slots.specs.Copies.{copy_of, IsPackOf, ShowsCopy}
-use Rattle.pack_slots.specs.Slots.{HasSlot, IsGoodInode, counting_place}
-use Rattle.pack_slots.specs.Mounting.{Names, IsShared, IsSound, IsCause, losing_gates}
+use Rattle.pack_slots.specs.Copies.{copy_of, numbers_in, IsCopy, AreCopies, IsPackOf, ShowsCopy}
+use Rattle.pack_slots.specs.Slots.{HasSlot, HasNumbers, IsGoodInode, counting_place}
+use Rattle.pack_slots.specs.Mounting.{Names, IsShared, NamesTable, IsSharedTable, IsSound, IsCause, KeepsTables, losing_gates}
 
 -- the area from `base` on has the same bytes in both
 pub record AgreeOn (base : ℕ) (a b : List ℕ) : Type 0 where
@@ -50,6 +54,9 @@ module _ (base : ℕ) (a b : List ℕ) (agree : AgreeOn base a b) where
   page_byte : (number k : ℕ) → number < pack_pages → k < page_bytes → get_or b (page_at base number + k) 0 ≡ get_or a (page_at base number + k) 0
   page_byte number k lt small = at_place base (page_at base number + k) a b agree (omega arith) (omega arith)
 
+  table_byte : (number k : ℕ) → number < pack_tables → k < 1024 → get_or b (table_at base number + k) 0 ≡ get_or a (table_at base number + k) 0
+  table_byte number k lt small = at_place base (table_at base number + k) a b agree (omega arith) (omega arith)
+
   slot_bytes_same : (ino : ℕ) (half : Half) → 1 ≤ ino → ino ≤ inodes_max → bytes_at b (slot_at base ino half) 512 ≡ bytes_at a (slot_at base ino half) 512
   slot_bytes_same ino half low high = same_bytes a b (slot_at base ino half) 512 agree.long (λ k lt. slot_byte ino half k low high lt)
 
@@ -60,20 +67,6 @@ module _ (base : ℕ) (a b : List ℕ) (agree : AgreeOn base a b) where
 
   turn_same : (ino : ℕ) (half : Half) → 1 ≤ ino → ino ≤ inodes_max → turn b (slot_at base ino half) ≡ turn a (slot_at base ino half)
   turn_same ino half low high = slot_byte ino half 1 low high (omega arith)
-
-  size_same : (ino : ℕ) (half : Half) → 1 ≤ ino → ino ≤ inodes_max → size b (slot_at base ino half) ≡ size a (slot_at base ino half)
-  size_same ino half low high =
-      let at : (k : ℕ) → k < 512 → get_or b (slot_at base ino half + k) 0 ≡ get_or a (slot_at base ino half + k) 0 = (λ k lt. slot_byte ino half k low high lt) in
-      (λ i. ((at 7 (omega arith) i * 256 + at 8 (omega arith) i) * 256 + at 9 (omega arith) i) * 256 + at 10 (omega arith) i)
-
-  page_same : (ino : ℕ) (half : Half) (n : ℕ) → 1 ≤ ino → ino ≤ inodes_max → n < content_pages_max → page b (slot_at base ino half) n ≡ page a (slot_at base ino half) n
-  page_same ino half n low high lt =
-      let slot = slot_at base ino half in
-      let e : slot + (80 + 2 * n) ≡ slot + 80 + 2 * n = omega arith in
-      let f : slot + (81 + 2 * n) ≡ slot + 81 + 2 * n = omega arith in
-      let greater = subst (λ (m : ℕ). get_or b m 0 ≡ get_or a m 0) e (slot_byte ino half (80 + 2 * n) low high (omega arith)) in
-      let lesser = subst (λ (m : ℕ). get_or b m 0 ≡ get_or a m 0) f (slot_byte ino half (81 + 2 * n) low high (omega arith)) in
-      (λ i. greater i * 256 + lesser i)
 
   newer_same : (ino : ℕ) → 1 ≤ ino → ino ≤ inodes_max → newer b (slot_at base ino slot_half.First) (slot_at base ino slot_half.Second) ≡ newer a (slot_at base ino slot_half.First) (slot_at base ino slot_half.Second)
   newer_same ino low high =
@@ -94,43 +87,67 @@ module _ (base : ℕ) (a b : List ℕ) (agree : AgreeOn base a b) where
   has_slot_same : (ino : ℕ) (half : Half) → 1 ≤ ino → ino ≤ inodes_max → HasSlot ino (slot_at base ino half) a → HasSlot ino (slot_at base ino half) b
   has_slot_same ino half low high has = record { slot = has.slot; bytes = slot_bytes_same ino half low high ∙ has.bytes; is = has.is; own = has.own }
 
-  pub good_same : (ino : ℕ) → 1 ≤ ino → ino ≤ inodes_max → IsGoodInode base ino a → IsGoodInode base ino b
-  good_same ino low high good = record {
-    slots = λ half is. has_slot_same ino half low high (good.slots half (sym (open_same ino half low high) ∙ is));
-    turns = λ one two e. good.turns (sym (open_same ino slot_half.First low high) ∙ one) (sym (open_same ino slot_half.Second low high) ∙ two)
-        (sym (turn_same ino slot_half.First low high) ∙ e ∙ turn_same ino slot_half.Second low high);
+  tables_same : (s : Slot) (numbers : List ℕ) → IsSlot s → HoldsTables a base s numbers → HoldsTables b base s numbers
+  tables_same s numbers is holds k lt = same_bytes a b (table_at base (get_or s.tables k 0)) page_bytes agree.long (λ i small. table_byte (get_or s.tables k 0) i (is.tables.inside k lt) small) ∙ holds k lt
+
+  pub numbers_same : (ino : ℕ) (half : Half) → 1 ≤ ino → ino ≤ inodes_max → HasNumbers base (slot_at base ino half) a → HasNumbers base (slot_at base ino half) b
+  numbers_same ino half low high h = record {
+    slot = h.slot;
+    more = h.more;
+    bytes = slot_bytes_same ino half low high ∙ h.bytes;
+    is = h.is;
+    has = record { tables = tables_same h.slot (numbers_of h.slot.pages h.more) h.is h.has.tables; pages = h.has.pages };
   }
 
-  agrees : (ino : ℕ) (half : Half) → 1 ≤ ino → ino ≤ inodes_max → IsGoodInode base ino a → Agrees base (slot_at base ino half) a b
-  agrees ino half low high good = ⊎_elim
-      (λ (is : is_open a (slot_at base ino half) ≡ true).
-      let has = good.slots half is in
-      let s = says a (slot_at base ino half) has.slot has.bytes has.is in
-      let small = has.is.size in
-      let e = s.size in
-      inr (record {
-        long = agree.long;
-        few = omega arith;
-        bytes = λ k lt. slot_byte ino half k low high lt;
-        pages = λ i k lt in_page.
-            let inside : i < pages_of has.slot.size = subst (λ (n : ℕ). i < pages_of n) e lt in
-            let number = has.is.pages.inside i inside in
-            let f = s.pages i (omega arith) in
-            page_byte (page a (slot_at base ino half) i) k (omega arith) in_page;
-      }))
-      (λ (is : is_open a (slot_at base ino half) ≡ false). inl (is, open_same ino half low high ∙ is))
-      (cases_Bool (is_open a (slot_at base ino half)))
+  pub tables_agree : KeepsTables base a b
+  tables_agree ino half low high had is = numbers_same ino half low high (had (sym (open_same ino half low high) ∙ is))
 
-  -- what the view has of a good inode
-  pub view_same : (ino : ℕ) → 1 ≤ ino → ino ≤ inodes_max → IsGoodInode base ino a → view b base ino ≡ view a base ino
-  view_same ino low high good = same_view base (slot_at base ino slot_half.First) (slot_at base ino slot_half.Second) a b (agrees ino slot_half.First low high good) (agrees ino slot_half.Second low high good)
+  -- what such a slot says is the same in both
+  module _ (ino : ℕ) (half : Half) (low : 1 ≤ ino) (high : ino ≤ inodes_max) (h : HasNumbers base (slot_at base ino half) a) where
+    abbrev at_slot : ℕ
+    at_slot = slot_at base ino half
 
-  shows_copy_same : (ino : ℕ) → 1 ≤ ino → ino ≤ inodes_max → (o : Option InodeCopy) → ShowsCopy base ino a o → ShowsCopy base ino b o
-  shows_copy_same ino low high None shows = λ half. open_same ino half low high ∙ shows half
-  shows_copy_same ino low high (Some copy) shows = record {
-    bytes = slot_bytes_same ino copy.half low high ∙ shows.bytes;
-    other = open_same ino (other_half copy.half) low high ∙ shows.other;
-  }
+    said_a : Says a (slot_at base ino half) h.slot
+    said_a = says a (slot_at base ino half) h.slot h.bytes h.is
+
+    said_b : Says b (slot_at base ino half) h.slot
+    said_b = says b (slot_at base ino half) h.slot (slot_bytes_same ino half low high ∙ h.bytes) h.is
+
+    first : (i : ℕ) → i < slot_pages → get_or (numbers_of h.slot.pages h.more) i 0 ≡ get_or h.slot.pages i 0
+    first i lt = first_numbers (record { half = half; slot = h.slot; more = h.more }) h.is i lt
+
+    named_a : (i : ℕ) → i < pages_of h.slot.size → page a base (slot_at base ino half) i ≡ get_or (numbers_of h.slot.pages h.more) i 0
+    named_a i lt = page_named a base at_slot h.slot (numbers_of h.slot.pages h.more) h.is said_a h.has.tables h.has.pages first i lt
+
+    named_b : (i : ℕ) → i < pages_of h.slot.size → page b base (slot_at base ino half) i ≡ get_or (numbers_of h.slot.pages h.more) i 0
+    named_b i lt = page_named b base at_slot h.slot (numbers_of h.slot.pages h.more) h.is said_b (tables_same h.slot (numbers_of h.slot.pages h.more) h.is h.has.tables) h.has.pages first i lt
+
+    pub size_same : size b (slot_at base ino half) ≡ size a (slot_at base ino half)
+    size_same = said_b.size ∙ sym said_a.size
+
+    pub page_same : (i : ℕ) → i < pages_of (size a (slot_at base ino half)) → page b base (slot_at base ino half) i ≡ page a base (slot_at base ino half) i
+    page_same i lt = let inside : i < pages_of h.slot.size = subst (λ (n : ℕ). i < pages_of n) said_a.size lt in named_b i inside ∙ sym (named_a i inside)
+
+    pub table_same : (k : ℕ) → k < tables_of (pages_of (size a (slot_at base ino half))) → table b (slot_at base ino half) k ≡ table a (slot_at base ino half) k
+    table_same k lt = let few : k < content_tables_max = (let small = h.is.size in let e = said_a.size in omega arith) in said_b.tables k few ∙ sym (said_a.tables k few)
+
+    pub keeps : Keeps base (slot_at base ino half) a b
+    keeps = let e = said_a.size in record {
+      long = agree.long;
+      few = let small = h.is.size in omega arith;
+      bytes = λ k lt. slot_byte ino half k low high lt;
+      tables = λ t k lt small.
+          let inside : t < tables_of (pages_of h.slot.size) = subst (λ (n : ℕ). t < tables_of (pages_of n)) e lt in
+          let few : t < content_tables_max = (let most = h.is.size in omega arith) in
+          let number = h.is.tables.inside t inside in
+          let f = said_a.tables t few in
+          table_byte (table a at_slot t) k (omega arith) small;
+      pages = λ i k lt small.
+          let inside : i < pages_of h.slot.size = subst (λ (n : ℕ). i < pages_of n) e lt in
+          let number = h.has.pages.inside i inside in
+          let f = named_a i inside in
+          page_byte (page a base at_slot i) k (omega arith) small;
+    }
 
 -- a slot that counts is open
 counts_open : (o p : Bool) (f : Newer) (x y place : ℕ) → counting o p f x y ≡ Some place → ((place ≡ x) × (o ≡ true)) ⊎ ((place ≡ y) × (p ≡ true))
@@ -151,21 +168,67 @@ counting_slot base ino image place is =
     (counts_open (is_open image first) (is_open image second) (newer image first second) first second place is)
 
 module _ (base : ℕ) (a b : List ℕ) (agree : AgreeOn base a b) where
+  pub good_same : (ino : ℕ) → 1 ≤ ino → ino ≤ inodes_max → IsGoodInode base ino a → IsGoodInode base ino b
+  good_same ino low high good = record {
+    slots = λ half is. has_slot_same base a b agree ino half low high (good.slots half (sym (open_same base a b agree ino half low high) ∙ is));
+    turns = λ one two e. good.turns (sym (open_same base a b agree ino slot_half.First low high) ∙ one) (sym (open_same base a b agree ino slot_half.Second low high) ∙ two)
+        (sym (turn_same base a b agree ino slot_half.First low high) ∙ e ∙ turn_same base a b agree ino slot_half.Second low high);
+    tables = λ place is.
+        let counts = sym (place_same base a b agree ino low high) ∙ is in
+        let c = counting_slot base ino a place counts in
+        subst (λ (at : ℕ). HasNumbers base at b) (sym c.1) (numbers_same base a b agree ino c.0 low high (subst (λ (at : ℕ). HasNumbers base at a) c.1 (good.tables place counts)));
+  }
+
+  -- what the view has of a good inode
+  pub view_same : (ino : ℕ) → 1 ≤ ino → ino ≤ inodes_max → IsGoodInode base ino a → view b base ino ≡ view a base ino
+  view_same ino low high good = ap (λ (o : Option ℕ). version_in b base o) (place_same base a b agree ino low high) ∙ by_place (counting_place base ino a) refl
+    where
+      by_place : (o : Option ℕ) → counting_place base ino a ≡ o → version_in b base o ≡ version_in a base o
+      by_place None is = refl
+      by_place (Some place) is =
+          let c = counting_slot base ino a place is in
+          let h = subst (λ (at : ℕ). HasNumbers base at a) c.1 (good.tables place is) in
+          ap (λ (v : Version). Some v) (subst (λ (at : ℕ). version b base at ≡ version a base at) (sym c.1) (same_version base (slot_at base ino c.0) a b (keeps base a b agree ino c.0 low high h)))
+
+  shows_copy_same : (ino : ℕ) → 1 ≤ ino → ino ≤ inodes_max → (o : Option InodeCopy) → IfSome o (λ copy. IsCopy ino copy) → ShowsCopy base ino a o → ShowsCopy base ino b o
+  shows_copy_same ino low high None own shows = (λ half. open_same base a b agree ino half low high ∙ shows.0 half, tt)
+  shows_copy_same ino low high (Some copy) own shows = (
+    record {
+      bytes = slot_bytes_same base a b agree ino copy.half low high ∙ shows.0.bytes;
+      other = open_same base a b agree ino (other_half copy.half) low high ∙ shows.0.other;
+    },
+    tables_same base a b agree copy.slot (numbers_in copy) own.slot shows.1,
+  )
+
+module _ (base : ℕ) (a b : List ℕ) (agree : AgreeOn base a b) where
+  -- the slot that counts in the second image, where the first one has its tables too
+  there : (ino place : ℕ) → 1 ≤ ino → ino ≤ inodes_max → IsGoodInode base ino b → counting_place base ino b ≡ Some place → (half : Half) × (place ≡ slot_at base ino half) × HasNumbers base (slot_at base ino half) b
+  there ino place low high good is = let c = counting_slot base ino b place is in (c.0, c.1, subst (λ (at : ℕ). HasNumbers base at b) c.1 (good.tables place is))
+
   names_same : (ino number : ℕ) → 1 ≤ ino → ino ≤ inodes_max → IsGoodInode base ino b → Names base ino number b → Names base ino number a
   names_same ino number low high good names =
-      let c = counting_slot base ino b names.place names.counts in
-      let has = good.slots c.0 c.2 in
-      let s = says b (slot_at base ino c.0) has.slot has.bytes has.is in
-      let small = has.is.size in
-      let e : size b names.place ≡ has.slot.size = ap (size b) c.1 ∙ s.size in
-      let inside = names.inside in
-      let few : names.i < content_pages_max = (let lt : names.i < pages_of has.slot.size = subst (λ (n : ℕ). names.i < pages_of n) e inside in omega arith) in
+      let t = there ino names.place low high good names.counts in
+      let back = agree_back base a b agree in
+      let inside : names.i < pages_of (size b (slot_at base ino t.0)) = subst (λ (at : ℕ). names.i < pages_of (size b at)) t.1 names.inside in
       record {
         place = names.place;
         counts = sym (place_same base a b agree ino low high) ∙ names.counts;
         i = names.i;
-        inside = subst (λ (n : ℕ). names.i < pages_of n) (ap (size b) c.1 ∙ size_same base a b agree ino c.0 low high ∙ ap (size a) (sym c.1)) inside;
-        is = ap (λ (at : ℕ). page a at names.i) c.1 ∙ sym (page_same base a b agree ino c.0 names.i low high few) ∙ ap (λ (at : ℕ). page b at names.i) (sym c.1) ∙ names.is;
+        inside = subst (λ (at : ℕ). names.i < pages_of (size a at)) (sym t.1) (subst (λ (n : ℕ). names.i < pages_of n) (sym (size_same base b a back ino t.0 low high t.2)) inside);
+        is = subst (λ (at : ℕ). page a base at names.i ≡ number) (sym t.1) (page_same base b a back ino t.0 low high t.2 names.i inside ∙ subst (λ (at : ℕ). page b base at names.i ≡ number) t.1 names.is);
+      }
+
+  names_table_same : (ino number : ℕ) → 1 ≤ ino → ino ≤ inodes_max → IsGoodInode base ino b → NamesTable base ino number b → NamesTable base ino number a
+  names_table_same ino number low high good names =
+      let t = there ino names.place low high good names.counts in
+      let back = agree_back base a b agree in
+      let inside : names.k < tables_of (pages_of (size b (slot_at base ino t.0))) = subst (λ (at : ℕ). names.k < tables_of (pages_of (size b at))) t.1 names.inside in
+      record {
+        place = names.place;
+        counts = sym (place_same base a b agree ino low high) ∙ names.counts;
+        k = names.k;
+        inside = subst (λ (at : ℕ). names.k < tables_of (pages_of (size a at))) (sym t.1) (subst (λ (n : ℕ). names.k < tables_of (pages_of n)) (sym (size_same base b a back ino t.0 low high t.2)) inside);
+        is = subst (λ (at : ℕ). table a at names.k ≡ number) (sym t.1) (table_same base b a back ino t.0 low high t.2 names.k inside ∙ subst (λ (at : ℕ). table b at names.k ≡ number) t.1 names.is);
       }
 
   shared_same : (number : ℕ) → ((ino : ℕ) → 1 ≤ ino → ino ≤ inodes_max → IsGoodInode base ino b) → IsShared base number b → IsShared base number a
@@ -183,12 +246,30 @@ module _ (base : ℕ) (a b : List ℕ) (agree : AgreeOn base a b) where
         second = names_same shared.other number (omega arith) high (good shared.other (omega arith) high) shared.second;
       }
 
+  shared_table_same : (number : ℕ) → ((ino : ℕ) → 1 ≤ ino → ino ≤ inodes_max → IsGoodInode base ino b) → IsSharedTable base number b → IsSharedTable base number a
+  shared_table_same number good shared =
+      let low = shared.low in
+      let apart = shared.apart in
+      let high = shared.high in
+      record {
+        one = shared.one;
+        other = shared.other;
+        low = low;
+        apart = apart;
+        high = high;
+        first = names_table_same shared.one number low (omega arith) (good shared.one low (omega arith)) shared.first;
+        second = names_table_same shared.other number (omega arith) high (good shared.other (omega arith) high) shared.second;
+      }
+
   pub sound_same : (group site : ℕ) → IsSound base group site a → IsSound base group site b
-  sound_same group site sound = record {
-    named = named_same base a b agree group site sound.named;
-    inodes = λ ino low high. good_same base a b agree ino low high (sound.inodes ino low high);
-    pages = λ number shared. sound.pages number (shared_same number (λ ino low high. good_same base a b agree ino low high (sound.inodes ino low high)) shared);
-  }
+  sound_same group site sound =
+      let good : (ino : ℕ) → 1 ≤ ino → ino ≤ inodes_max → IsGoodInode base ino b = λ ino low high. good_same base a b agree ino low high (sound.inodes ino low high) in
+      record {
+        named = named_same base a b agree group site sound.named;
+        inodes = good;
+        tables = λ number shared. sound.tables number (shared_table_same number good shared);
+        pages = λ number shared. sound.pages number (shared_same number good shared);
+      }
 
 -- why the pack doesn't mount
 pub cause_same : (base group site : ℕ) (a b : List ℕ) → AgreeOn base a b → (fault : MountFault) → IsCause base group site a fault → IsCause base group site b fault
@@ -203,10 +284,19 @@ cause_same base group site a b agree (BadSlot ino) cause = (
     below = λ lower low lt. good_same base a b agree lower low (let h = cause.1.high in omega arith) (cause.1.below lower low lt);
   },
 )
+cause_same base group site a b agree (SharedTable number) cause = (
+  named_same base a b agree group site cause.0,
+  record {
+    inodes = λ ino low high. good_same base a b agree ino low high (cause.1.inodes ino low high);
+    shared = shared_table_same base b a (agree_back base a b agree) number cause.1.inodes cause.1.shared;
+    below = λ lower lt shared. cause.1.below lower lt (shared_table_same base a b agree lower (λ ino low high. good_same base a b agree ino low high (cause.1.inodes ino low high)) shared);
+  },
+)
 cause_same base group site a b agree (SharedPage number) cause = (
   named_same base a b agree group site cause.0,
   record {
     inodes = λ ino low high. good_same base a b agree ino low high (cause.1.inodes ino low high);
+    tables = λ table shared. cause.1.tables table (shared_table_same base a b agree table (λ ino low high. good_same base a b agree ino low high (cause.1.inodes ino low high)) shared);
     shared = shared_same base b a (agree_back base a b agree) number cause.1.inodes cause.1.shared;
     below = λ lower lt shared. cause.1.below lower lt (shared_same base a b agree lower (λ ino low high. good_same base a b agree ino low high (cause.1.inodes ino low high)) shared);
   },
@@ -214,11 +304,11 @@ cause_same base group site a b agree (SharedPage number) cause = (
 cause_same base group site a b agree NoMemory cause = tt
 
 -- the pack stands in both
-pub shows_same : (pack : PackState) (a b : List ℕ) → AgreeOn pack.base a b → Shows pack a → Shows pack b
-shows_same pack a b agree shows = record {
+pub shows_same : (pack : PackState) (a b : List ℕ) → AgreeOn pack.base a b → AreCopies pack.copies → Shows pack a → Shows pack b
+shows_same pack a b agree are shows = record {
   area = (let e = agree.long in let le = shows.area in omega arith);
   named = named_same pack.base a b agree pack.group pack.site shows.named;
-  copies = λ ino low high. shows_copy_same pack.base a b agree ino low high (copy_of pack.copies ino) (shows.copies ino low high);
+  copies = λ ino low high. shows_copy_same pack.base a b agree ino low high (copy_of pack.copies ino) (are.own ino) (shows.copies ino low high);
 }
 
 -- as many gates lose

@@ -10,7 +10,7 @@ use Rattle.pack_slots.specs.of_inode_switch.View.{Version, view, SameView, Repla
 use Rattle.inode_pack.specs.Pack.{PackState, Shows}
 use Rattle.pack_slots.specs.Copies.{AreCopies}
 use Rattle.pack_slots.specs.Mounting.{IsSound}
-use Rattle.inode_pack.proofs.Leaving.{shows_sound}
+use Rattle.inode_pack.proofs.Leaving.{shows_kept}
 use Rattle.role_steps.specs.Tables.{row, with_row}
 use Rattle.role_steps.specs.Storage.{copy_key}
 use Rattle.role_steps.specs.declared.copies.FileCopy.{FileCopy}
@@ -89,11 +89,11 @@ pub one_kept : (nth other : ℕ) (pack : PackState) (old new : List ℕ) → pac
     → SameView pack.base old new × Shows pack new × IsSound (area_at other) pack.group pack.site new
 one_kept nth other pack old new base are apart torn shows =
     let agree : AgreeOn pack.base old new = subst (λ (b : ℕ). AgreeOn b old new) (sym base) (other_area nth other old new apart torn) in
-    let sound = shows_sound pack old are shows in
-    let now = shows_same pack old new agree shows in (
+    let sound = (shows_kept pack old are shows).sound in
+    let now = shows_same pack old new agree are shows in (
       λ ino low high. view_same pack.base old new agree ino low high (sound.inodes ino low high),
       now,
-      subst (λ (b : ℕ). IsSound b pack.group pack.site new) base (shows_sound pack new are now),
+      subst (λ (b : ℕ). IsSound b pack.group pack.site new) base (shows_kept pack new are now).sound,
     )
 
 -- packs behind the torn area

@@ -15,7 +15,7 @@ use Rattle.gate_switch.proofs.Tearing.{torn_joins}
 use Rattle.pack_layout.specs.declared.half.Half.TheVariants.{First, Second}
 use Rattle.pack_layout.specs.Layout.{area_length, area_at}
 use Rattle.pack_slots.specs.declared.mount_fault.MountFault.{MountFault}
-use Rattle.pack_slots.specs.declared.mount_fault.MountFault.TheVariants.{Disk, NotAPack, BadSlot, SharedPage, NoMemory}
+use Rattle.pack_slots.specs.declared.mount_fault.MountFault.TheVariants.{Disk, NotAPack, BadSlot, SharedTable, SharedPage, NoMemory}
 use Rattle.inode_pack.specs.Pack.{PackState, Shows}
 use Rattle.pack_slots.specs.Copies.{AreCopies}
 use Rattle.pack_slots.specs.Mounting.{losing_gates, mount_calls as pack_calls, disk_answer, KeepsPack}
@@ -140,7 +140,7 @@ pub cut_later : (nth home base : ℕ) (groups rest : List ℕ) (g : ℕ) (pack :
 cut_later nth home base groups rest g pack how passed old mid c is at own are shows keeps le cut =
     let torn : Torn (area_at nth) area_length old mid = subst (λ (b : ℕ). Torn b area_length old mid) at keeps.outside in
     let here : AgreeOn (area_at nth) mid c = before_torn nth (length rest) mid c cut.outside in
-    let still : Shows pack c = shows_same pack mid c (subst (λ (b : ℕ). AgreeOn b mid c) (sym (own ∙ at)) here) shows in
+    let still : Shows pack c = shows_same pack mid c (subst (λ (b : ℕ). AgreeOn b mid c) (sym (own ∙ at)) here) are shows in
     let none = shown_one nth 0 home pack c (own ∙ at) are still in
     let first = map (file_in g) (losing_inodes (area_at nth) old) in
     let count = length-map (losing_inodes (area_at nth) old) (file_in g) ∙ losing_count (area_at nth) old inodes_max in
@@ -166,6 +166,7 @@ on_fault {T} S (Err e) fault A is a = moved e (subst (λ (f : MountFault). OnErr
     moved Disk h = h
     moved NotAPack h = h
     moved (BadSlot ino) h = h
+    moved (SharedTable table) h = h
     moved (SharedPage page) h = h
     moved NoMemory h = h
 
@@ -175,6 +176,7 @@ pub mount_few : (T S : Type 0) (base : ℕ) (image : List ℕ) (fault : MountFau
 mount_few T S base image Disk p q passed A B tells told f a = f (tells_few (2 * losing_gates base inodes_max image) p q (Err Failed) passed tells told) a
 mount_few T S base image NotAPack p q passed A B tells told f a = a
 mount_few T S base image (BadSlot ino) p q passed A B tells told f a = a
+mount_few T S base image (SharedTable table) p q passed A B tells told f a = a
 mount_few T S base image (SharedPage page) p q passed A B tells told f a = a
 mount_few T S base image NoMemory p q passed A B tells told f a = a
 
@@ -183,5 +185,6 @@ on_answer (Ok x) A B f a = a
 on_answer (Err Disk) A B f a = f a
 on_answer (Err NotAPack) A B f a = a
 on_answer (Err (BadSlot ino)) A B f a = a
+on_answer (Err (SharedTable table)) A B f a = a
 on_answer (Err (SharedPage page)) A B f a = a
 on_answer (Err NoMemory) A B f a = a

@@ -26,7 +26,7 @@ use Rattle.site_packs.proofs.Reports.{found_pack}
 use Rattle.site_packs.proofs.Contents.{content_at}
 use Rattle.site_packs.proofs.Seen.{held_none, held_some}
 
-size_by : (pack : PackState) (ino : ℕ) (image : List ℕ) (o : Option InodeCopy) → AreCopies pack.copies → Shows pack image → 1 ≤ ino → ino ≤ inodes_max → copy_of pack.copies ino ≡ o → size_of o ≡ length (content_of (view image pack.base ino))
+pub size_by : (pack : PackState) (ino : ℕ) (image : List ℕ) (o : Option InodeCopy) → AreCopies pack.copies → Shows pack image → 1 ≤ ino → ino ≤ inodes_max → copy_of pack.copies ino ≡ o → size_of o ≡ length (content_of (view image pack.base ino))
 size_by pack ino image None are shows low high is = sym (ap (λ (o : Option Version). length (content_of o)) (held_none pack ino image are shows low high is))
 size_by pack ino image (Some copy) are shows low high is =
     let held = held_some pack ino image copy are shows low high is in

@@ -37,8 +37,8 @@ module _ {D : Type 0} (moment : D → Moment) where
   goes_rest nth count old mid new first rest =
       goes_more moment (Within (nth + 1) count) (Within nth (suc count)) old mid new (rest_inside nth count) (torn_joins (area_at nth) (area_length * suc count)) (goes_first nth count old mid first) rest
 
-pub tells_rest : (count : ℕ) (p q r : Passing) (result : Result (Unit {0}) DiskFault) → TellsMany {T = Unit {0}} {E = DiskFault} 67 p q (Ok tt) → TellsMany (67 * count) q r result → TellsMany (67 * suc count) p r result
-tells_rest count p q r result first rest = let e : 67 + 67 * count ≡ 67 * suc count = omega arith in subst (λ (n : ℕ). TellsMany n p r result) e (tells_join 67 (67 * count) p q r result first rest)
+pub tells_rest : (count : ℕ) (p q r : Passing) (result : Result (Unit {0}) DiskFault) → TellsMany {T = Unit {0}} {E = DiskFault} 131 p q (Ok tt) → TellsMany (131 * count) q r result → TellsMany (131 * suc count) p r result
+tells_rest count p q r result first rest = let e : 131 + 131 * count ≡ 131 * suc count = omega arith in subst (λ (n : ℕ). TellsMany n p r result) e (tells_join 131 (131 * count) p q r result first rest)
 
 -- ---- which groups are stored ----
 

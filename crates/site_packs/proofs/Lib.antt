@@ -1,4 +1,5 @@
 pub mod Areas
+pub mod Live
 pub mod Fields
 pub mod Rows
 pub mod Seen
@@ -7,7 +8,10 @@ pub mod Reports
 pub mod FreeNumbers
 pub mod PageBytes
 pub mod Contents
+pub mod Noted
 pub mod Stored
+pub mod WrittenTables
+pub mod Blocks
 pub mod Marks
 pub mod Fills
 pub mod Mounts

@@ -1,7 +1,7 @@
 -- How the packs of a site are mounted one behind the other.
-use Rattle.std.proofs.Common.{◌≡◌, inl, inr, ⊎_elim, ℕ, suc, ◌+◌, ◌-◌, ◌*◌, ◌≤◌, ◌<◌, Bool, true, false, cond, List, [], ◌∷◌, ◌++◌, length, take, drop, get_or, refl, sym, ap, subst, ◌∙◌, arith, append_assoc}
+use Rattle.std.proofs.Common.{◌≡◌, ◌≢◌, inl, inr, ⊎_elim, ℕ, suc, ◌+◌, ◌-◌, ◌*◌, ◌≤◌, ◌<◌, Bool, true, false, cond, List, [], ◌∷◌, ◌++◌, length, take, drop, get_or, refl, sym, ap, subst, ◌∙◌, arith, append_assoc}
 use Rattle.std.specs.Prelude.{◌==◌, filter, Result, Ok, Err, IfErr, IsErrAnd}
-use Rattle.std.proofs.lemmas.Bool.{cases_lt, eqb-true, eq-eqb, false≢true}
+use Rattle.std.proofs.lemmas.Bool.{cases_lt, cases_eq, eqb-true, eq-eqb, false≢true}
 use Rattle.std.proofs.lemmas.List.{take_all, append-nil}
 use Rattle.locus_ids.specs.Sizes.{inodes_max}
 use Rattle.locus_ids.specs.Sites.{has}
@@ -10,7 +10,7 @@ use Rattle.disk_model.specs.Images.{Torn}
 use Rattle.pack_layout.specs.Layout.{area_length, area_at}
 use Rattle.gate_switch.proofs.Tearing.{torn_widens, torn_stays, torn_joins, is_outside}
 use Rattle.pack_slots.specs.declared.mount_fault.MountFault.{MountFault}
-use Rattle.pack_slots.specs.declared.mount_fault.MountFault.TheVariants.{Disk, NotAPack, BadSlot, SharedPage, NoMemory}
+use Rattle.pack_slots.specs.declared.mount_fault.MountFault.TheVariants.{Disk, NotAPack, BadSlot, SharedTable, SharedPage, NoMemory}
 use Rattle.inode_pack.specs.Pack.{PackState, Stands}
 use Rattle.pack_slots.specs.Copies.{AreCopies}
 use Rattle.disk_model.specs.Disk.{Moment, IsSettled, Passing}
@@ -18,13 +18,13 @@ use Rattle.disk_model.specs.Moments.{TellsMany}
 use Rattle.disk_model.specs.declared.disk.DiskFault.{DiskFault}
 use Rattle.disk_model.specs.declared.disk.DiskFault.TheVariants.{Failed}
 use Rattle.disk_model.proofs.Tells.{tells_join}
-use Rattle.pack_slots.specs.Mounting.{IsSound, IsPassing, KeepsPack, losing_gates}
+use Rattle.pack_slots.specs.Mounting.{IsSound, IsPassing, KeepsTables, KeepsPack, losing_gates}
 use Rattle.inode_pack.proofs.Mounted.{mounts}
 use Rattle.role_steps.specs.Views.{pack_sites, all_groups}
 use Rattle.site_packs.specs.Copies.{copies_behind}
 use Rattle.site_packs.specs.Packs.{groups_at}
-use Rattle.site_packs.specs.Mounting.{AreSoundBehind, IsFirstCause, IsCauseBehind, AreGroups, AreKept, LeavesPacks, KeepsCopies, AreMounted, TellsMount, gates_behind}
-use Rattle.site_packs.proofs.Areas.{AgreeOn, other_area, view_same, sound_same, cause_same, shows_same, agree_back, gates_same}
+use Rattle.site_packs.specs.Mounting.{AreSoundBehind, IsFirstCause, IsCauseBehind, AreGroups, AreKept, AreTablesKept, LeavesPacks, KeepsCopies, AreMounted, TellsMount, gates_behind}
+use Rattle.site_packs.proofs.Areas.{AgreeOn, other_area, tables_agree, view_same, sound_same, cause_same, shows_same, agree_back, gates_same}
 use Rattle.site_packs.proofs.Behind.{pack_same}
 
 -- the areas from the nth on agree in both
@@ -89,10 +89,18 @@ widen_first nth count a b torn = torn_widens (area_at nth) area_length (area_at 
 pub widen_rest : (nth count : ℕ) (a b : List ℕ) → Torn (area_at (nth + 1)) (area_length * count) a b → Torn (area_at nth) (area_length * suc count) a b
 widen_rest nth count a b torn = torn_widens (area_at (nth + 1)) (area_length * count) (area_at nth) (area_length * suc count) (omega arith) (omega arith) a b torn
 
+-- where one area changes, the others have their tables
+pub one_keeps : (nth : ℕ) (a b : List ℕ) → Torn (area_at nth) area_length a b → KeepsTables (area_at nth) a b → AreTablesKept a b
+one_keeps nth a b torn keeps m = ⊎_elim
+    (λ (e : m ≡ nth). subst (λ (n : ℕ). KeepsTables (area_at n) a b) (sym e) keeps)
+    (λ (ne : m ≢ nth). tables_agree (area_at m) a b (other_area nth m a b (λ e. ne (sym e)) torn))
+    (cases_eq m nth)
+
 -- within the mount of the first pack
 pub first_leaves : (nth group site : ℕ) (groups old c : List ℕ) → AreSoundBehind nth site (group ∷ groups) old → KeepsPack (area_at nth) group site old c → LeavesPacks nth site (group ∷ groups) old c
 first_leaves nth group site groups old c sound keeps = record {
   kept = (keeps.view, keeps.sound sound.0, kept_agree (nth + 1) site groups old old c (behind_torn nth old c keeps.outside) (kept_start (nth + 1) site groups old sound.1));
+  tables = one_keeps nth old c keeps.outside keeps.tables;
   outside = widen_first nth (length groups) old c keeps.outside;
 }
 
@@ -107,6 +115,7 @@ rest_leaves nth group site groups old mid c sound keeps leaves =
         sound_same (area_at nth) mid c here group site now,
         kept_since (nth + 1) site groups old mid c (behind_torn nth old mid keeps.outside) sound.1 leaves.kept,
       );
+      tables = λ m ino half low high had. leaves.tables m ino half low high (one_keeps nth old mid keeps.outside keeps.tables m ino half low high had);
       outside = torn_joins (area_at nth) (area_length * suc (length groups)) old mid c (widen_first nth (length groups) old mid keeps.outside) (widen_rest nth (length groups) mid c leaves.outside);
     }
 
@@ -218,7 +227,7 @@ mounted_more nth home base groups rest g before added after pack old mid new is 
           let high = ok'.1 in
           (record { base = own ∙ at; site = site; low = omega arith; high = omega arith; copies = copies }, more.are (pack.group + 1) (subst (λ (k : ℕ). AreGroups (k + 1) rest) (sym group) ok'.2));
       groups_are = (λ i. group i ∷ more.groups_are i) ∙ sym is;
-      shown = (shows_same pack mid.seen new.seen here stands.shows, more.shown);
+      shown = (shows_same pack mid.seen new.seen here copies stands.shows, more.shown);
       sound = subst (λ (l : List ℕ). AreSoundBehind nth home l old.seen) (sym is) all;
       leaves = subst (λ (l : List ℕ). LeavesPacks nth home l old.seen new.seen) (sym is) (rest_leaves nth g home rest old.seen mid.seen new.seen all keeps' more.leaves);
       settled = more.settled;
@@ -232,7 +241,7 @@ mounted_none nth home [] before moment none settled = record {
   groups_are = refl;
   shown = tt;
   sound = tt;
-  leaves = record { kept = tt; outside = torn_stays (area_at nth) (area_length * 0) moment.seen };
+  leaves = record { kept = tt; tables = λ m ino half low high had. had; outside = torn_stays (area_at nth) (area_length * 0) moment.seen };
   settled = settled;
 }
 mounted_none nth home (g ∷ groups) before moment none settled = absurd (omega arith)
@@ -270,6 +279,7 @@ tells_cases n m k p q r (Ok x) e first then = subst (λ (c : ℕ). TellsMany {T 
 tells_cases n m k p q r (Err Disk) e first then = subst (λ (c : ℕ). TellsMany {T = Unit {0}} {E = DiskFault} c p r (Err Failed)) (sym e) (tells_join n m p q r (Err Failed) first then)
 tells_cases n m k p q r (Err NotAPack) e first then = tt
 tells_cases n m k p q r (Err (BadSlot ino)) e first then = tt
+tells_cases n m k p q r (Err (SharedTable table)) e first then = tt
 tells_cases n m k p q r (Err (SharedPage page)) e first then = tt
 tells_cases n m k p q r (Err NoMemory) e first then = tt
 
@@ -302,5 +312,6 @@ pub leaves_copies : (site : ℕ) (groups old new : List ℕ) → LeavesPacks 0 s
 leaves_copies site groups old new leaves = record {
   copies = copies_kept 0 site groups old new leaves.kept;
   sound = λ _. sound_kept 0 site groups old new leaves.kept;
+  tables = leaves.tables;
   outside = leaves.outside;
 }

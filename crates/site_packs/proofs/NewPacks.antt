@@ -1,5 +1,5 @@
 -- A pack as a format leaves it: one copy, the empty root directory, and no inode with two open slots.
-use Rattle.std.proofs.Common.{◌≡◌, ◌≢◌, ℕ, zero, suc, ◌+◌, ◌-◌, ◌*◌, ◌≤◌, ◌<◌, ◌^◌, Bool, true, false, List, [], ◌∷◌, ◌++◌, length, Option, None, Some, refl, sym, ap, subst, ◌∙◌, arith, ⊎_elim}
+use Rattle.std.proofs.Common.{◌≡◌, ◌≢◌, ℕ, zero, suc, ◌+◌, ◌-◌, ◌*◌, ◌≤◌, ◌<◌, Bool, true, false, List, [], ◌∷◌, ◌++◌, length, Option, None, Some, refl, sym, ap, subst, ◌∙◌, arith, ⊎_elim}
 use Rattle.std.specs.Prelude.{◌==◌, ◌&&◌, cond, map, if◌then◌else◌}
 use Rattle.std.proofs.lemmas.Bool.{eqb-true, cases_Bool}
 use Rattle.locus_ids.specs.Sizes.{inodes_max, set_span}
@@ -14,15 +14,17 @@ use Rattle.pack_layout.specs.declared.half.Half.TheVariants.{First, Second}
 use Rattle.pack_layout.specs.Layout.{area_length, area_at, slot_at, IsSlot, other_half}
 use Rattle.pack_slots.specs.of_inode_switch.View.{is_open, Version, version, version_in, view}
 use Rattle.pack_slots.proofs.of_inode_switch.SlotBytes.{says}
+use Rattle.pack_slots.proofs.of_inode_switch.TableBytes.{page_named}
 use Rattle.pack_slots.proofs.of_inode_switch.VersionBytes.{content_length}
 use Rattle.pack_slots.specs.declared.inode_copy.InodeCopy.{InodeCopy}
 use Rattle.inode_pack.specs.Pack.{PackState}
-use Rattle.pack_slots.specs.Copies.{copy_of, ShowsCopy, ShowsCopies}
+use Rattle.pack_slots.specs.Copies.{copy_of, numbers_in, ShowsCopy, ShowsCopies}
 use Rattle.pack_slots.specs.Slots.{IsFound}
 use Rattle.pack_slots.specs.Mounting.{IsSound, has_losing_gate, losing_gates}
 use Rattle.pack_slots.specs.Format.{root_slot, new_copy}
 use Rattle.pack_slots.proofs.Counting.{found_counts}
 use Rattle.pack_slots.proofs.New.{stored_somewhere, root_is_slot}
+use Rattle.pack_slots.proofs.Numbers.{few_named, first_numbers}
 use Rattle.role_steps.specs.Views.{pack_sites}
 use Rattle.role_steps.specs.declared.copies.FileCopy.{FileCopy}
 use Rattle.site_packs.specs.Copies.{copy_in, with_version, copies_from, copies_in}
@@ -59,22 +61,25 @@ is_other : (ino : ℕ) → ino ≢ 1 → (ino == 1) ≡ false
 is_other ino ne = ⊎_elim (λ (yes : (ino == 1) ≡ true). absurd (ne (eqb-true ino 1 yes))) (λ (no : (ino == 1) ≡ false). no) (cases_Bool (ino == 1))
 
 abbrev root : Sites → InodeCopy
-root set = record { half = First; slot = root_slot set }
+root set = record { half = First; slot = root_slot set; more = [] }
 
 none_there : (base ino : ℕ) (set : Sites) (image : List ℕ) → ino ≢ 1 → ShowsCopy base ino image (new_copy set ino) → view image base ino ≡ None
 none_there base ino set image ne shows =
     let says' : ShowsCopy base ino image None = subst (λ (b : Bool). ShowsCopy base ino image (if b then Some (root set) else None)) (is_other ino ne) shows in
-    ap (λ (o : Option ℕ). version_in image base o) (found_counts base ino image None false (record { says = says'; own = tt }))
+    ap (λ (o : Option ℕ). version_in image base o) (found_counts base ino image None false (record { says = says'.0; own = tt; tables = tt }))
 
 root_there : (base group : ℕ) (set : Sites) (image : List ℕ) → base + area_length ≤ length image → IsSlot (root_slot set) → ShowsCopies base image (new_copy set)
     → (v : Version) × (view image base 1 ≡ Some v) × (copy_in group 1 v ≡ root_in group set)
 root_there base group set image area slot shows =
-    let found : IsFound base 1 image (Some (root set)) false = record { says = shows 1 (omega arith) (omega arith); own = record { slot = slot; own = refl } } in
+    let here = shows 1 (omega arith) (omega arith) in
+    let names = few_named 0 (root_slot set).pages (omega arith) slot.pages in
+    let found : IsFound base 1 image (Some (root set)) false = record { says = here.0; own = record { slot = slot; own = refl; pages = names }; tables = here.1 } in
     let counts = found_counts base 1 image (Some (root set)) false found in
     let place = slot_at base 1 First in
     let s = says image place (root_slot set) found.says.bytes slot in
     let v = version image base place in
-    let empty = no_bytes v.content (content_length image base place (root_slot set) slot s area) in
+    let named = page_named image base place (root_slot set) (numbers_in (root set)) slot s here.1 names (first_numbers (root set) slot) in
+    let empty = no_bytes v.content (content_length image base place (root_slot set) (numbers_in (root set)) slot s names named area) in
     let made = copy_of_fields group 1 (root_slot set) v slot.sites (omega arith) slot.vector s.fields in
     (v, ap (λ (o : Option ℕ). version_in image base o) counts.place, made ∙ ap (λ (l : List ℕ). record { file = record { group = group; ino = 1 }; kind = kind.Dir; set = set; stamp = record { site = 0; n = 0 }; vector = nothing_seen; content = l }) empty)
 
@@ -91,8 +96,8 @@ one_shut true b e = e
 one_shut false b e = refl
 
 shut_at : (base ino : ℕ) (image : List ℕ) (o : Option InodeCopy) → ShowsCopy base ino image o → has_losing_gate base ino image ≡ false
-shut_at base ino image None shows = one_shut (is_open image (slot_at base ino First)) (is_open image (slot_at base ino Second)) (shows Second)
-shut_at base ino image (Some copy) shows = by copy.half shows.other
+shut_at base ino image None shows = one_shut (is_open image (slot_at base ino First)) (is_open image (slot_at base ino Second)) (shows.0 Second)
+shut_at base ino image (Some copy) shows = by copy.half shows.0.other
   where
     by : (half : Half) → is_open image (slot_at base ino (other_half half)) ≡ false → has_losing_gate base ino image ≡ false
     by First other = one_shut (is_open image (slot_at base ino First)) (is_open image (slot_at base ino Second)) other

@@ -13,7 +13,7 @@ use Rattle.pack_layout.specs.declared.slot.Slot.{Slot}
 use Rattle.pack_slots.specs.of_inode_switch.View.{Version, view}
 use Rattle.pack_slots.specs.declared.inode_copy.InodeCopy.{InodeCopy}
 use Rattle.inode_pack.specs.Pack.{PackState, Shows}
-use Rattle.pack_slots.specs.Copies.{AreCopies, IsCopy, copy_of, pages_in, named_pages}
+use Rattle.pack_slots.specs.Copies.{AreCopies, IsCopy, copy_of, numbers_in, pages_in, named_pages}
 use Rattle.wire_messages.specs.declared.body.ReportedCopy.{ReportedCopy}
 use Rattle.role_steps.specs.Tables.{row, total}
 use Rattle.role_steps.specs.Storage.{copy_key, copy_pages, reported, report_of}
@@ -117,14 +117,14 @@ own_pages pack ino image (Some copy) are shows low high is =
     let held = held_some pack ino image copy are shows low high is in
     let own = subst (λ (p : Option InodeCopy). IfSome p (λ one. IsCopy ino one)) is (are.own ino) in
     let small = own.slot.size in
-    let count = own.slot.pages.count in
+    let count = own.pages.count in
     let size = held.size in
     let x = copy_in pack.group ino held.version in
     let e : (x.file.group == pack.group) ≡ true = eq-eqb x.file.group pack.group (group_of pack.group ino held.version) in
     let m = ap (λ (b : Bool). cond b (pages_of (length x.content)) 0) e in
     let n = ap (λ (l : List ℕ). pages_of (length l)) (content_of_copy pack.group ino held.version) in
     let k = ap pages_of size in
-    let all : length (take (pages_of copy.slot.size) copy.slot.pages) ≡ pages_of copy.slot.size = omega (arith, length-take (pages_of copy.slot.size) copy.slot.pages) in
+    let all : length (take (pages_of copy.slot.size) (numbers_in copy)) ≡ pages_of copy.slot.size = omega (arith, length-take (pages_of copy.slot.size) (numbers_in copy)) in
     all ∙ sym k ∙ sym n ∙ (let z : pages_of (length x.content) ≡ cond (x.file.group == pack.group) (pages_of (length x.content)) 0 + 0 = omega arith in z) ∙ ap (λ (o : Option Version). total (copy_pages pack.group) (with_version pack.group ino o [])) (sym held.seen)
 
 own_total : (pack : PackState) (image : List ℕ) → AreCopies pack.copies → Shows pack image → length (named_pages pack.copies) ≡ total (copy_pages pack.group) (copies_in pack.base pack.group image)

@@ -8,10 +8,12 @@ use Rattle.pack_layout.specs.Layout.{slot_at}
 use Rattle.pack_slots.specs.of_inode_switch.Slots.{field_bytes}
 use Rattle.pack_slots.specs.of_inode_switch.View.{Version, version, version_in, view}
 use Rattle.pack_slots.proofs.of_inode_switch.SlotBytes.{says}
+use Rattle.pack_slots.proofs.of_inode_switch.TableBytes.{page_named}
 use Rattle.pack_slots.proofs.of_inode_switch.VersionBytes.{content_length}
+use Rattle.pack_slots.proofs.Numbers.{first_numbers}
 use Rattle.pack_slots.specs.declared.inode_copy.InodeCopy.{InodeCopy}
 use Rattle.inode_pack.specs.Pack.{PackState, Shows}
-use Rattle.pack_slots.specs.Copies.{AreCopies, ShowsCopy, IsCopy, copy_of}
+use Rattle.pack_slots.specs.Copies.{AreCopies, ShowsSlot, ShowsTables, IsCopy, copy_of, numbers_in}
 use Rattle.pack_slots.specs.Slots.{IsFound}
 use Rattle.pack_slots.proofs.Counting.{found_counts}
 use Rattle.role_steps.specs.Storage.{reported}
@@ -29,8 +31,9 @@ pub record Held (base ino : ℕ) (slot : Slot) (image : List ℕ) : Type 0 where
 
 shown : (pack : PackState) (ino : ℕ) (image : List ℕ) (o : Option InodeCopy) → AreCopies pack.copies → Shows pack image → 1 ≤ ino → ino ≤ inodes_max → copy_of pack.copies ino ≡ o → IsFound pack.base ino image o false
 shown pack ino image o are shows low high is = record {
-  says = subst (λ (p : Option InodeCopy). ShowsCopy pack.base ino image p) is (shows.copies ino low high);
+  says = subst (λ (p : Option InodeCopy). ShowsSlot pack.base ino image p) is (shows.copies ino low high).0;
   own = subst (λ (p : Option InodeCopy). IfSome p (λ one. IsCopy ino one)) is (are.own ino);
+  tables = subst (λ (p : Option InodeCopy). ShowsTables pack.base image p) is (shows.copies ino low high).1;
 }
 
 pub held_none : (pack : PackState) (ino : ℕ) (image : List ℕ) → AreCopies pack.copies → Shows pack image → 1 ≤ ino → ino ≤ inodes_max → copy_of pack.copies ino ≡ None → view image pack.base ino ≡ None
@@ -42,11 +45,12 @@ held_some pack ino image copy are shows low high is =
     let counts = found_counts pack.base ino image (Some copy) false found in
     let place = slot_at pack.base ino copy.half in
     let s = says image place copy.slot found.says.bytes found.own.slot in
+    let named = page_named image pack.base place copy.slot (numbers_in copy) found.own.slot s found.tables found.own.pages (first_numbers copy found.own.slot) in
     record {
       version = version image pack.base place;
       seen = ap (λ (o : Option ℕ). version_in image pack.base o) counts.place;
       fields = s.fields;
-      size = content_length image pack.base place copy.slot found.own.slot s shows.area;
+      size = content_length image pack.base place copy.slot (numbers_in copy) found.own.slot s found.own.pages named shows.area;
     }
 
 reported_some : (pack : PackState) (group ino : ℕ) (image : List ℕ) (copy : InodeCopy) → AreCopies pack.copies → Shows pack image → 1 ≤ ino → ino ≤ inodes_max → copy_of pack.copies ino ≡ Some copy

@@ -6,10 +6,11 @@ use Rattle.locus_ids.specs.Sizes.{inodes_max, pack_pages, inode_span, set_span}
 use Rattle.locus_ids.specs.declared.ids.FileId.{FileId}
 use Rattle.disk_model.specs.Images.{Torn}
 use Rattle.pack_layout.specs.declared.slot.Slot.{Slot}
-use Rattle.pack_layout.specs.Layout.{area_length, area_at}
+use Rattle.pack_layout.specs.Layout.{area_length, area_at, slot_at}
 use Rattle.gate_switch.proofs.Tearing.{torn_widens, torn_stays}
 use Rattle.pack_slots.specs.Mounting.{IsSound}
-use Rattle.inode_pack.proofs.Leaving.{shows_sound}
+use Rattle.pack_slots.specs.Slots.{HasTables}
+use Rattle.inode_pack.proofs.Leaving.{shows_kept}
 use Rattle.site_packs.specs.Mounting.{AreSoundBehind}
 use Rattle.inode_pack.specs.of_shadow_pages.Working.{Working, content}
 use Rattle.disk_model.specs.Disk.{Moment}
@@ -27,8 +28,8 @@ use Rattle.role_steps.specs.Tables.{with_row}
 use Rattle.role_steps.specs.Storage.{copy_key}
 use Rattle.role_steps.specs.declared.copies.FileCopy.{FileCopy}
 use Rattle.site_packs.specs.Copies.{copy_in, copies_on}
-use Rattle.site_packs.specs.Packs.{PacksState, Stand, groups_of, pack_group, pack_in, ArePacks, AreShown, copy_at}
-use Rattle.site_packs.specs.Committing.{MayBeLeft, copy_made, room, store_calls}
+use Rattle.site_packs.specs.Packs.{PacksState, AreFound, groups_of, pack_group, pack_in, ArePacks, AreShown, copy_at}
+use Rattle.site_packs.specs.Committing.{MayBeLeft, IsOfStore, copy_made, room, store_calls}
 use Rattle.site_packs.specs.Marking.{Fills}
 use Rattle.disk_model.specs.Cut.{Cut}
 use Rattle.gate_switch.specs.Gates.{new_gate}
@@ -37,6 +38,7 @@ use Rattle.inode_pack.specs.Cutting.{IsCutCommit, are_both_open}
 use Rattle.site_packs.specs.Cutting.{IsCut, both_open_on, file_in}
 use Rattle.site_packs.proofs.Cutting.{both_but, none_shown}
 use Rattle.site_packs.proofs.Fields.{spelled, stamp_fits}
+use Rattle.site_packs.proofs.Mounts.{one_keeps}
 use Rattle.site_packs.proofs.Behind.{PackHere, pack_here, set_packs, all_same_but, behind_same, behind_replaced, sound_but}
 use Rattle.site_packs.proofs.Reports.{PackFound, found_pack, pages_total, pages_named}
 use Rattle.site_packs.proofs.Contents.{copy_found}
@@ -64,7 +66,7 @@ module _ (p : PacksState) (old : List ℕ) (at : ℕ) (file : FileId) (pack : Pa
   copy = copy_made file given bytes
 
   abbrev slot : Slot
-  slot = record { turn = 0; kind = given.kind; ino = file.ino; set = given.set; size = length bytes; stamp = given.stamp; vector = given.vector; pages = [] }
+  slot = record { turn = 0; kind = given.kind; ino = file.ino; set = given.set; size = length bytes; stamp = given.stamp; vector = given.vector; pages = []; tables = [] }
 
   made_is : copy_in pack.group file.ino version_made ≡ copy
   made_is =
@@ -92,6 +94,7 @@ module _ (p : PacksState) (old : List ℕ) (at : ℕ) (file : FileId) (pack : Pa
             (λ by. inr (replaced new may.outside by))
             may.view;
         sound = sound_but 0 0 p.site at p.packs pack old new are place shown (torn_here new may.outside) may.sound;
+        tables = one_keeps (0 + at) old new (torn_here new may.outside) (λ ino half low high had. subst (λ (b : ℕ). HasTables b (slot_at b ino half) new) here.base (may.tables ino half low high));
         outside = torn_widens pack.base area_length 1024 (area_length * length (groups_of p)) (omega arith) (omega arith) old new may.outside;
       }
 
@@ -138,6 +141,7 @@ pub calls_same : {T : Type 0} (pages : ℕ) (o : Option InodeCopy) (q : Option F
 calls_same pages o q (Ok done) e = calls_are pages o q e
 calls_same pages o q (Err pack_says.Disk) e = calls_are pages o q e
 calls_same pages o q (Err (pack_says.NoSpace more free)) e = refl
+calls_same pages o q (Err pack_says.NoMemory) e = refl
 
 -- ---- the packs after it ----
 
@@ -188,14 +192,14 @@ pub after_packs : {T : Type 0} (p : PacksState) (at : ℕ) (pack made : PackStat
     → OnErr result (made ≡ pack) → OnOk result (Commits pack ino given w made) → ArePacks 0 0 p.site (slice_set p.packs at made) × (map pack_group (slice_set p.packs at made) ≡ map pack_group p.packs)
 after_packs p at pack made ino given w result are is good kept commits = set_place 0 0 p.site at p.packs pack made are is (by_result pack made ino given w result kept commits) good
 
-pub stand_packs : {T : Type 0} (p : PacksState) (site at : ℕ) (pack made : PackState) (ino : ℕ) (given : NewVersion) (w : Working) (old : List ℕ) (moment : Moment) (result : Result T PackFault) → ArePacks 0 0 p.site p.packs → slice_get p.packs at ≡ Some pack → AreShown p.packs old
-    → Torn pack.base area_length old moment.seen → AreCopies made.copies → OnOk result (Commits pack ino given w made) → OnOk result (Stands made moment) → OnOk result (Stand (record { site = site; packs = slice_set p.packs at made }) moment)
-stand_packs p site at pack made ino given w old moment (Ok x) are is shown torn good commits stands =
+pub stand_packs : {T : Type 0} (p : PacksState) (at : ℕ) (pack made : PackState) (ino : ℕ) (given : NewVersion) (w : Working) (old : List ℕ) (moment : Moment) (result : Result T PackFault) → ArePacks 0 0 p.site p.packs → slice_get p.packs at ≡ Some pack → AreShown p.packs old
+    → Torn pack.base area_length old moment.seen → AreCopies made.copies → OnOk result (Commits pack ino given w made) → OnOk result (Stands made moment) → OnOk result (AreFound (slice_set p.packs at made) moment)
+stand_packs p at pack made ino given w old moment (Ok x) are is shown torn good commits stands =
     let same = by_result {T = Unit {0}} pack made ino given w (Ok tt) tt commits in
     let base = (pack_here 0 0 p.site at p.packs pack are is).base in
     let all = set_packs 0 0 p.site at p.packs pack made old moment.seen are is shown (subst (λ (b : ℕ). Torn b area_length old moment.seen) base torn) (record { shows = stands.shows; base = same.base; site = same.site; group = same.group; copies = good }) in
     record { settled = stands.settled; shown = all.1 }
-stand_packs p site at pack made ino given w old moment (Err x) are is shown torn good commits stands = tt
+stand_packs p at pack made ino given w old moment (Err x) are is shown torn good commits stands = tt
 
 -- and then no file has both gates open
 pub none_after : {T : Type 0} (p : PacksState) (at : ℕ) (pack made : PackState) (ino : ℕ) (given : NewVersion) (w : Working) (old : List ℕ) (moment : Moment) (result : Result T PackFault) → ArePacks 0 0 p.site p.packs → slice_get p.packs at ≡ Some pack → AreShown p.packs old
@@ -207,18 +211,19 @@ none_after p at pack made ino given w old moment (Ok x) are is shown torn good c
     ap (λ (l : List ℕ). both_open_on l moment.seen) (sym all.2) ∙ none_shown 0 0 p.site (slice_set p.packs at made) moment.seen all.0 all.1
 none_after p at pack made ino given w old moment (Err x) are is shown torn good commits stands = tt
 
-pub kept_packs : {T : Type 0} (site : ℕ) (p : PacksState) (packs : List PackState) (at : ℕ) (pack made : PackState) (result : Result T PackFault) → site ≡ p.site → packs ≡ p.packs → slice_get p.packs at ≡ Some pack → OnErr result (made ≡ pack)
-    → OnErr result (◌≡◌ {A = PacksState} (record { site = site; packs = slice_set packs at made }) p)
-kept_packs site p packs at pack made (Ok x) own same is kept = tt
-kept_packs site p packs at pack made (Err x) own same is kept =
+pub kept_packs : {T : Type 0} (site : ℕ) (p : PacksState) (packs : List PackState) (live : List Bool) (at : ℕ) (pack made : PackState) (result : Result T PackFault) → site ≡ p.site → packs ≡ p.packs → live ≡ p.live → slice_get p.packs at ≡ Some pack → OnErr result (made ≡ pack)
+    → OnErr result (◌≡◌ {A = PacksState} (record { site = site; packs = slice_set packs at made; live = live }) p)
+kept_packs site p packs live at pack made (Ok x) own same marks is kept = tt
+kept_packs site p packs live at pack made (Err x) own same marks is kept =
     let all : slice_set packs at made ≡ p.packs = (λ i. slice_set (same i) at (kept i)) ∙ same_set at p.packs pack is in
-    (λ i. record { site = own i; packs = all i })
+    (λ i. record { site = own i; packs = all i; live = marks i })
 
-pub only_disk : {T : Type 0} (result : Result T PackFault) (pages named space : ℕ) → pages ≤ space → ((free : ℕ) → free + named ≡ pack_pages → space ≡ free)
-    → ((more free : ℕ) → result ≡ Err (pack_says.NoSpace more free) → (free < more) × (more ≡ pages) × (free + named ≡ pack_pages)) → IfErr result (λ fault. fault ≡ pack_says.Disk)
-only_disk (Ok x) pages named space le is none = tt
-only_disk (Err pack_says.Disk) pages named space le is none = refl
-only_disk (Err (pack_says.NoSpace more free)) pages named space le is none =
+pub only_of_store : {T : Type 0} (result : Result T PackFault) (pages named space : ℕ) → pages ≤ space → ((free : ℕ) → free + named ≡ pack_pages → space ≡ free)
+    → ((more free : ℕ) → result ≡ Err (pack_says.NoSpace more free) → (free < more) × (more ≡ pages) × (free + named ≡ pack_pages)) → IfErr result IsOfStore
+only_of_store (Ok x) pages named space le is none = tt
+only_of_store (Err pack_says.Disk) pages named space le is none = tt
+only_of_store (Err pack_says.NoMemory) pages named space le is none = tt
+only_of_store (Err (pack_says.NoSpace more free)) pages named space le is none =
     let h = none more free refl in
     let a = h.0 in
     let b = h.1 in
@@ -230,7 +235,7 @@ only_disk (Err (pack_says.NoSpace more free)) pages named space le is none =
 pub sound_shown : (nth least site : ℕ) (packs : List PackState) (image : List ℕ) → ArePacks nth least site packs → AreShown packs image → AreSoundBehind nth site (map pack_group packs) image
 sound_shown nth least site [] image are shown = tt
 sound_shown nth least site (pack ∷ packs) image are shown =
-    let one = shows_sound pack image are.0.copies shown.0 in (
+    let one = (shows_kept pack image are.0.copies shown.0).sound in (
       subst (λ (s : ℕ). IsSound (area_at nth) pack.group s image) are.0.site (subst (λ (b : ℕ). IsSound b pack.group pack.site image) are.0.base one),
       sound_shown (nth + 1) (pack.group + 1) site packs image are.1 shown.1,
     )
@@ -239,6 +244,7 @@ pub stays : (p : PacksState) (x : FileCopy) (image : List ℕ) → ArePacks 0 0 
 stays p x image are shown = record {
   copies = inl refl;
   sound = sound_shown 0 0 p.site p.packs image are shown;
+  tables = λ nth ino half low high had. had;
   outside = torn_stays 1024 (area_length * length (groups_of p)) image;
 }
 
@@ -247,3 +253,4 @@ pub on_commit : {T : Type 0} (result : Result T PackFault) (A B : Type 0) → (A
 on_commit (Ok x) A B f a = a
 on_commit (Err pack_says.Disk) A B f a = f a
 on_commit (Err (pack_says.NoSpace more free)) A B f a = a
+on_commit (Err pack_says.NoMemory) A B f a = a

@@ -11,7 +11,7 @@ use Rattle.role_steps.specs.Tables.{with_row}
 use Rattle.role_steps.specs.Storage.{copy_key}
 use Rattle.role_steps.specs.declared.copies.FileCopy.{FileCopy}
 use Rattle.site_packs.specs.declared.faults.CommitFault.{CommitFault}
-use Rattle.site_packs.specs.declared.faults.CommitFault.TheVariants.{Disk, Cut as CutOff, NoSpace, Unfit}
+use Rattle.site_packs.specs.declared.faults.CommitFault.TheVariants.{Disk, Cut as CutOff, NoSpace, Unfit, NoMemory}
 use Rattle.site_packs.specs.Copies.{copies_on}
 use Rattle.site_packs.specs.Packs.{PacksState, groups_of, copy_at}
 use Rattle.site_packs.specs.Committing.{MayBeLeft}
@@ -29,18 +29,20 @@ both_behind nth (group ∷ groups) image = map (file_in group) (losing_inodes (a
 abbrev pub both_open_on : List ℕ → List ℕ → List FileId
 both_open_on groups image = both_behind 0 groups image
 
--- What a commit or an adoption leaves that was cut off after so many calls: the new copy where its gate is open.
-pub record IsCut (p : PacksState) (made : FileCopy) (pages : ℕ) (how : Cut) (passed : ℕ) (old new : List ℕ) : Type 0 where
+-- What a commit or an adoption of so many pages and tables leaves that was cut off after so many calls: the new copy where its
+-- gate is open.
+pub record IsCut (p : PacksState) (made : FileCopy) (blocks : ℕ) (how : Cut) (passed : ℕ) (old new : List ℕ) : Type 0 where
   pub left : MayBeLeft p made old new
-  pub copies : copies_on (groups_of p) new ≡ cond (new_gate pages how passed) (with_row copy_key made (copies_on (groups_of p) old)) (copies_on (groups_of p) old)
-  pub both : both_open_on (groups_of p) new ≡ cond (are_both_open (is_some (copy_at p old made.file)) pages how passed) (made.file ∷ []) []
+  pub copies : copies_on (groups_of p) new ≡ cond (new_gate blocks how passed) (with_row copy_key made (copies_on (groups_of p) old)) (copies_on (groups_of p) old)
+  pub both : both_open_on (groups_of p) new ≡ cond (are_both_open (is_some (copy_at p old made.file)) blocks how passed) (made.file ∷ []) []
 
--- the pages that the write of a version was to write, and whether it was to replace another one
+-- the pages and tables that the write of a version was to write, and whether it was to replace another one
 abbrev pub HasSize : ℕ → Bool → CommitFault → Type 0
-HasSize pages replaces Disk = Unit {0}
-HasSize pages replaces (CutOff size) = (size.pages ≡ pages) × (size.replaces ≡ replaces)
-HasSize pages replaces NoSpace = Unit {0}
-HasSize pages replaces Unfit = Unit {0}
+HasSize blocks replaces Disk = Unit {0}
+HasSize blocks replaces (CutOff size) = (size.blocks ≡ blocks) × (size.replaces ≡ replaces)
+HasSize blocks replaces NoSpace = Unit {0}
+HasSize blocks replaces Unfit = Unit {0}
+HasSize blocks replaces NoMemory = Unit {0}
 
 -- what a mount of these packs leaves that was cut off after so many calls: the losing gates that are still open
 pub record IsCutBehind (nth : ℕ) (groups : List ℕ) (how : Cut) (passed : ℕ) (old new : List ℕ) : Type 0 where

@@ -1,4 +1,5 @@
 pub mod Copies
+pub mod Live
 pub mod Packs
 pub mod Reading
 pub mod Mounting

@@ -1,12 +1,12 @@
 -- Which pages of a content are marked as new.
-use Rattle.std.specs.Prelude.{◌≡◌, ℕ, ◌<◌, Bool, true, false, List, length, Option, None, Some}
+use Rattle.std.specs.Prelude.{◌≡◌, ℕ, ◌<◌, Bool, true, false, ◌&&◌, nat_lt, List, length, Option, None, Some}
 use Rattle.file_content.specs.Pages.{pages_of, has_page}
-use Rattle.inode_pack.specs.of_shadow_pages.Working.{content, count_below}
+use Rattle.inode_pack.specs.of_shadow_pages.Working.{Working, content, count_below}
 use Rattle.pack_slots.specs.of_inode_switch.View.{view}
 use Rattle.inode_pack.specs.Marked.{is_marked, marked}
 use Rattle.inode_pack.specs.Pack.{PackState}
 use Rattle.pack_slots.specs.Copies.{copy_of}
-use Rattle.inode_pack.specs.Committing.{RestsOn, size_of, content_of}
+use Rattle.inode_pack.specs.Committing.{RestsOn, blocks_over, size_of, content_of}
 use Rattle.pack_layout.specs.of_stored_versions.Changes.{ArePages, IsKept}
 
 -- the marks are those of the changed pages
@@ -14,6 +14,10 @@ pub record AreMarks (count : ℕ) (changed : List ℕ) (marks : List Bool) : Typ
   pub pages : ArePages count changed
   pub each : (i : ℕ) → is_marked marks i ≡ has_page changed i
   pub number : count_below (is_marked marks) count ≡ length changed
+
+-- these are the marked ones of the first pages
+abbrev pub AreMarked : ℕ → List ℕ → List Bool → Type 0
+AreMarked count pages marks = (i : ℕ) → has_page pages i ≡ (nat_lt i count && is_marked marks i)
 
 -- with the marked pages in the place of the inode's, its content is this one
 pub record Fills (pack : PackState) (ino : ℕ) (new : List ℕ) (marks : List Bool) (image : List ℕ) : Type 0 where
@@ -23,6 +27,11 @@ pub record Fills (pack : PackState) (ino : ℕ) (new : List ℕ) (marks : List B
 abbrev pub FillsAt : Option PackState → ℕ → List ℕ → List Bool → List ℕ → Type 0
 FillsAt None ino new marks image = ⊥
 FillsAt (Some pack) ino new marks image = Fills pack ino new marks image
+
+-- the pages and the tables that are written with the marked pages in the place of the inode's
+abbrev pub blocks_at : Option PackState → ℕ → Working → ℕ
+blocks_at None ino w = 0
+blocks_at (Some pack) ino w = blocks_over (copy_of pack.copies ino) w
 
 -- each page of the content is marked
 abbrev pub AreAll : ℕ → List Bool → Type 0

@@ -11,8 +11,8 @@ use Rattle.disk_model.specs.Moments.{TellsMany}
 use Rattle.role_steps.specs.of_dir_format.Entries.{nothing_seen}
 use Rattle.pack_layout.specs.Layout.{area_length, area_at}
 use Rattle.pack_slots.specs.declared.mount_fault.MountFault.{MountFault}
-use Rattle.pack_slots.specs.declared.mount_fault.MountFault.TheVariants.{Disk, NotAPack, BadSlot, SharedPage, NoMemory}
-use Rattle.pack_slots.specs.Mounting.{IsSound, IsCause as IsCauseOfPack, IsPassing, losing_gates}
+use Rattle.pack_slots.specs.declared.mount_fault.MountFault.TheVariants.{Disk, NotAPack, BadSlot, SharedTable, SharedPage, NoMemory}
+use Rattle.pack_slots.specs.Mounting.{IsSound, IsCause as IsCauseOfPack, IsPassing, KeepsTables, losing_gates}
 use Rattle.role_steps.specs.Views.{pack_sites}
 use Rattle.role_steps.specs.declared.copies.FileCopy.{FileCopy}
 use Rattle.site_packs.specs.Copies.{copies_on}
@@ -50,9 +50,14 @@ abbrev pub AreKept : ℕ → ℕ → List ℕ → List ℕ → List ℕ → Type
 AreKept nth site [] old new = Unit {0}
 AreKept nth site (group ∷ groups) old new = SameView (area_at nth) old new × IsSound (area_at nth) group site new × AreKept (nth + 1) site groups old new
 
--- the same, and nothing changed outside the areas
+-- in each area the open slots have their tables as before
+abbrev pub AreTablesKept : List ℕ → List ℕ → Type 0
+AreTablesKept old new = (nth : ℕ) → KeepsTables (area_at nth) old new
+
+-- the same, with their tables, and nothing changed outside the areas
 pub record LeavesPacks (nth site : ℕ) (groups old new : List ℕ) : Type 0 where
   pub kept : AreKept nth site groups old new
+  pub tables : AreTablesKept old new
   pub outside : Torn (area_at nth) (area_length * length groups) old new
 
 -- these packs were mounted
@@ -66,10 +71,11 @@ pub record AreMounted (nth home : ℕ) (groups : List ℕ) (before after : List 
   pub leaves : LeavesPacks nth home groups old.seen new.seen
   pub settled : IsSettled new
 
--- what a crash within a mount leaves: the copies are as before, and packs that mounted do
+-- what a crash within a mount leaves: the copies are as before, packs that mounted do, and open slots have their tables
 pub record KeepsCopies (site : ℕ) (groups old new : List ℕ) : Type 0 where
   pub copies : copies_on groups new ≡ copies_on groups old
   pub sound : AreSound site groups old → AreSound site groups new
+  pub tables : AreTablesKept old new
   pub outside : Torn 1024 (area_length * length groups) old new
 
 -- the writes and syncs of a mount: two for each inode of which both slots are open
@@ -86,6 +92,7 @@ TellsMount calls before after (Ok packs) = TellsMany {T = Unit {0}} {E = DiskFau
 TellsMount calls before after (Err Disk) = TellsMany {T = Unit {0}} {E = DiskFault} calls before after (Err Failed)
 TellsMount calls before after (Err NotAPack) = Unit {0}
 TellsMount calls before after (Err (BadSlot ino)) = Unit {0}
+TellsMount calls before after (Err (SharedTable number)) = Unit {0}
 TellsMount calls before after (Err (SharedPage number)) = Unit {0}
 TellsMount calls before after (Err NoMemory) = Unit {0}
 

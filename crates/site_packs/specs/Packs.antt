@@ -14,14 +14,16 @@ use Rattle.pack_slots.specs.Copies.{AreCopies, copy_of}
 use Rattle.wire_messages.specs.declared.body.ReportedCopy.{ReportedCopy}
 use Rattle.role_steps.specs.Tables.{row}
 use Rattle.role_steps.specs.Views.{Store, pack_sites, all_groups, file_key}
-use Rattle.role_steps.specs.Storage.{copy_key, is_making}
+use Rattle.role_steps.specs.Storage.{content_of, copy_key, is_making}
 use Rattle.role_steps.specs.declared.copies.FileCopy.{FileCopy}
 use Rattle.site_packs.specs.Copies.{copies_on}
+use Rattle.site_packs.specs.Live.{is_all_live, is_marked}
 
--- the site, and its packs
+-- the site, its packs, and which copies are marked as directories without a removed entry
 pub record PacksState : Type 0 where
   pub site : ℕ
   pub packs : List PackState
+  pub live : List Bool
 
 abbrev pub pack_group : PackState → ℕ
 pack_group pack = pack.group
@@ -104,11 +106,6 @@ abbrev pub AreShown : List PackState → List ℕ → Type 0
 AreShown [] image = Unit {0}
 AreShown (pack ∷ packs) image = Shows pack image × AreShown packs image
 
--- the packs stand on the disk: a read shows them, and a crash leaves what a read gives
-pub record Stand (p : PacksState) (moment : Moment) : Type 0 where
-  pub settled : IsSettled moment
-  pub shown : AreShown p.packs moment.seen
-
 -- the same site with packs of the same groups
 pub record SamePlaces (old new : PacksState) : Type 0 where
   pub site : new.site ≡ old.site
@@ -117,6 +114,21 @@ pub record SamePlaces (old new : PacksState) : Type 0 where
 -- the copy of a file in this image
 abbrev pub copy_at : PacksState → List ℕ → FileId → Option FileCopy
 copy_at p image file = row copy_key (file_key file) (copies_on (groups_of p) image)
+
+-- the packs are found on the disk: a read shows them, and a crash leaves what a read gives
+pub record AreFound (packs : List PackState) (moment : Moment) : Type 0 where
+  pub settled : IsSettled moment
+  pub shown : AreShown packs moment.seen
+
+-- a copy that is marked has no removed entry in this image
+pub record AreLive (p : PacksState) (image : List ℕ) : Type 0 where
+  pub each : (file : FileId) → is_marked p.live file ≡ true → is_all_live (content_of (copy_at p image file)) ≡ true
+
+-- the packs stand on the disk: a read shows them, a crash leaves what a read gives, and what is marked is so
+pub record Stand (p : PacksState) (moment : Moment) : Type 0 where
+  pub settled : IsSettled moment
+  pub shown : AreShown p.packs moment.seen
+  pub live : AreLive p moment.seen
 
 -- these are the inodes that open instances of the group make
 abbrev pub AreMaking : ℕ → List ℕ → Store → Type 0

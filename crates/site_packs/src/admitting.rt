@@ -2,7 +2,7 @@
 ghost use Rattle.std.specs.Prelude.{◌≡◌, ◌↔◌, ◌<◌, ℕ, Bool, length, Err, IfOk, IfErr};
 ghost use Rattle.disk_model.specs.Disk.{Goes, HasCause, TellsRead};
 ghost use Rattle.disk_model.specs.Images.{Same};
-ghost use Rattle.site_packs.specs.declared.faults.CommitFault.TheVariants.{NoSpace, Unfit};
+ghost use Rattle.site_packs.specs.declared.faults.CommitFault.TheVariants.{NoSpace, Unfit, NoMemory};
 ghost use Rattle.site_packs.specs.Packs.{Stand};
 ghost use Rattle.site_packs.specs.Committing.{IsFit, room, commit_answer};
 ghost use Rattle.site_packs.specs.Cutting.{HasSize};
@@ -37,6 +37,7 @@ impl SitePacks {
         ensures unfit { result ≡ Err Unfit → IsFit self.now (D.moment disk.old).seen file version.now content.now changed.now → ⊥ }
         ensures no_space { (result ≡ Err NoSpace) ↔ (room self.now (D.moment disk.old).seen file.group < length changed.now) }
         ensures early { result ≡ Err NoSpace → disk.new ≡ disk.old }
+        ensures no_memory { result ≡ Err NoMemory → ⊥ }
         ensures unwritten { IfErr result (λ fault. (pages : ℕ) (replaces : Bool) → HasSize pages replaces fault) }
         ensures seen { (D.moment disk.new).seen ≡ (D.moment disk.old).seen }
         ensures stands { Stand self.now (D.moment disk.new) }

@@ -1,18 +1,21 @@
 // A version is committed or adopted, wholly or not at all.
 ghost use Rattle.std.specs.Prelude.{◌≡◌, ◌↔◌, ◌⊎◌, ◌<◌, ℕ, [], length, is_some, Err, OnOk, OnErr, IfErr};
+ghost use Rattle.locus_ids.specs.Sizes.{slot_pages};
 ghost use Rattle.disk_model.specs.Disk.{HasCause, Exactly};
 ghost use Rattle.disk_model.specs.Moments.{LeavesOnly, TellsMany};
-ghost use Rattle.file_content.specs.Pages.{pages_of};
+ghost use Rattle.file_content.specs.Pages.{pages_of, pages_from};
 ghost use Rattle.role_steps.specs.Tables.{with_row};
 ghost use Rattle.role_steps.specs.Storage.{copy_key};
-ghost use Rattle.site_packs.specs.declared.faults.CommitFault.TheVariants.{Disk, NoSpace, Unfit};
+ghost use Rattle.site_packs.specs.declared.faults.CommitFault.TheVariants.{Disk, NoSpace, Unfit, NoMemory};
 ghost use Rattle.site_packs.specs.Copies.{copies_on};
 ghost use Rattle.site_packs.specs.Packs.{Stand, SamePlaces, groups_of, copy_at};
-ghost use Rattle.site_packs.specs.Committing.{IsFit, IsWholeFit, MayBeLeft, copy_made, room, commit_calls, commit_answer};
+ghost use Rattle.site_packs.specs.Committing.{IsFit, IsWholeFit, MayBeLeft, copy_made, room, blocks_over, commit_calls, commit_answer};
 ghost use Rattle.site_packs.specs.Cutting.{both_open_on, IsCut, HasSize};
 
+use crate::tables::{pages_before, tables_written};
 use crate::{CommitFault, NewVersion, SitePacks, WriteSize};
 use disk_model::Disk;
+use inode_pack::PackFault;
 use locus_ids::FileId;
 use locus_ids::sizes::{CONTENT_PAGES, PAGE_BYTES};
 
@@ -46,22 +49,25 @@ impl SitePacks {
         ensures no_space { (result ≡ Err NoSpace) ↔ (room self.old (D.moment disk.old).seen file.group < length changed.now) }
         ensures early { result ≡ Err NoSpace → disk.new ≡ disk.old }
         ensures unwritten { result ≡ Err Unfit → ((D.moment disk.new).seen ≡ (D.moment disk.old).seen) × Stand self.new (D.moment disk.new) }
+        ensures no_memory { result ≡ Err NoMemory → ((D.moment disk.new).seen ≡ (D.moment disk.old).seen) × Stand self.new (D.moment disk.new) }
+        ensures tables { result ≡ Err NoMemory → slot_pages < pages_of (length content.now) }
 
         // The disk fails only where its count rose, and where it tells how many calls pass, exactly where they are too few.
         ensures cause { HasCause (D.moment disk.old).faults (D.moment disk.new).faults (commit_answer result) }
-        ensures tells { TellsMany (commit_calls (length changed.now) (is_some (copy_at self.old (D.moment disk.old).seen file)) result) (D.moment disk.old).passing (D.moment disk.new).passing (commit_answer result) }
+        ensures tells { TellsMany (commit_calls (blocks_over (copy_at self.old (D.moment disk.old).seen file) content.now changed.now) (is_some (copy_at self.old (D.moment disk.old).seen file)) result) (D.moment disk.old).passing (D.moment disk.new).passing (commit_answer result) }
 
         // Where it tells so, a crash as it cuts off the write leaves just this.
         ensures none { OnOk result (both_open_on (groups_of self.old) (D.moment disk.new).seen ≡ []) }
-        ensures size { IfErr result (λ fault. HasSize (length changed.now) (is_some (copy_at self.old (D.moment disk.old).seen file)) fault) }
+        ensures size { IfErr result (λ fault. HasSize (blocks_over (copy_at self.old (D.moment disk.old).seen file) content.now changed.now) (is_some (copy_at self.old (D.moment disk.old).seen file)) fault) }
         ensures unread { result ≡ Err Disk → ((D.moment disk.new).seen ≡ (D.moment disk.old).seen) × Stand self.new (D.moment disk.new) }
         ensures told { (passed : ℕ) → (D.moment disk.old).passing ≡ Exactly passed → result ≡ Err Disk → ⊥ }
         ensures how { (D.moment disk.new).how ≡ (D.moment disk.old).how }
         ensures cut { (passed : ℕ) → (D.moment disk.old).passing ≡ Exactly passed → OnErr (commit_answer result)
-            (IsCut self.old (copy_made file version.now content.now) (length changed.now) (D.moment disk.old).how passed (D.moment disk.old).seen (D.moment disk.new).left) }
+            (IsCut self.old (copy_made file version.now content.now) (blocks_over (copy_at self.old (D.moment disk.old).seen file) content.now changed.now) (D.moment disk.old).how passed (D.moment disk.old).seen (D.moment disk.new).left) }
     {
         let _invariant = &self.site;
-        let replaces = self.head(file).is_some();
+        let before = self.head(file);
+        let replaces = before.is_some();
         let admitted = match self.admit(disk, file, version, content, changed) {
             Ok(admitted) => admitted,
             Err(fault) => return Err(fault),
@@ -69,11 +75,16 @@ impl SitePacks {
         let plan = &admitted.plan;
         let marks = &admitted.marks;
         match self.store(disk, plan.at, plan.ino, file, *version, content, marks) {
-            Ok(()) => Ok(()),
-            Err(_) => Err(CommitFault::Cut(WriteSize {
-                pages: changed.len(),
+            Ok(()) => {
+                self.note(file, version.kind, content);
+                Ok(())
+            }
+            Err(PackFault::Disk) => Err(CommitFault::Cut(WriteSize {
+                blocks: changed.len() + tables_written(pages_before(&before), content.len(), marks),
                 replaces,
             })),
+            Err(PackFault::NoSpace { needed: _, free: _ }) => Err(CommitFault::NoSpace),
+            Err(PackFault::NoMemory) => Err(CommitFault::NoMemory),
         }
     }
 
@@ -102,21 +113,24 @@ impl SitePacks {
         ensures unfit { result ≡ Err Unfit → IsWholeFit self.old file version.now (length content.now) → ⊥ }
         ensures no_space { (result ≡ Err NoSpace) ↔ (room self.old (D.moment disk.old).seen file.group < pages_of (length content.now)) }
         ensures early { (result ≡ Err NoSpace) ⊎ (result ≡ Err Unfit) → disk.new ≡ disk.old }
+        ensures no_memory { result ≡ Err NoMemory → disk.new ≡ disk.old }
+        ensures tables { result ≡ Err NoMemory → slot_pages < pages_of (length content.now) }
 
         // The disk fails only where its count rose, and where it tells how many calls pass, exactly where they are too few.
         ensures cause { HasCause (D.moment disk.old).faults (D.moment disk.new).faults (commit_answer result) }
-        ensures tells { TellsMany (commit_calls (pages_of (length content.now)) (is_some (copy_at self.old (D.moment disk.old).seen file)) result) (D.moment disk.old).passing (D.moment disk.new).passing (commit_answer result) }
+        ensures tells { TellsMany (commit_calls (blocks_over (copy_at self.old (D.moment disk.old).seen file) content.now (pages_from 0 (pages_of (length content.now)))) (is_some (copy_at self.old (D.moment disk.old).seen file)) result) (D.moment disk.old).passing (D.moment disk.new).passing (commit_answer result) }
 
         // Where it tells so, a crash as it cuts off the write leaves just this.
         ensures none { OnOk result (both_open_on (groups_of self.old) (D.moment disk.new).seen ≡ []) }
-        ensures size { IfErr result (λ fault. HasSize (pages_of (length content.now)) (is_some (copy_at self.old (D.moment disk.old).seen file)) fault) }
+        ensures size { IfErr result (λ fault. HasSize (blocks_over (copy_at self.old (D.moment disk.old).seen file) content.now (pages_from 0 (pages_of (length content.now)))) (is_some (copy_at self.old (D.moment disk.old).seen file)) fault) }
         ensures written { result ≡ Err Disk → ⊥ }
         ensures how { (D.moment disk.new).how ≡ (D.moment disk.old).how }
         ensures cut { (passed : ℕ) → (D.moment disk.old).passing ≡ Exactly passed → OnErr (commit_answer result)
-            (IsCut self.old (copy_made file version.now content.now) (pages_of (length content.now)) (D.moment disk.old).how passed (D.moment disk.old).seen (D.moment disk.new).left) }
+            (IsCut self.old (copy_made file version.now content.now) (blocks_over (copy_at self.old (D.moment disk.old).seen file) content.now (pages_from 0 (pages_of (length content.now)))) (D.moment disk.old).how passed (D.moment disk.old).seen (D.moment disk.new).left) }
     {
         let _invariant = &self.site;
-        let replaces = self.head(file).is_some();
+        let before = self.head(file);
+        let replaces = before.is_some();
         let pages = content.len().div_ceil(PAGE_BYTES);
         if pages > usize::from(self.free_pages(file.group)) {
             return Err(CommitFault::NoSpace);
@@ -126,8 +140,16 @@ impl SitePacks {
         };
         let marks = [true; CONTENT_PAGES];
         match self.store(disk, plan.at, plan.ino, file, *version, content, &marks) {
-            Ok(()) => Ok(()),
-            Err(_) => Err(CommitFault::Cut(WriteSize { pages, replaces })),
+            Ok(()) => {
+                self.note(file, version.kind, content);
+                Ok(())
+            }
+            Err(PackFault::Disk) => Err(CommitFault::Cut(WriteSize {
+                blocks: pages + tables_written(pages_before(&before), content.len(), &marks),
+                replaces,
+            })),
+            Err(PackFault::NoSpace { needed: _, free: _ }) => Err(CommitFault::NoSpace),
+            Err(PackFault::NoMemory) => Err(CommitFault::NoMemory),
         }
     }
 }

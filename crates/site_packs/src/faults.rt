@@ -2,10 +2,10 @@ use disk_model::DiskFault;
 use locus_ids::NoMemory;
 use thiserror::Error;
 
-/// What the write of a version was to write: so many pages, and it was to replace another version or not.
+/// What the write of a version was to write: so many pages and tables, and it was to replace another version or not.
 #[derive(Clone, Copy, Debug, PartialEq, Eq)]
 pub struct WriteSize {
-    pub pages: usize,
+    pub blocks: usize,
     pub replaces: bool,
 }
 
@@ -25,6 +25,9 @@ pub enum CommitFault {
     /// changed ones is not that of the copy so far.
     #[error("unfit version")]
     Unfit,
+    /// There is no room for the numbers of pages that a slot has no room for. Nothing was written.
+    #[error("no memory")]
+    NoMemory,
 }
 
 impl From<DiskFault> for CommitFault {

@@ -28,7 +28,7 @@ impl SitePacks {
         ensures durable { OnOk result (IsSettled (D.moment disk.old) → IsSettled (D.moment disk.new)) }
         ensures crash { Goes (Torn 1024 (area_length * length (groups_at config.now site))) (D.moment disk.old) (D.moment disk.new) }
         ensures cause { HasCause (D.moment disk.old).faults (D.moment disk.new).faults result }
-        ensures tells { TellsMany (67 * length (groups_at config.now site)) (D.moment disk.old).passing (D.moment disk.new).passing result }
+        ensures tells { TellsMany (131 * length (groups_at config.now site)) (D.moment disk.old).passing (D.moment disk.new).passing result }
     {
         format_behind(config, site, disk, 0, &[0, 1, 2, 3])
     }
@@ -50,7 +50,7 @@ fn format_behind<D: Disk>(
     ensures durable { OnOk result (IsSettled (D.moment disk.old) → IsSettled (D.moment disk.new)) }
     ensures crash { Goes (Torn (area_at nth) (area_length * length (stored_among config.now site groups.now))) (D.moment disk.old) (D.moment disk.new) }
     ensures cause { HasCause (D.moment disk.old).faults (D.moment disk.new).faults result }
-    ensures tells { TellsMany (67 * length (stored_among config.now site groups.now)) (D.moment disk.old).passing (D.moment disk.new).passing result }
+    ensures tells { TellsMany (131 * length (stored_among config.now site groups.now)) (D.moment disk.old).passing (D.moment disk.new).passing result }
 {
     if groups.is_empty() {
         return Ok(());
@@ -78,7 +78,7 @@ fn format_pack<D: Disk>(
     ensures durable { OnOk result (IsSettled (D.moment disk.new)) }
     ensures crash { Goes (Torn base area_length) (D.moment disk.old) (D.moment disk.new) }
     ensures cause { HasCause (D.moment disk.old).faults (D.moment disk.new).faults result }
-    ensures tells { TellsMany 67 (D.moment disk.old).passing (D.moment disk.new).passing result }
+    ensures tells { TellsMany 131 (D.moment disk.old).passing (D.moment disk.new).passing result }
 {
     pack_slots::format(disk, base, group, site, set)?;
     Ok(())

@@ -10,7 +10,7 @@ ghost use Rattle.site_packs.specs.Packs.{AreShown, groups_of, copy_at, pack_in, 
 use crate::SitePacks;
 use crate::packs::number_of;
 use inode_pack::Pack;
-use locus_ids::sizes::{INODES, PACK_PAGES};
+use locus_ids::sizes::PACK_PAGES;
 use locus_ids::{FileId, NoMemory};
 use pack_layout::Slot;
 use std::alloc::Global;
@@ -82,7 +82,7 @@ fn report_pack(pack: &Pack, out: &mut ReportedCopies) -> Result<(), NoMemory>
     requires { length pack.now.copies ≡ inodes_max }
     ensures { OnOk result (out.new ≡ out.old ++ slots_from 1 pack.now.copies) }
 {
-    for i in 0..INODES {
+    for i in 0..pack.last_ino() {
         report_slot(pack, i, out)?;
     }
     Ok(())

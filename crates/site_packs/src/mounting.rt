@@ -9,6 +9,7 @@ ghost use Rattle.site_packs.specs.Cutting.{both_open_on, IsCutMount, IsCutBehind
 ghost use Rattle.site_packs.specs.Mounting.{AreSound, AreSoundBehind, IsCause, IsCauseBehind, AreMounted, LeavesPacks, KeepsCopies, TellsMount, gates_behind, mount_calls};
 
 use crate::groups::groups_at;
+use crate::live_marks::LiveMarks;
 use crate::{MountFault, SitePacks};
 use disk_model::Disk;
 use inode_pack::Pack;
@@ -54,9 +55,10 @@ impl SitePacks {
         ensures cut { (passed : ℕ) → (D.moment disk.old).passing ≡ Exactly passed → OnErr (disk_answer result) (IsCutMount site (groups_at config.now site) (D.moment disk.old).how passed (D.moment disk.old).seen (D.moment disk.new).left) }
     {
         let groups = groups_at(alloc, config, site)?;
+        let live = LiveMarks::none(alloc)?;
         let mut packs = Vec::new(alloc);
         mount_behind(alloc, disk, 0, site, groups.as_slice(), &mut packs)?;
-        Ok(SitePacks { site, packs })
+        Ok(SitePacks { site, packs, live })
     }
 }
 

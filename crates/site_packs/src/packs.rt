@@ -3,6 +3,7 @@ ghost use Rattle.std.specs.Prelude.{◌≡◌, ◌<◌, length, slice_get, None,
 ghost use Rattle.std.specs.Option.{option_copied};
 ghost use Rattle.site_packs.specs.Packs.{pack_in, slot_held};
 
+use crate::live_marks::LiveMarks;
 use inode_pack::Pack;
 use locus_ids::{FileId, SiteId};
 use pack_layout::Slot;
@@ -13,6 +14,7 @@ use std::marker::Model;
 pub struct SitePacks {
     pub(crate) site: SiteId,
     pub(crate) packs: Vec<Pack>,
+    pub(crate) live: LiveMarks,
 }
 
 impl Model for SitePacks {
@@ -20,7 +22,7 @@ impl Model for SitePacks {
 
     ghost Value = { PacksState };
 
-    ghost view = { λ p. record { site = p.site; packs = p.packs.items } };
+    ghost view = { λ p. record { site = p.site; packs = p.packs.items; live = p.live } };
 
     ghost invariant = { λ p. ArePacks 0 0 p.site p.packs.items };
 }

@@ -1,17 +1,19 @@
 // A version is stored in its pack.
-ghost use Rattle.std.specs.Prelude.{◌≡◌, ◌<◌, ◌≤◌, ℕ, [], length, slice_get, OnOk, OnErr, IfErr};
+ghost use Rattle.std.specs.Prelude.{◌≡◌, ◌<◌, ◌≤◌, ℕ, [], length, slice_get, Err, OnOk, OnErr, IfErr};
+ghost use Rattle.locus_ids.specs.Sizes.{slot_pages};
 ghost use Rattle.disk_model.specs.Disk.{HasCause, Exactly};
 ghost use Rattle.disk_model.specs.Moments.{LeavesOnly, TellsMany};
+ghost use Rattle.file_content.specs.Pages.{pages_of};
 ghost use Rattle.inode_pack.specs.Committing.{needed, commit_answer};
 ghost use Rattle.inode_pack.specs.Marked.{marked};
-ghost use Rattle.inode_pack.specs.declared.pack_fault.PackFault.TheVariants.{Disk};
+ghost use Rattle.inode_pack.specs.declared.pack_fault.PackFault.TheVariants.{NoMemory};
 ghost use Rattle.role_steps.specs.Tables.{with_row};
 ghost use Rattle.role_steps.specs.Storage.{copy_key};
 ghost use Rattle.site_packs.specs.Copies.{copies_on};
-ghost use Rattle.site_packs.specs.Packs.{Stand, SamePlaces, groups_of, pack_in, copy_at};
-ghost use Rattle.site_packs.specs.Committing.{IsWholeFit, MayBeLeft, copy_made, room, store_calls};
+ghost use Rattle.site_packs.specs.Packs.{AreFound, Stand, SamePlaces, groups_of, pack_in, copy_at};
+ghost use Rattle.site_packs.specs.Committing.{IsWholeFit, IsOfStore, MayBeLeft, copy_made, room, store_calls};
 ghost use Rattle.site_packs.specs.Cutting.{both_open_on, IsCut};
-ghost use Rattle.site_packs.specs.Marking.{FillsAt};
+ghost use Rattle.site_packs.specs.Marking.{FillsAt, blocks_at};
 
 use crate::{NewVersion, SitePacks};
 use disk_model::Disk;
@@ -40,16 +42,19 @@ impl SitePacks {
         requires room { needed (marked content.now marks.now) ≤ room self.old (D.moment disk.old).seen file.group }
         ensures any_moment { LeavesOnly (D.moment disk.old) (D.moment disk.new) (MayBeLeft self.old (copy_made file version content.now) (D.moment disk.old).seen) }
         ensures copies { OnOk result (copies_on (groups_of self.old) (D.moment disk.new).seen ≡ with_row copy_key (copy_made file version content.now) (copies_on (groups_of self.old) (D.moment disk.old).seen)) }
-        ensures stands { OnOk result (Stand self.new (D.moment disk.new)) }
+        ensures found { OnOk result (AreFound self.new.packs (D.moment disk.new)) }
+        ensures live { self.new.live ≡ self.old.live }
         ensures places { SamePlaces self.old self.new }
         ensures kept { OnErr result (self.new ≡ self.old) }
-        ensures only { IfErr result (λ fault. fault ≡ Disk) }
+        ensures only { IfErr result IsOfStore }
+        ensures early { result ≡ Err NoMemory → disk.new ≡ disk.old }
+        ensures tables { result ≡ Err NoMemory → slot_pages < pages_of (length content.now) }
         ensures cause { HasCause (D.moment disk.old).faults (D.moment disk.new).faults (commit_answer result) }
-        ensures tells { TellsMany (store_calls (needed (marked content.now marks.now)) (copy_at self.old (D.moment disk.old).seen file) result) (D.moment disk.old).passing (D.moment disk.new).passing (commit_answer result) }
+        ensures tells { TellsMany (store_calls (blocks_at (pack_in file.group self.old.packs) ino (marked content.now marks.now)) (copy_at self.old (D.moment disk.old).seen file) result) (D.moment disk.old).passing (D.moment disk.new).passing (commit_answer result) }
         ensures none { OnOk result (both_open_on (groups_of self.old) (D.moment disk.new).seen ≡ []) }
         ensures how { (D.moment disk.new).how ≡ (D.moment disk.old).how }
         ensures cut { (passed : ℕ) → (D.moment disk.old).passing ≡ Exactly passed → OnErr (commit_answer result)
-            (IsCut self.old (copy_made file version content.now) (needed (marked content.now marks.now)) (D.moment disk.old).how passed (D.moment disk.old).seen (D.moment disk.new).left) }
+            (IsCut self.old (copy_made file version content.now) (blocks_at (pack_in file.group self.old.packs) ino (marked content.now marks.now)) (D.moment disk.old).how passed (D.moment disk.old).seen (D.moment disk.new).left) }
     {
         self.packs[at].commit(disk, ino, &version, content, marks)
     }

@@ -84,6 +84,7 @@ cut_unfit size e = cc
 pub refused_commit : {T : Type 0} (P : Type 0) (e : CommitFault) (f : StoreFault) → f ≡ fault_of_commit e → (e ≡ commit.NoSpace → P → ⊥) → (e ≡ commit.Unfit → P → ⊥) → ◌≡◌ {A = Result T StoreFault} (Err f) (Err fault.Unfit) → P → ⊥
 refused_commit P commit.NoSpace f is full unfit so = full refl
 refused_commit P commit.Unfit f is full unfit so = unfit refl
+refused_commit P commit.NoMemory f is full unfit so = absurd (memory_unfit (sym is ∙ is_fault f fault.Unfit so))
 refused_commit P commit.Disk f is full unfit so = absurd (disk_unfit (sym is ∙ is_fault f fault.Unfit so))
 refused_commit P (commit.Cut size) f is full unfit so = absurd (cut_unfit size (sym is ∙ is_fault f fault.Unfit so))
 

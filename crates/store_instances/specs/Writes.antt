@@ -16,7 +16,7 @@ use Rattle.site_packs.specs.declared.faults.CommitFault.{CommitFault}
 use Rattle.site_packs.specs.declared.faults.CommitFault.TheVariants as commit
 use Rattle.site_packs.specs.declared.faults.ReadFault.{ReadFault}
 use Rattle.site_packs.specs.declared.faults.ReadFault.TheVariants as read
-use Rattle.site_packs.specs.Committing.{MayBeLeft, calls_of}
+use Rattle.site_packs.specs.Committing.{MayBeLeft, blocks_over, calls_of}
 use Rattle.site_packs.specs.Cutting.{IsCut}
 use Rattle.site_packs.specs.Packs.{PacksState, copy_at}
 use Rattle.store_instances.specs.declared.fault.StoreFault.{StoreFault}
@@ -28,6 +28,7 @@ fault_of_commit commit.Disk = fault.Disk
 fault_of_commit (commit.Cut size) = fault.Cut size
 fault_of_commit commit.NoSpace = fault.Unfit
 fault_of_commit commit.Unfit = fault.Unfit
+fault_of_commit commit.NoMemory = fault.NoMemory
 
 -- the fault of a call whose operation is refused so
 abbrev pub fault_of_effect : EffectFault → StoreFault
@@ -51,10 +52,14 @@ disk_answer (Err fault.NoMemory) = Ok tt
 abbrev pub write_as : Frame → Instance → List ℕ → DiskWrite
 write_as f i vector = commit_write f i vector (next_stamp f vector)
 
+-- the pages and tables that it writes
+abbrev pub blocks_in : PacksState → List ℕ → DiskWrite → ℕ
+blocks_in p image w = blocks_over (copy_at p image w.copy.file) w.copy.content w.pages
+
 -- the writes and syncs that it makes
 abbrev pub calls_in : PacksState → List ℕ → Option DiskWrite → ℕ
 calls_in p image None = 0
-calls_in p image (Some w) = calls_of (length w.pages) (is_some (copy_at p image w.copy.file))
+calls_in p image (Some w) = calls_of (blocks_in p image w) (is_some (copy_at p image w.copy.file))
 
 -- what a crash within it may leave
 abbrev pub MayLeave : PacksState → Option DiskWrite → List ℕ → List ℕ → Type 0
@@ -88,14 +93,14 @@ pub record Stopped (write : Option DiskWrite) (p : PacksState) (old new : Moment
 -- what a crash leaves where the disk cuts off the write after so many calls
 abbrev pub IsCutIn : Option DiskWrite → PacksState → Moment → Moment → ℕ → Type 0
 IsCutIn None p old new passed = ⊥
-IsCutIn (Some w) p old new passed = IsCut p w.copy (length w.pages) old.how passed old.seen new.left
+IsCutIn (Some w) p old new passed = IsCut p w.copy (blocks_in p old.seen w) old.how passed old.seen new.left
 
--- a write that was cut off was of so many pages, and replaced another version or not
+-- a write that was cut off was of so many pages and tables, and replaced another version or not
 abbrev pub HasSize : ℕ → Bool → StoreFault → Type 0
-HasSize pages replaces (fault.Cut size) = (size.pages ≡ pages) × (size.replaces ≡ replaces)
-HasSize pages replaces fault.Disk = Unit {0}
-HasSize pages replaces fault.Unfit = Unit {0}
-HasSize pages replaces fault.NoMemory = Unit {0}
+HasSize blocks replaces (fault.Cut size) = (size.blocks ≡ blocks) × (size.replaces ≡ replaces)
+HasSize blocks replaces fault.Disk = Unit {0}
+HasSize blocks replaces fault.Unfit = Unit {0}
+HasSize blocks replaces fault.NoMemory = Unit {0}
 
 abbrev pub IsUncut : StoreFault → Type 0
 IsUncut (fault.Cut size) = ⊥
@@ -106,7 +111,7 @@ IsUncut fault.NoMemory = Unit {0}
 -- where nothing is written nothing is cut off
 abbrev pub HasSizeOf : Option DiskWrite → PacksState → List ℕ → StoreFault → Type 0
 HasSizeOf None p image f = IsUncut f
-HasSizeOf (Some w) p image f = HasSize (length w.pages) (is_some (copy_at p image w.copy.file)) f
+HasSizeOf (Some w) p image f = HasSize (blocks_in p image w) (is_some (copy_at p image w.copy.file)) f
 
 -- what becomes of the disk in a call that makes this write or none
 pub record Writes {T : Type 0} (write : Option DiskWrite) (p : PacksState) (old new : Moment) (before after : Outgoing) (result : Result T StoreFault) : Type 0 where

@@ -27,16 +27,32 @@ impl StoreInstance {
         ensures stage { self.new.stage ≡ self.old.stage }
     {
         let n = self.work.ops;
-        self.answer(frame, n, gave.copy()?, out)?;
+        self.answer(frame, n, &gave, out)?;
+        self.tell_act(frame, n, op, &gave, out)?;
+        self.answered = Some(gave);
+        Ok(())
+    }
+
+    /// Tells what an operation gave.
+    fn tell_act(
+        &self,
+        frame: &SiteFrame,
+        n: u32,
+        op: &Op,
+        gave: &Outcome,
+        out: &mut Outbox,
+    ) -> Result<(), NoMemory>
+        ensures packets { OnOk result (out.new.packets ≡ out.old.packets) }
+        ensures records { OnOk result (out.new.records ≡ out.old.records ++ Record.Act frame.now.epoch self.now.inst n op.now gave.now ∷ []) }
+    {
+        let op = op.copy()?;
         out.note(Record::Act {
             epoch: frame.epoch,
             inst: self.inst(),
             n,
-            op: op.copy()?,
+            op,
             result: gave.copy()?,
-        })?;
-        self.answered = Some(gave);
-        Ok(())
+        })
     }
 
     /// Sends what an operation gave.
@@ -44,16 +60,16 @@ impl StoreInstance {
         &self,
         frame: &SiteFrame,
         n: u32,
-        gave: Outcome,
+        gave: &Outcome,
         out: &mut Outbox,
     ) -> Result<(), NoMemory>
-        ensures packets { OnOk result (out.new.packets ≡ out.old.packets ++ op_done frame.now self.now n gave) }
+        ensures packets { OnOk result (out.new.packets ≡ out.old.packets ++ op_done frame.now self.now n gave.now) }
         ensures records { OnOk result (out.new.records ≡ out.old.records) }
     {
         let body = Body::OpDone {
             serial: self.serial,
             number: n,
-            outcome: gave,
+            outcome: gave.copy()?,
         };
         out.send(frame.packet(self.us, body))
     }
@@ -70,7 +86,7 @@ impl StoreInstance {
     {
         match &self.answered {
             None => Ok(()),
-            Some(gave) => self.answer(frame, n, gave.copy()?, out),
+            Some(gave) => self.answer(frame, n, gave, out),
         }
     }
 }

@@ -1,12 +1,12 @@
 //! The working content of an instance becomes a version of its file.
 
-ghost use Rattle.std.specs.Prelude.{◌≡◌, ◌++◌, ◌∷◌, [], ◌-◌, IfSome, IfNone, IfOk, OnOk, Some, is_some, true, false, length, slice_index, ℕ, Err, IfErr, OnErr};
+ghost use Rattle.std.specs.Prelude.{◌≡◌, ◌++◌, ◌∷◌, [], ◌-◌, IfSome, IfNone, IfOk, OnOk, Some, is_some, true, false, slice_index, ℕ, Err, IfErr, OnErr};
 ghost use Rattle.disk_model.specs.Disk.{Exactly, HasCause};
 ghost use Rattle.disk_model.specs.Moments.{LeavesOnly};
 ghost use Rattle.role_steps.specs.Tables.{with_row};
 ghost use Rattle.role_steps.specs.Storage.{commit_record, copy_key, copy_made, instance_committed, instance_key, is_spent, next_stamp, next_vector};
 ghost use Rattle.site_packs.specs.Copies.{copies_on};
-ghost use Rattle.site_packs.specs.Committing.{MayBeLeft, calls_of};
+ghost use Rattle.site_packs.specs.Committing.{MayBeLeft, blocks_over, calls_of};
 ghost use Rattle.site_packs.specs.Cutting.{IsCut};
 ghost use Rattle.site_packs.specs.Packs.{SamePlaces, Stand, copy_at, groups_of};
 ghost use Rattle.file_content.specs.Pages.{ascending};
@@ -15,6 +15,7 @@ ghost use Rattle.store_instances.specs.Writes.{HasSize, TellsWrite, Writes, disk
 
 use crate::{StoreFault, StoreInstance};
 use disk_model::Disk;
+use instance_choices::next_vector;
 use locus_ids::sizes::SITES;
 use locus_ids::{Bytes, ItemList, NoMemory, SiteId, Stamp, Stamps};
 use site_frame::SiteFrame;
@@ -30,11 +31,7 @@ impl StoreInstance {
         ensures risen { IfSome result (λ v. is_spent frame.now self.now ≡ false) }
         ensures none { IfNone result (is_spent frame.now self.now ≡ true) }
     {
-        let _me = frame.me.get();
-        match self.vector.bump(frame.me) {
-            Ok(vector) => Some(vector),
-            Err(_) => None,
-        }
+        next_vector(&self.vector, frame.me)
     }
 
     /// The working content is committed as the version of this vector. Its record is told before the disk is written.
@@ -84,11 +81,11 @@ impl StoreInstance {
         ensures places { OnOk result (SamePlaces packs.old packs.new) }
         ensures leaves { LeavesOnly (D.moment disk.old) (D.moment disk.new) (MayBeLeft packs.old (copy_made self.now vector.now stamp) (D.moment disk.old).seen) }
         ensures cause { HasCause (D.moment disk.old).faults (D.moment disk.new).faults (disk_answer result) }
-        ensures tells { TellsWrite (calls_of (length (ascending self.now.work.changed)) (is_some (copy_at packs.old (D.moment disk.old).seen self.now.file))) (D.moment disk.old).passing (D.moment disk.new).passing result }
+        ensures tells { TellsWrite (calls_of (blocks_over (copy_at packs.old (D.moment disk.old).seen self.now.file) self.now.work.content (ascending self.now.work.changed)) (is_some (copy_at packs.old (D.moment disk.old).seen self.now.file))) (D.moment disk.old).passing (D.moment disk.new).passing result }
         ensures unread { result ≡ Err StoreFault.Disk → (D.moment disk.new).seen ≡ (D.moment disk.old).seen }
         ensures told { (passed : ℕ) → (D.moment disk.old).passing ≡ Exactly passed → result ≡ Err StoreFault.Disk → ⊥ }
-        ensures cut { (passed : ℕ) → (D.moment disk.old).passing ≡ Exactly passed → OnErr (disk_answer result) (IsCut packs.old (copy_made self.now vector.now stamp) (length (ascending self.now.work.changed)) (D.moment disk.old).how passed (D.moment disk.old).seen (D.moment disk.new).left) }
-        ensures size { IfErr result (HasSize (length (ascending self.now.work.changed)) (is_some (copy_at packs.old (D.moment disk.old).seen self.now.file))) }
+        ensures cut { (passed : ℕ) → (D.moment disk.old).passing ≡ Exactly passed → OnErr (disk_answer result) (IsCut packs.old (copy_made self.now vector.now stamp) (blocks_over (copy_at packs.old (D.moment disk.old).seen self.now.file) self.now.work.content (ascending self.now.work.changed)) (D.moment disk.old).how passed (D.moment disk.old).seen (D.moment disk.new).left) }
+        ensures size { IfErr result (HasSize (blocks_over (copy_at packs.old (D.moment disk.old).seen self.now.file) self.now.work.content (ascending self.now.work.changed)) (is_some (copy_at packs.old (D.moment disk.old).seen self.now.file))) }
         ensures how { (D.moment disk.new).how ≡ (D.moment disk.old).how }
         ensures unfit { result ≡ Err StoreFault.Unfit → CanStore (groups_of packs.old) (copies_on (groups_of packs.old) (D.moment disk.old).seen) self.now vector.now stamp → ⊥ }
     {

@@ -56,6 +56,7 @@ impl From<CommitFault> for StoreFault {
             CommitFault::Cut(size) => StoreFault::Cut(size),
             CommitFault::NoSpace => StoreFault::Unfit,
             CommitFault::Unfit => StoreFault::Unfit,
+            CommitFault::NoMemory => StoreFault::NoMemory,
         }
     }
 }

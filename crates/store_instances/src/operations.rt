@@ -1,6 +1,6 @@
 //! Numbered operations at one instance: each number is executed once.
 
-ghost use Rattle.std.specs.Prelude.{◌≡◌, ◌≢◌, ◌<◌, ◌+◌, ◌==◌, ◌++◌, ◌∷◌, [], ℕ, List, None, OnOk, Some, true, Ok, Err};
+ghost use Rattle.std.specs.Prelude.{◌≡◌, ◌≢◌, ◌<◌, ◌+◌, ◌++◌, ◌∷◌, [], ℕ, List, None, OnOk, Some, Ok, Err};
 ghost use Rattle.role_steps.specs.Views.{Store};
 ghost use Rattle.role_steps.specs.Storage.{free_pages, instance_key, next_stamp, next_vector};
 ghost use Rattle.trace_book.specs.declared.record.Record.TheVariants as Record;
@@ -17,6 +17,7 @@ ghost use Rattle.store_instances.specs.Writes.{Writes, disk_answer, write_as};
 
 use crate::{StoreFault, StoreInstance};
 use disk_model::Disk;
+use instance_choices::{OpTurn, turn_of};
 use locus_ids::sizes::SITES;
 use locus_ids::{Bytes, NoMemory, Refusal};
 use operation_effects::{MendingWork, operate};
@@ -53,24 +54,21 @@ impl StoreInstance {
         if !self.is_running() {
             return Ok(());
         }
-        let done = self.done();
-        if n == done {
-            self.answer_again(frame, n, out)?;
-            return Ok(());
-        }
-        if !is_next(n, done) {
-            return Ok(());
-        }
-        match op {
-            Op::Commit => {
+        match turn_of(self.done(), n, op) {
+            OpTurn::Again => {
+                self.answer_again(frame, n, out)?;
+                Ok(())
+            }
+            OpTurn::Ignored => Ok(()),
+            OpTurn::Commits => {
                 self.commit_op(frame, packs, disk, out)?;
                 Ok(())
             }
-            Op::Abort => {
+            OpTurn::Aborts => {
                 self.abort_op(frame, packs, disk, out)?;
                 Ok(())
             }
-            _ => {
+            OpTurn::Works => {
                 self.execute(frame, op, seen, mending, free, out)?;
                 Ok(())
             }
@@ -220,12 +218,4 @@ impl StoreInstance {
         self.work.count();
         self.act(frame, op, gave, out)
     }
-}
-
-/// It is the number after the last one that was done.
-fn is_next(n: u32, done: u32) -> bool
-    ensures value { result ≡ (n == done + 1) }
-    ensures few { result ≡ true → done < 4294967295 }
-{
-    n > done && n - done == 1
 }

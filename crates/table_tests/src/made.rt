@@ -1,14 +1,11 @@
-// What the tests are made of.
-ghost use Rattle.std.specs.Prelude.{◌≡◌, Ok};
-
+// What the tests are made of. Where a call fails, the test ends: so a function has no exit behind each of its calls.
 use css_core::Css;
 use keyed_tables::SortedTable;
 use locus_ids::{Bytes, Config, EpochId, Kind, Members, Mounts, SiteId, Sites, Stamp};
 use site_frame::SiteFrame;
 use site_tables::take;
 use std::alloc::Global;
-use std::process::{Abort, Termination};
-use std::test::Fail;
+use std::process::Abort;
 use trace_text::render;
 use version_vector::Vector;
 use wire_messages::{Body, Outbox, ReportedCopies, ReportedCopy};
@@ -19,8 +16,8 @@ const EPOCH: EpochId = EpochId {
     boot: 1,
 };
 
-pub fn site(n: u8) -> Result<SiteId, Fail> {
-    Ok(SiteId::new(n).ok_or("no site")?)
+pub fn site<R: Abort>(rt: &R, n: u8) -> SiteId {
+    SiteId::new(n).expect(rt, "no site")
 }
 
 /// A number for each of the sites 1, 2 and 3.
@@ -42,68 +39,54 @@ pub fn copy(ino: u16, kind: Kind, by: u8, one: u32, two: u32) -> ReportedCopy {
 
 /// Where a site stands in epoch 1.1.1, of which the sites that have boots are members. Group 0 has packs at sites 1, 2 and 3,
 /// group 1 at sites 1 and 2, group 2 at site 2, and group 3 has none.
-pub fn frame(alloc: Global, me: u8, one: u32, two: u32, three: u32) -> Result<SiteFrame, Fail> {
-    Ok(SiteFrame {
+pub fn frame<R: Abort>(rt: &R, alloc: Global, me: u8, boots: [u32; 3]) -> SiteFrame {
+    let [one, two, three] = boots;
+    SiteFrame {
         config: Config {
             sites: 3,
             packs: [Sites(0b111), Sites(0b11), Sites(0b10), Sites(0)],
             mounts: Mounts::new(alloc),
         },
-        me: site(me)?,
+        me: site(rt, me),
         boot: 1,
         epoch: EPOCH,
         members: Members {
             boot: numbers(one, two, three),
         },
-    })
+    }
 }
 
 /// What an outbox has: the receiver of each packet, and then each record as a trace has it.
-pub fn shown(alloc: Global, out: &Outbox) -> Result<String, Fail> {
+pub fn shown<R: Abort>(rt: &R, alloc: Global, out: &Outbox) -> String {
     let mut text = String::new(alloc);
     for packet in out.packets().as_slice() {
         let to = packet.to.get();
-        write!(text, "{to};")?;
+        write!(text, "{to};").expect(rt, "no memory");
     }
     for record in out.records().as_slice() {
         let mut line = Bytes::new(alloc);
-        render(record, 0, &mut line)?;
-        text.push_str(str::from_utf8(line.as_slice())?)?;
+        render(record, 0, &mut line).expect(rt, "no memory");
+        let line = str::from_utf8(line.as_slice()).expect(rt, "no text");
+        text.push_str(line).expect(rt, "no memory");
     }
-    Ok(text)
+    text
 }
 
 /// What the tables send and tell as a site reports these copies of a group.
-pub fn reports(
+pub fn reports<R: Abort>(
+    rt: &R,
     tables: &mut SortedTable<Css>,
     frame: &SiteFrame,
-    from: u8,
-    group: u8,
+    (from, group): (u8, u8),
     reported: &[ReportedCopy],
-) -> Result<String, Fail> {
-    let mut copies = ReportedCopies::new(tables.allocator());
+) -> String {
+    let alloc = tables.allocator();
+    let mut copies = ReportedCopies::new(alloc);
     for copy in reported {
-        copies.push(*copy)?;
+        copies.push(*copy).expect(rt, "no memory");
     }
+    let mut out = Outbox::new(alloc);
     let body = Body::Report { group, copies };
-    let mut out = Outbox::new(tables.allocator());
-    take(tables, frame, site(from)?, body, &mut out)?;
-    shown(tables.allocator(), &out)
-}
-
-/// What a call gave. Where it failed, why is written, and the test ends: so a test has no exit behind each of its calls.
-pub fn given<T, R: Abort + Eprint>(rt: &R, outcome: Result<T, Fail>) -> T
-    ensures { outcome ≡ Ok result }
-{
-    match outcome {
-        Ok(value) => value,
-        Err(fail) => {
-            let _ = failed(fail).report(rt);
-            rt.panic("a call failed")
-        }
-    }
-}
-
-fn failed(fail: Fail) -> Result<(), Fail> {
-    Err(fail)
+    take(tables, frame, site(rt, from), body, &mut out).expect(rt, "not taken");
+    shown(rt, alloc, &out)
 }

@@ -1,22 +1,23 @@
 // site_tables: which tables a site starts, what they take, and what they know of kept versions.
-use crate::made::{copy, frame, given, reports, shown, site};
+use crate::checks::is_same;
+use crate::made::{copy, frame, reports, shown, site};
 use css_core::Css;
 use keyed_tables::SortedTable;
 use locus_ids::{FileId, Kind, Stamp};
 use site_frame::SiteFrame;
 use site_tables::{kept_vectors, notes_own, repeat_notices, stamps_kept, start_tables, take};
 use std::alloc::Global;
-use std::test::Fail;
+use std::process::Abort;
 use wire_messages::{Body, Outbox, ReportedCopy};
 
 /// The groups of the tables, each with the number of its files.
-fn groups(alloc: Global, tables: &[Css]) -> Result<String, Fail> {
+fn groups<R: Abort>(rt: &R, alloc: Global, tables: &[Css]) -> String {
     let mut text = String::new(alloc);
     for table in tables {
         let (group, files) = (table.group(), table.files().len());
-        write!(text, "{group} of {files},")?;
+        write!(text, "{group} of {files},").expect(rt, "no memory");
     }
-    Ok(text)
+    text
 }
 
 /// A site has a table of each group of which it is the first member with a pack, and none that stood before.
@@ -33,34 +34,36 @@ fn new_tables_stand_in_place_of_all_others(rt: HostRuntime) {
         (3, 0, 0, 1, "0 of 0,"),
         (1, 0, 1, 1, ""),
     ] {
-        let frame = given(&rt, frame(alloc, me, one, two, three));
+        let frame = frame(&rt, alloc, me, [one, two, three]);
         start_tables(alloc, &mut tables, &frame).expect(&rt, "no memory");
-        let started = given(&rt, groups(alloc, tables.as_slice()));
-        assert!(rt; started.as_str() == wanted);
+        is_same(&rt, &groups(&rt, alloc, tables.as_slice()), wanted);
         let known = [copy(2, Kind::File, 1, 1, 0)];
-        given(&rt, reports(&mut tables, &frame, 3, 0, &known));
+        reports(&rt, &mut tables, &frame, (3, 0), &known);
     }
 }
 
 /// The kept vectors of a group that knows of file 2 a version by one commit of site 1, and another copy, each with its inode; `-`
 /// where a number is no inode's.
-fn kept(alloc: Global, other: ReportedCopy) -> Result<String, Fail> {
+fn kept<R: Abort>(rt: &R, alloc: Global, other: ReportedCopy) -> String {
     let mut table = Css::new(alloc, 0);
-    let frame = frame(alloc, 1, 1, 1, 1)?;
+    let frame = frame(rt, alloc, 1, [1, 1, 1]);
     let copies = [copy(2, Kind::File, 1, 1, 0), other];
-    table.on_report(&frame, site(1)?, &copies, &mut Outbox::new(alloc))?;
+    table
+        .on_report(&frame, site(rt, 1), &copies, &mut Outbox::new(alloc))
+        .expect(rt, "no memory");
+    let vectors = kept_vectors(alloc, &table).expect(rt, "no memory");
     let mut text = String::new(alloc);
-    match kept_vectors(alloc, &table)? {
+    match &vectors {
         Some(vectors) => {
             for kept in vectors.as_slice() {
                 let (ino, parts) = (kept.ino.get(), kept.vector.parts());
                 let (one, two) = (parts[0], parts[1]);
-                write!(text, "{ino} {one}.{two},")?;
+                write!(text, "{ino} {one}.{two},").expect(rt, "no memory");
             }
         }
-        None => text.push_str("-")?,
+        None => text.push_str("-").expect(rt, "no memory"),
     }
-    Ok(text)
+    text
 }
 
 #[test]
@@ -75,32 +78,36 @@ fn kept_vectors_are_those_of_all_files(rt: HostRuntime) {
         (1_025, 0, 1, "-"),
     ] {
         let other = copy(ino, Kind::File, 2, one, two);
-        assert!(rt; given(&rt, kept(rt.alloc(), other)).as_str() == wanted);
+        is_same(&rt, &kept(&rt, rt.alloc(), other), wanted);
     }
 }
 
 /// What the table of group 0 tells as site 2 says that it has a version, and site 3 is noted to have it; and how many are kept.
-fn told(
+fn told<R: Abort>(
+    rt: &R,
     tables: &mut SortedTable<Css>,
     frame: &SiteFrame,
     file: FileId,
     by: u8,
-) -> Result<String, Fail> {
+) -> String {
     let (alloc, stamp) = (tables.allocator(), Stamp { site: by, n: 1 });
     let (have, mut out) = (Body::Have { file, stamp }, Outbox::new(alloc));
-    take(tables, frame, site(2)?, have, &mut out)?;
-    notes_own(tables, site(3)?, file, stamp)?;
-    repeat_notices(tables.as_slice(), frame, &mut out)?;
-    let (mut text, kept) = (shown(alloc, &out)?, stamps_kept(alloc, tables, file)?.len());
-    write!(text, "{kept}")?;
-    Ok(text)
+    take(tables, frame, site(rt, 2), have, &mut out).expect(rt, "not taken");
+    notes_own(tables, site(rt, 3), file, stamp).expect(rt, "no memory");
+    repeat_notices(tables.as_slice(), frame, &mut out).expect(rt, "no memory");
+    let kept = stamps_kept(alloc, tables, file)
+        .expect(rt, "no memory")
+        .len();
+    let mut text = shown(rt, alloc, &out);
+    write!(text, "{kept}").expect(rt, "no memory");
+    text
 }
 
 /// Version 1.1 of file 2 is brought by site 1. Group 2 has no table here.
 #[test]
 fn what_comes_is_taken_by_the_table_of_its_group(rt: HostRuntime) {
     let alloc = rt.alloc();
-    let frame = given(&rt, frame(alloc, 1, 1, 1, 1));
+    let frame = frame(&rt, alloc, 1, [1, 1, 1]);
     let mut tables = SortedTable::new(alloc);
     start_tables(alloc, &mut tables, &frame).expect(&rt, "no memory");
     for (from, group, wanted) in [
@@ -111,8 +118,8 @@ fn what_comes_is_taken_by_the_table_of_its_group(rt: HostRuntime) {
     ] {
         let brought = [copy(2, Kind::File, 1, 1, 0)];
         let copies = if from == 1 { &brought[..] } else { &[] };
-        let sent = given(&rt, reports(&mut tables, &frame, from, group, copies));
-        assert!(rt; sent.as_str() == wanted);
+        let sent = reports(&rt, &mut tables, &frame, (from, group), copies);
+        is_same(&rt, &sent, wanted);
     }
     for (group, ino, by, wanted) in [
         (2, 2, 1, "2;3;0"),
@@ -121,7 +128,6 @@ fn what_comes_is_taken_by_the_table_of_its_group(rt: HostRuntime) {
         (0, 2, 1, "1"),
     ] {
         let file = FileId { group, ino };
-        let told = given(&rt, told(&mut tables, &frame, file, by));
-        assert!(rt; told.as_str() == wanted);
+        is_same(&rt, &told(&rt, &mut tables, &frame, file, by), wanted);
     }
 }

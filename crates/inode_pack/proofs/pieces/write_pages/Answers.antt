@@ -9,6 +9,7 @@ use Rattle.gate_switch.specs.Switch.{AreWithin, TornIn, written}
 use Rattle.disk_model.proofs.Moments.{goes_start, goes_more}
 use Rattle.gate_switch.proofs.Pieces.{torn_stays, torn_joins, torn_written, written-append}
 use Rattle.disk_model.proofs.Tells.{tells_none, tells_join}
+use Rattle.pack_slots.specs.Copies.{numbers_in}
 use Rattle.inode_pack.specs.PagePieces.{piece_at, page_pieces}
 use Rattle.inode_pack.proofs.Streaming.{torn_one, within_one, pieces_more, pieces_before, pieces_behind, longer, tells_short}
 use Rattle.inode_pack.proofs.pieces.write_pages.Goals as goal
@@ -16,7 +17,7 @@ use Rattle.inode_pack.proofs.pieces.write_pages.Goals as goal
 pub loop-i-init : goal.loop-i-init
 loop-i-init g c =
     let base = c.args.base in
-    let numbers = c.args.numbers.now in
+    let numbers = (numbers_in c.args.made.now) in
     let w = (g.C.NewContent.working c.args.content.now) in
     let row = c.args.row in
     let disk = c.args.disk.now in
@@ -33,7 +34,7 @@ loop-i-init g c =
 pub write_page-requires-clause-within : goal.write_page-requires-clause-within
 write_page-requires-clause-within g c =
     let base = c.args.base in
-    let numbers = c.args.numbers.now in
+    let numbers = (numbers_in c.args.made.now) in
     let w = (g.C.NewContent.working c.args.content.now) in
     let i = c.loop-i.i in
     let one = piece_at (page_at base (get_or numbers i 0)) (get_or w.pages i None) in
@@ -43,7 +44,7 @@ write_page-requires-clause-within g c =
 pub returns-in_err-write_page-clause-crash : goal.returns-in_err-write_page-clause-crash
 returns-in_err-write_page-clause-crash g c =
     let base = c.args.base in
-    let numbers = c.args.numbers.now in
+    let numbers = (numbers_in c.args.made.now) in
     let w = (g.C.NewContent.working c.args.content.now) in
     let i = c.loop-i.i in
     let one = piece_at (page_at base (get_or numbers i 0)) (get_or w.pages i None) in
@@ -55,7 +56,7 @@ returns-in_err-write_page-clause-crash g c =
 pub returns-in_err-write_page-clause-tells : goal.returns-in_err-write_page-clause-tells
 returns-in_err-write_page-clause-tells g c =
     let base = c.args.base in
-    let numbers = c.args.numbers.now in
+    let numbers = (numbers_in c.args.made.now) in
     let w = (g.C.NewContent.working c.args.content.now) in
     let i = c.loop-i.i in
     let so_far = page_pieces base numbers w i in
@@ -69,7 +70,7 @@ returns-in_err-write_page-clause-tells g c =
 pub loop-i-preserved : goal.loop-i-preserved
 loop-i-preserved g c =
     let base = c.args.base in
-    let numbers = c.args.numbers.now in
+    let numbers = (numbers_in c.args.made.now) in
     let w = (g.C.NewContent.working c.args.content.now) in
     let i = c.loop-i.i in
     let inv = c.loop-i.invariant in
@@ -97,7 +98,7 @@ loop-i-preserved g c =
 pub returns-clause-written : goal.returns-clause-written
 returns-clause-written g c =
     let base = c.args.base in
-    let numbers = c.args.numbers.now in
+    let numbers = (numbers_in c.args.made.now) in
     let w = (g.C.NewContent.working c.args.content.now) in
     let row = c.args.row in
     let inside = c.requires.inside in
@@ -108,7 +109,7 @@ returns-clause-written g c =
 pub returns-clause-tells : goal.returns-clause-tells
 returns-clause-tells g c =
     let base = c.args.base in
-    let numbers = c.args.numbers.now in
+    let numbers = (numbers_in c.args.made.now) in
     let w = (g.C.NewContent.working c.args.content.now) in
     let row = c.args.row in
     let inside = c.requires.inside in

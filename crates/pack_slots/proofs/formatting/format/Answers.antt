@@ -21,7 +21,7 @@ returns-in_err-zero_slots-clause-crash g c =
     let long = ap length c.superblock.ensures ∙ length-superblock c.args.group c.args.site in
     let start = goes_start M (Torn base area_length) old (torn_stays base area_length) in
     let one = goes_more M (Torn base (length c.superblock.result)) (Torn base area_length) old old c.write_at.new.self (torn_widens base (length c.superblock.result) base area_length (omega arith) (omega arith)) (torn_joins base area_length) start c.write_at.ensures.crash in
-    goes_more M (Torn (base + 1024) 1048576) (Torn base area_length) old c.write_at.new.self c.zero_slots.new.disk (torn_widens (base + 1024) 1048576 base area_length (omega arith) (omega arith)) (torn_joins base area_length) one c.zero_slots.ensures.crash
+    goes_more M (Torn (base + 1024) 2097152) (Torn base area_length) old c.write_at.new.self c.zero_slots.new.disk (torn_widens (base + 1024) 2097152 base area_length (omega arith) (omega arith)) (torn_joins base area_length) one c.zero_slots.ensures.crash
 
 pub returns-in_err-write_root-clause-crash : goal.returns-in_err-write_root-clause-crash
 returns-in_err-write_root-clause-crash g c =
@@ -31,7 +31,7 @@ returns-in_err-write_root-clause-crash g c =
     let long = ap length c.superblock.ensures ∙ length-superblock c.args.group c.args.site in
     let start = goes_start M (Torn base area_length) old (torn_stays base area_length) in
     let one = goes_more M (Torn base (length c.superblock.result)) (Torn base area_length) old old c.write_at.new.self (torn_widens base (length c.superblock.result) base area_length (omega arith) (omega arith)) (torn_joins base area_length) start c.write_at.ensures.crash in
-    let two = goes_more M (Torn (base + 1024) 1048576) (Torn base area_length) old c.write_at.new.self c.zero_slots.new.disk (torn_widens (base + 1024) 1048576 base area_length (omega arith) (omega arith)) (torn_joins base area_length) one c.zero_slots.ensures.crash in
+    let two = goes_more M (Torn (base + 1024) 2097152) (Torn base area_length) old c.write_at.new.self c.zero_slots.new.disk (torn_widens (base + 1024) 2097152 base area_length (omega arith) (omega arith)) (torn_joins base area_length) one c.zero_slots.ensures.crash in
     goes_more M (Torn (base + 1024) 512) (Torn base area_length) old c.zero_slots.new.disk c.write_root.new.disk (torn_widens (base + 1024) 512 base area_length (omega arith) (omega arith)) (torn_joins base area_length) two c.write_root.ensures.crash
 
 pub returns-clause-crash : goal.returns-clause-crash
@@ -42,7 +42,7 @@ returns-clause-crash g c =
     let long = ap length c.superblock.ensures ∙ length-superblock c.args.group c.args.site in
     let start = goes_start M (Torn base area_length) old (torn_stays base area_length) in
     let one = goes_more M (Torn base (length c.superblock.result)) (Torn base area_length) old old c.write_at.new.self (torn_widens base (length c.superblock.result) base area_length (omega arith) (omega arith)) (torn_joins base area_length) start c.write_at.ensures.crash in
-    let two = goes_more M (Torn (base + 1024) 1048576) (Torn base area_length) old c.write_at.new.self c.zero_slots.new.disk (torn_widens (base + 1024) 1048576 base area_length (omega arith) (omega arith)) (torn_joins base area_length) one c.zero_slots.ensures.crash in
+    let two = goes_more M (Torn (base + 1024) 2097152) (Torn base area_length) old c.write_at.new.self c.zero_slots.new.disk (torn_widens (base + 1024) 2097152 base area_length (omega arith) (omega arith)) (torn_joins base area_length) one c.zero_slots.ensures.crash in
     let three = goes_more M (Torn (base + 1024) 512) (Torn base area_length) old c.zero_slots.new.disk c.write_root.new.disk (torn_widens (base + 1024) 512 base area_length (omega arith) (omega arith)) (torn_joins base area_length) two c.write_root.ensures.crash in
     goes_more M Same (Torn base area_length) old c.write_root.new.disk c.sync.new.self (λ a b same. subst (λ (l : List ℕ). Torn base area_length a l) (sym same) (torn_stays base area_length a)) (torn_joins base area_length) three c.sync.ensures.crash
 
@@ -78,7 +78,7 @@ returns-clause-outside g c =
     let area = c.requires.area in
     let fits : base + length block ≤ length (g.D.Disk.moment c.args.disk.now).seen = omega arith in
     let one = torn_widens base (length block) base area_length (omega arith) (omega arith) (g.D.Disk.moment c.args.disk.now).seen (g.D.Disk.moment c.write_at.new.self).seen (subst (λ (l : List ℕ). Torn base (length block) (g.D.Disk.moment c.args.disk.now).seen l) (sym c.in_ok-write_at.ensures.written) (torn_overwritten (g.D.Disk.moment c.args.disk.now).seen base block fits)) in
-    let two = torn_widens (base + 1024) 1048576 base area_length (omega arith) (omega arith) (g.D.Disk.moment c.write_at.new.self).seen (g.D.Disk.moment c.zero_slots.new.disk).seen c.in_ok-zero_slots.ensures.outside in
+    let two = torn_widens (base + 1024) 2097152 base area_length (omega arith) (omega arith) (g.D.Disk.moment c.write_at.new.self).seen (g.D.Disk.moment c.zero_slots.new.disk).seen c.in_ok-zero_slots.ensures.outside in
     let three = torn_widens (base + 1024) 512 base area_length (omega arith) (omega arith) (g.D.Disk.moment c.zero_slots.new.disk).seen (g.D.Disk.moment c.write_root.new.disk).seen c.in_ok-write_root.ensures.outside in
     let join = torn_joins base area_length in
     let all = join _ _ _ (join _ _ _ one two) three in
@@ -94,6 +94,6 @@ returns-clause-tells g c =
     let d = (M c.zero_slots.new.disk).passing in
     let e = (M c.write_root.new.disk).passing in
     let f = (M c.sync.new.self).passing in
-    let one = tells_join 1 64 a b d (Ok tt) (tells_one a b (Ok tt) c.in_ok-write_at.ensures.tells) c.in_ok-zero_slots.ensures.tells in
-    let two = tells_join 65 1 a d e (Ok tt) one c.in_ok-write_root.ensures.tells in
-    tells_join 66 1 a e f c.sync.result two (tells_one e f c.sync.result c.sync.ensures.tells)
+    let one = tells_join 1 128 a b d (Ok tt) (tells_one a b (Ok tt) c.in_ok-write_at.ensures.tells) c.in_ok-zero_slots.ensures.tells in
+    let two = tells_join 129 1 a d e (Ok tt) one c.in_ok-write_root.ensures.tells in
+    tells_join 130 1 a e f c.sync.result two (tells_one e f c.sync.result c.sync.ensures.tells)

@@ -10,8 +10,8 @@ abbrev pub invariant-loop-i : goal.invariant-loop-i
 invariant-loop-i g l = record {
   long : length (g.D.Disk.moment l.disk).seen ≡ length (g.D.Disk.moment l.initial.disk).seen;
   zeros : (k : ℕ) → 1024 ≤ k → k < 1024 + 16384 * l.i → slice_index (g.D.Disk.moment l.disk).seen (l.base + k) ≡ 0;
-  outside : Torn (l.base + 1024) 1048576 (g.D.Disk.moment l.initial.disk).seen (g.D.Disk.moment l.disk).seen;
-  goes : Goes (Torn (l.base + 1024) 1048576) (g.D.Disk.moment l.initial.disk) (g.D.Disk.moment l.disk);
+  outside : Torn (l.base + 1024) 2097152 (g.D.Disk.moment l.initial.disk).seen (g.D.Disk.moment l.disk).seen;
+  goes : Goes (Torn (l.base + 1024) 2097152) (g.D.Disk.moment l.initial.disk) (g.D.Disk.moment l.disk);
   cause : (g.D.Disk.moment l.initial.disk).faults ≤ (g.D.Disk.moment l.disk).faults;
   tells : TellsMany {T = Unit {0}} {E = DiskFault} l.i (g.D.Disk.moment l.initial.disk).passing (g.D.Disk.moment l.disk).passing (Ok tt);
 }

@@ -9,7 +9,7 @@ loop-page-preserved c =
     let pages = c.args.pages.now in
     let number = c.from.result in
     let is : number ≡ get_or pages i 0 = c.from.ensures in
-    let fits : number < length counts = omega (arith, c.requires.inside i c.loop-page-test.true, is, c.loop-page.auto.counts, c.requires.count) in
+    let fits : number < length counts = omega (arith, c.requires.inside i c.loop-page-test.true, is, c.loop-page.auto.counts) in
     record {
       each = λ page lt. counted_more counts pages (get_or c.args.counts.now page 0) i page number c.loop-page-test.true is fits (c.loop-page.invariant.each page lt);
       total = omega (arith, sum_more counts number fits, c.loop-page.invariant.total);

@@ -1,4 +1,4 @@
-use Rattle.std.proofs.Common.{◌≡◌, ◌∙◌, ◌+◌, ◌-◌, ◌*◌, ◌≤◌, ◌<◌, true, ℕ, suc, List, ◌∷◌, length, take, drop, get_or, ap, sym, subst, arith, rules}
+use Rattle.std.proofs.Common.{◌≡◌, ◌+◌, ◌-◌, ◌*◌, true, ℕ, suc, List, ◌∷◌, length, take, drop, get_or, ap, sym, subst, arith, rules}
 use Rattle.std.specs.Prelude.{OnOk}
 use Rattle.locus_ids.specs.Sites.{has}
 use Rattle.disk_model.specs.Disk.{Goes}
@@ -11,7 +11,6 @@ use Rattle.site_packs.proofs.Mounts.{split_first, not_empty}
 use Rattle.site_packs.proofs.Stored.{on_ok_map}
 use Rattle.site_packs.proofs.NewPacks.{new_first}
 use Rattle.site_packs.proofs.Formatted.{Within, within_more, goes_first, goes_rest, tells_rest, stored_here, known_rest, on_ok_both}
-use Rattle.site_packs.proofs.formatting.+format_behind.Given.{Over}
 use Rattle.site_packs.proofs.formatting.+format_behind.Goals as goal
 
 pub returns-in_err-format_pack-clause-crash : goal.returns-in_err-format_pack-clause-crash
@@ -137,5 +136,5 @@ returns-clause-tells g t c =
     let new = c.format_behind-2.new.disk in
     let result = c.format_behind-2.result in
     let S = stored_among config site rest in
-    subst (λ (l : List ℕ). TellsMany (67 * length l) (M d).passing (M new).passing result) (sym e)
+    subst (λ (l : List ℕ). TellsMany (131 * length l) (M d).passing (M new).passing result) (sym e)
     (tells_rest n (M d).passing (M mid).passing (M new).passing result c.in_ok-format_pack.ensures.tells c.format_behind-2.ensures.tells)

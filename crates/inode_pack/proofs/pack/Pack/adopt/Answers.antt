@@ -1,11 +1,11 @@
 use Rattle.std.proofs.Common.{◌≡◌, ◌+◌, ◌<◌, ℕ, length, subst}
 use Rattle.std.specs.Prelude.{◌↔◌, OnOk, OnErr, Err}
 use Rattle.locus_ids.specs.Sizes.{pack_pages}
-use Rattle.disk_model.specs.Moments.{LeavesOnly, TellsMany}
+use Rattle.disk_model.specs.Moments.{LeavesOnly}
 use Rattle.inode_switch.specs.View.{Version, Replaced}
 use Rattle.pack_slots.specs.Copies.{copy_of, named_pages}
 use Rattle.inode_pack.specs.declared.pack_fault.PackFault.TheVariants.{NoSpace}
-use Rattle.inode_pack.specs.Committing.{MayBeLeft, size_of, adopted_version, needed, commit_calls, commit_answer}
+use Rattle.inode_pack.specs.Committing.{MayBeLeft, size_of, blocks_over, commit_answer}
 use Rattle.inode_pack.specs.Cutting.{IsCutCommit}
 use Rattle.inode_pack.specs.Whole.{whole}
 use Rattle.inode_pack.proofs.Whole.{rests_whole, adopted_is, needed_all}
@@ -34,12 +34,6 @@ pub returns-clause-no_space : goal.returns-clause-no_space
 returns-clause-no_space g c pages free =
     subst (λ (n : ℕ). (c.store.result ≡ Err (NoSpace pages free)) ↔ ((free < pages) × (pages ≡ n) × (free + length (named_pages c.args.self.now.copies) ≡ pack_pages))) (needed_all c.args.content.now) (c.store.ensures.no_space pages free)
 
-pub returns-clause-tells : goal.returns-clause-tells
-returns-clause-tells g c =
-    let before = (g.D.Disk.moment c.args.disk.now).passing in
-    let after = (g.D.Disk.moment c.store.new.disk).passing in
-    subst (λ (n : ℕ). TellsMany (commit_calls n (copy_of c.args.self.now.copies c.args.ino) c.store.result) before after (commit_answer c.store.result)) (needed_all c.args.content.now) c.store.ensures.tells
-
 pub returns-clause-cut : goal.returns-clause-cut
 returns-clause-cut g c passed told =
     let M = g.D.Disk.moment in
@@ -49,5 +43,5 @@ returns-clause-cut g c passed told =
     let new = (M c.store.new.disk).left in
     let how = (M c.args.disk.now).how in
     let answer = commit_answer c.store.result in
-    subst (λ (k : ℕ). OnErr answer (IsCutCommit pack ino (adopted_version ino c.args.version.now c.args.content.now) k how passed old new)) (needed_all c.args.content.now)
-    (subst (λ (v : Version). OnErr answer (IsCutCommit pack ino v (needed (whole c.args.content.now)) how passed old new)) (adopted_is pack.base ino c.args.version.now c.args.content.now old) (c.store.ensures.cut passed told))
+    let blocks = blocks_over (copy_of pack.copies ino) (whole c.args.content.now) in
+    subst (λ (v : Version). OnErr answer (IsCutCommit pack ino v blocks how passed old new)) (adopted_is pack.base ino c.args.version.now c.args.content.now old) (c.store.ensures.cut passed told)

@@ -34,7 +34,7 @@ returns-in_err-format-2-clause-tells g c =
     let one = c.format.new.disk in
     let two = c.format-2.new.disk in
     let k = length groups in
-    format_failed c.from_residual-in_err-format-2.result 2 (67 * k) (M d).passing (M one).passing (M two).passing c.in_err-format-2.field-0.0 c.from_residual-in_err-format-2.ensures c.in_ok-format.ensures.tells c.in_err-format-2.ensures.tells
+    format_failed c.from_residual-in_err-format-2.result 2 (131 * k) (M d).passing (M one).passing (M two).passing c.in_err-format-2.field-0.0 c.from_residual-in_err-format-2.ensures c.in_ok-format.ensures.tells c.in_err-format-2.ensures.tells
 
 pub returns-clause-label : goal.returns-clause-label
 returns-clause-label g c =
@@ -115,7 +115,7 @@ returns-clause-tells g c =
     let two = c.format-2.new.disk in
     let k = length groups in
     let new = c.mount_new.new.disk in
-    format_tells 2 (67 * k) (mount_calls groups (M two).seen) (M d).passing (M one).passing (M two).passing (M new).passing c.mount_new.result c.in_ok-format-2.ensures.shut c.in_ok-format.ensures.tells c.in_ok-format-2.ensures.tells c.mount_new.ensures.tells
+    format_tells 2 (131 * k) (mount_calls groups (M two).seen) (M d).passing (M one).passing (M two).passing (M new).passing c.mount_new.result c.in_ok-format-2.ensures.shut c.in_ok-format.ensures.tells c.in_ok-format-2.ensures.tells c.mount_new.ensures.tells
 
 pub returns-clause-copies : goal.returns-clause-copies
 returns-clause-copies g c =

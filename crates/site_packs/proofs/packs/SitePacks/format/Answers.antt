@@ -1,9 +1,9 @@
-use Rattle.std.proofs.Common.{◌≡◌, ◌+◌, ◌*◌, ◌≤◌, ℕ, List, length, ap, sym, subst, arith}
+use Rattle.std.proofs.Common.{◌≡◌, ◌*◌, ℕ, List, length, ap, subst, arith}
 use Rattle.std.specs.Prelude.{OnOk}
 use Rattle.disk_model.specs.Disk.{Goes}
 use Rattle.disk_model.specs.Images.{Torn}
 use Rattle.disk_model.specs.Moments.{TellsMany}
-use Rattle.pack_layout.specs.Layout.{area_length, area_at}
+use Rattle.pack_layout.specs.Layout.{area_length}
 use Rattle.role_steps.specs.Views.{all_groups}
 use Rattle.site_packs.specs.Packs.{groups_at}
 use Rattle.site_packs.specs.Copies.{copies_on}
@@ -11,7 +11,6 @@ use Rattle.site_packs.specs.Mounting.{AreSound, new_copies, mount_calls}
 use Rattle.site_packs.specs.Formatting.{AreNew, stored_among}
 use Rattle.site_packs.proofs.Stored.{on_ok_map}
 use Rattle.site_packs.proofs.Formatted.{stored_all}
-use Rattle.site_packs.proofs.packs.SitePacks.format.Given.{Over}
 use Rattle.site_packs.proofs.packs.SitePacks.format.Goals as goal
 
 pub format_behind-requires-clause-area : goal.format_behind-requires-clause-area
@@ -75,4 +74,4 @@ returns-clause-tells g c =
     let config = c.args.config.now in
     let site = c.args.site in
     let e = stored_all config site in
-    subst (λ (l : List ℕ). TellsMany (67 * length l) (M c.args.disk.now).passing (M c.format_behind.new.disk).passing c.format_behind.result) e c.format_behind.ensures.tells
+    subst (λ (l : List ℕ). TellsMany (131 * length l) (M c.args.disk.now).passing (M c.format_behind.new.disk).passing c.format_behind.result) e c.format_behind.ensures.tells

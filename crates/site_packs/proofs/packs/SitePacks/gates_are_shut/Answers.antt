@@ -1,5 +1,5 @@
 use Rattle.std.proofs.Common.{subst}
-use Rattle.site_packs.specs.Packs.{PacksState, ArePacks, groups_of}
+use Rattle.site_packs.specs.Packs.{PacksState, ArePacks}
 use Rattle.site_packs.proofs.NewPacks.{none_shown}
 use Rattle.site_packs.proofs.packs.SitePacks.gates_are_shut.Goals as goal
 

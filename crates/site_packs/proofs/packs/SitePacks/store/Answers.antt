@@ -7,15 +7,15 @@ use Rattle.pack_slots.specs.of_inode_switch.View.{Replaced}
 use Rattle.inode_pack.specs.Pack.{PackState}
 use Rattle.pack_slots.specs.Copies.{copy_of, named_pages}
 use Rattle.inode_pack.specs.Marked.{marked}
-use Rattle.inode_pack.specs.Committing.{new_version, needed, commit_calls, commit_answer, MayBeLeft as MayBeLeftIn}
+use Rattle.inode_pack.specs.Committing.{new_version, needed, blocks_over, commit_calls, commit_answer, MayBeLeft as MayBeLeftIn}
 use Rattle.role_steps.specs.Tables.{with_row}
 use Rattle.role_steps.specs.Storage.{copy_key}
 use Rattle.site_packs.specs.Copies.{copies_on}
-use Rattle.site_packs.specs.Packs.{PacksState, pack_group, ArePacks, Stand, groups_of, pack_in, copy_at}
-use Rattle.site_packs.specs.Committing.{MayBeLeft, copy_made, room}
-use Rattle.site_packs.specs.Marking.{Fills, FillsAt}
+use Rattle.site_packs.specs.Packs.{PacksState, pack_group, ArePacks, AreFound, groups_of, pack_in, copy_at}
+use Rattle.site_packs.specs.Committing.{MayBeLeft, copy_made, room, store_calls}
+use Rattle.site_packs.specs.Marking.{Fills, FillsAt, blocks_at}
 use Rattle.site_packs.proofs.Reports.{found_pack}
-use Rattle.site_packs.proofs.Stored.{on_commit, cut_left, none_after, replaced, left, room_is, had_copy, calls_same, after_packs, on_ok_map, only_disk, kept_packs, stand_packs}
+use Rattle.site_packs.proofs.Stored.{on_commit, cut_left, none_after, replaced, left, room_is, had_copy, calls_same, after_packs, on_ok_map, only_of_store, kept_packs, stand_packs}
 use Rattle.inode_pack.specs.Cutting.{IsCutCommit}
 use Rattle.site_packs.specs.Cutting.{IsCut}
 use Rattle.site_packs.proofs.packs.SitePacks.store.Goals as goal
@@ -126,8 +126,8 @@ returns-clause-places g c =
       groups = ap (λ (l : List PackState). map pack_group (slice_set l at c.commit.new.self)) items ∙ after;
     }
 
-pub returns-clause-stands : goal.returns-clause-stands
-returns-clause-stands g c =
+pub returns-clause-found : goal.returns-clause-found
+returns-clause-found g c =
     let M = g.D.Disk.moment in
     let p = c.args.self.now in
     let old = (M c.args.disk.now).seen in
@@ -141,8 +141,8 @@ returns-clause-stands g c =
     let is : pack_in file.group p.packs ≡ Some pack = sym c.requires.place ∙ place in
     let new = (M c.commit.new.disk).seen in
     let torn = (c.commit.ensures.any_moment.each new (g.met.D.Disk.counts_now c.commit.new.disk (M c.args.disk.now).now new c.commit.ensures.any_moment.later (g.met.D.Disk.reads_an_image c.commit.new.disk))).outside in
-    subst (λ (l : List PackState). OnOk c.commit.result (Stand (record { site = c.self.inside.site; packs = slice_set l at c.commit.new.self }) (M c.commit.new.disk))) (sym items)
-    (stand_packs p c.self.inside.site at pack c.commit.new.self c.args.ino c.args.version (marked c.args.content.now c.args.marks.now) old (M c.commit.new.disk) c.commit.result are place c.requires.stands.shown torn c.commit.ensures.good c.commit.ensures.copies c.commit.ensures.stands)
+    subst (λ (l : List PackState). OnOk c.commit.result (AreFound (slice_set l at c.commit.new.self) (M c.commit.new.disk))) (sym items)
+    (stand_packs p at pack c.commit.new.self c.args.ino c.args.version (marked c.args.content.now c.args.marks.now) old (M c.commit.new.disk) c.commit.result are place c.requires.stands.shown torn c.commit.ensures.good c.commit.ensures.copies c.commit.ensures.stands)
 
 pub returns-clause-kept : goal.returns-clause-kept
 returns-clause-kept g c =
@@ -157,7 +157,7 @@ returns-clause-kept g c =
     let inside : at < length c.self.inside.packs.items = subst (λ (l : List PackState). at < length l) (sym items) c.requires.inside in
     let place : slice_get p.packs at ≡ Some pack = subst (λ (l : List PackState). slice_get l at ≡ Some pack) items (slice_get_read c.self.inside.packs.items (length c.self.inside.packs.items) at pack refl inside c.index_mut.ensures.value) in
     let is : pack_in file.group p.packs ≡ Some pack = sym c.requires.place ∙ place in
-    kept_packs c.self.inside.site p c.self.inside.packs.items at pack c.commit.new.self c.commit.result (ap (λ (q : PacksState). q.site) c.self.view_is) items place c.commit.ensures.kept
+    kept_packs c.self.inside.site p c.self.inside.packs.items c.self.inside.live at pack c.commit.new.self c.commit.result (ap (λ (q : PacksState). q.site) c.self.view_is) items (ap (λ (q : PacksState). q.live) c.self.view_is) place c.commit.ensures.kept
 
 pub returns-clause-only : goal.returns-clause-only
 returns-clause-only g c =
@@ -173,7 +173,7 @@ returns-clause-only g c =
     let place : slice_get p.packs at ≡ Some pack = subst (λ (l : List PackState). slice_get l at ≡ Some pack) items (slice_get_read c.self.inside.packs.items (length c.self.inside.packs.items) at pack refl inside c.index_mut.ensures.value) in
     let is : pack_in file.group p.packs ≡ Some pack = sym c.requires.place ∙ place in
     let fills : Fills pack file.ino c.args.content.now c.args.marks.now old = subst (λ (n : ℕ). Fills pack n c.args.content.now c.args.marks.now old) c.requires.own (subst (λ (o : Option PackState). FillsAt o c.args.ino c.args.content.now c.args.marks.now old) is c.requires.fills) in
-    only_disk c.commit.result (needed (marked c.args.content.now c.args.marks.now)) (length (named_pages pack.copies)) (room p old file.group) c.requires.room (room_is p old at file pack c.args.version c.args.content.now c.args.marks.now are c.requires.stands.shown place is c.requires.whole.low c.requires.whole.high (omega arith) c.requires.whole.version fills) (λ pages free. (c.commit.ensures.no_space pages free).0)
+    only_of_store c.commit.result (needed (marked c.args.content.now c.args.marks.now)) (length (named_pages pack.copies)) (room p old file.group) c.requires.room (room_is p old at file pack c.args.version c.args.content.now c.args.marks.now are c.requires.stands.shown place is c.requires.whole.low c.requires.whole.high (omega arith) c.requires.whole.version fills) (λ pages free. (c.commit.ensures.no_space pages free).0)
 
 pub returns-clause-tells : goal.returns-clause-tells
 returns-clause-tells g c =
@@ -189,11 +189,14 @@ returns-clause-tells g c =
     let place : slice_get p.packs at ≡ Some pack = subst (λ (l : List PackState). slice_get l at ≡ Some pack) items (slice_get_read c.self.inside.packs.items (length c.self.inside.packs.items) at pack refl inside c.index_mut.ensures.value) in
     let is : pack_in file.group p.packs ≡ Some pack = sym c.requires.place ∙ place in
     let fills : Fills pack file.ino c.args.content.now c.args.marks.now old = subst (λ (n : ℕ). Fills pack n c.args.content.now c.args.marks.now old) c.requires.own (subst (λ (o : Option PackState). FillsAt o c.args.ino c.args.content.now c.args.marks.now old) is c.requires.fills) in
-    let pages = needed (marked c.args.content.now c.args.marks.now) in
+    let w = marked c.args.content.now c.args.marks.now in
+    let blocks = blocks_over (copy_of pack.copies c.args.ino) w in
+    let there : blocks ≡ blocks_at (pack_in file.group p.packs) c.args.ino w = sym (ap (λ (o : Option PackState). blocks_at o c.args.ino w) is) in
     let before = (M c.args.disk.now).passing in
     let after = (M c.commit.new.disk).passing in
-    subst (λ (n : ℕ). TellsMany n before after (commit_answer c.commit.result)) (calls_same pages (copy_of pack.copies file.ino) (copy_at p old file) c.commit.result (had_copy p old at file pack c.args.version c.args.content.now c.args.marks.now are c.requires.stands.shown place is c.requires.whole.low c.requires.whole.high (omega arith) c.requires.whole.version fills))
-    (subst (λ (n : ℕ). TellsMany (commit_calls pages (copy_of pack.copies n) c.commit.result) before after (commit_answer c.commit.result)) c.requires.own c.commit.ensures.tells)
+    subst (λ (n : ℕ). TellsMany (store_calls n (copy_at p old file) c.commit.result) before after (commit_answer c.commit.result)) there
+    (subst (λ (n : ℕ). TellsMany n before after (commit_answer c.commit.result)) (calls_same blocks (copy_of pack.copies file.ino) (copy_at p old file) c.commit.result (had_copy p old at file pack c.args.version c.args.content.now c.args.marks.now are c.requires.stands.shown place is c.requires.whole.low c.requires.whole.high (omega arith) c.requires.whole.version fills))
+    (subst (λ (n : ℕ). TellsMany (commit_calls blocks (copy_of pack.copies n) c.commit.result) before after (commit_answer c.commit.result)) c.requires.own c.commit.ensures.tells))
 
 pub returns-clause-none : goal.returns-clause-none
 returns-clause-none g c =
@@ -229,6 +232,10 @@ returns-clause-cut g c passed told =
     let w = marked c.args.content.now c.args.marks.now in
     let how = (M c.args.disk.now).how in
     let new = (M c.commit.new.disk).left in
-    on_commit c.commit.result (IsCutCommit pack file.ino (new_version pack.base file.ino c.args.version w old) (needed w) how passed old new) (IsCut p (copy_made file c.args.version c.args.content.now) (needed w) how passed old new)
-    (cut_left p old at file pack c.args.version c.args.content.now c.args.marks.now are c.requires.stands.shown place is c.requires.whole.low c.requires.whole.high (omega arith) c.requires.whole.version fills (needed w) how passed new)
-    (subst (λ (n : ℕ). OnErr (commit_answer c.commit.result) (IsCutCommit pack n (new_version pack.base n c.args.version w old) (needed w) how passed old new)) c.requires.own (c.commit.ensures.cut passed told))
+    let blocks = blocks_over (copy_of pack.copies c.args.ino) w in
+    let there : blocks ≡ blocks_at (pack_in file.group p.packs) c.args.ino w = sym (ap (λ (o : Option PackState). blocks_at o c.args.ino w) is) in
+    let made = copy_made file c.args.version c.args.content.now in
+    subst (λ (n : ℕ). OnErr (commit_answer c.commit.result) (IsCut p made n how passed old new)) there
+    (on_commit c.commit.result (IsCutCommit pack file.ino (new_version pack.base file.ino c.args.version w old) blocks how passed old new) (IsCut p made blocks how passed old new)
+    (cut_left p old at file pack c.args.version c.args.content.now c.args.marks.now are c.requires.stands.shown place is c.requires.whole.low c.requires.whole.high (omega arith) c.requires.whole.version fills blocks how passed new)
+    (subst (λ (n : ℕ). OnErr (commit_answer c.commit.result) (IsCutCommit pack n (new_version pack.base n c.args.version w old) blocks how passed old new)) c.requires.own (c.commit.ensures.cut passed told)))
