@@ -1,6 +1,6 @@
 ghost use Rattle.std.specs.Prelude.{◌≡◌, ◌-◌, ◌+◌, ◌≤◌, [], length, IfOk};
 ghost use Rattle.std.specs.List.{find};
-ghost use Rattle.locus_ids.specs.Sizes.{content_bytes_max, pack_pages};
+ghost use Rattle.locus_ids.specs.Sizes.{file_bytes_max, pack_pages};
 ghost use Rattle.tree_model.specs.Histories.{stamped_content};
 ghost use Rattle.tree_model.specs.Working.{are_several};
 ghost use Rattle.promises.specs.Past.{kept_in};
@@ -87,7 +87,7 @@ fn content_at(
     stamp: Option<Stamp>,
 ) -> Result<Bytes, NoMemory>
     ensures value { IfOk result (λ bytes. bytes ≡ stamped_content h.now file stamp) }
-    ensures short { IfOk result (λ bytes. length bytes ≤ content_bytes_max) }
+    ensures short { IfOk result (λ bytes. length bytes ≤ file_bytes_max) }
 {
     match stamp {
         Some(stamp) => Bytes::from_slice(alloc, h.content(file, stamp)),

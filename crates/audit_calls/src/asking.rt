@@ -82,6 +82,7 @@ fn in_group(is_packed: bool, want: Want) -> Want
     if is_packed {
         want
     } else {
+        drop(want);
         Want::Give {
             reply: Reply::No {
                 why: Refusal::NoStorage,

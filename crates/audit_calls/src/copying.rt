@@ -1,4 +1,4 @@
-ghost use Rattle.std.specs.Prelude.{◌≡◌, ◌≤◌, length, take, IfOk};
+ghost use Rattle.std.specs.Prelude.{◌≡◌, ◌≤◌, [], ◌++◌, length, take, IfOk, OnOk};
 
 use call_rules::Answer;
 use call_scripts::Script;
@@ -15,14 +15,29 @@ pub(crate) fn script_after(
 ) -> Result<Script, NoMemory>
     ensures { IfOk result (λ s. s ≡ record { words = words.now; begins = begins.now; answers = answers.now }) }
 {
-    let words = words.copy()?;
+    let mut script = script_of(alloc, words, begins)?;
+    answer_all(answers, &mut script)?;
+    Ok(script)
+}
+
+/// The script of a call that began so, before anything is answered.
+fn script_of(alloc: Global, words: &Call, begins: &Beginning) -> Result<Script, NoMemory>
+    ensures { IfOk result (λ s. s ≡ record { words = words.now; begins = begins.now; answers = [] }) }
+{
     let begins = copy_of_beginning(begins)?;
-    let mut script = Script::start(alloc, words, begins)?;
+    let words = words.copy()?;
+    Script::start(alloc, words, begins)
+}
+
+/// The script is given these answers, which are copied. It is the caller's, so that the loop drops none.
+fn answer_all(answers: &[Answer], script: &mut Script) -> Result<(), NoMemory>
+    ensures { OnOk result (script.new ≡ record script.old { answers = script.old.answers ++ answers.now }) }
+{
     for answer in answers {
         let answer = copy_of_answer(answer)?;
         script.answer(answer)?;
     }
-    Ok(script)
+    Ok(())
 }
 
 fn copy_of_beginning(begins: &Beginning) -> Result<Beginning, NoMemory>

@@ -23,13 +23,25 @@ pub struct Accepted {
 }
 
 /// An accepted call, as far as the records tell of it.
-#[derive(Drop)]
 pub struct CallRow {
     at: Accepted,
     script: Script,
     granted: Option<Descriptor>,
     alloc: Global,
     waits: bool,
+}
+
+// Taken apart in one place: where a call is dropped, the prover sees one call.
+impl Drop for CallRow {
+    fn drop(self) {
+        let CallRow {
+            at: _,
+            script: _,
+            granted: _,
+            alloc: _,
+            waits: _,
+        } = self;
+    }
 }
 
 impl Model for CallRow {

@@ -47,10 +47,26 @@ fn push_all(
     ensures uses { OnOk result (uses.new ≡ use_key row ∷ uses.old) }
     ensures waiting { OnOk result (waiting.new.items ≡ waiting.old.items ++ waiting_row (length rows.old.items) row ∷ []) }
 {
-    ids.push(call_key(row.id()))?;
-    uses.push(use_key(&row))?;
-    waiting.push(waiting_row(rows.len(), &row))?;
+    push_beside(ids, uses, waiting, rows.len(), &row)?;
     rows.push(row)?;
+    Ok(())
+}
+
+/// What stands beside the rows of a call that takes this place.
+fn push_beside(
+    ids: &mut Places,
+    uses: &mut Places,
+    waiting: &mut Vec<WaitingRow>,
+    place: usize,
+    row: &CallRow,
+) -> Result<(), NoMemory>
+    ensures ids { OnOk result (ids.new ≡ id_key row.now ∷ ids.old) }
+    ensures uses { OnOk result (uses.new ≡ use_key row.now ∷ uses.old) }
+    ensures waiting { OnOk result (waiting.new.items ≡ waiting.old.items ++ waiting_row place row.now ∷ []) }
+{
+    ids.push(call_key(row.id()))?;
+    uses.push(use_key(row))?;
+    waiting.push(waiting_row(place, row))?;
     Ok(())
 }
 

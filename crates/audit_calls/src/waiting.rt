@@ -9,7 +9,7 @@ use locus_ids::EpochId;
 use trace_book::Call;
 
 /// A call that waits, by the place of its row.
-#[derive(Clone, Copy, PartialEq, Eq)]
+#[derive(Clone, Copy)]
 pub(crate) struct WaitingRow {
     pub(crate) place: usize,
     pub(crate) site: u8,

@@ -8,7 +8,7 @@ ghost use Rattle.audit_past.specs.Writing.{IsWritten};
 
 use crate::{LastSeen, Told};
 use commit_graph::Version;
-use locus_ids::sizes::{CONTENT_BYTES, SITES};
+use locus_ids::sizes::{FILE_BYTES, SITES};
 use locus_ids::{Config, FileId, NoMemory, Stamp};
 
 impl Told {
@@ -30,7 +30,7 @@ impl Told {
         requires written { IsWritten self.old version.file version.site }
         ensures { OnOk result (self.new ≡ after config.now (rec.Commit version.file version.site version.stamp version.parents version.content) self.old) }
     {
-        if usize::from(version.site) > SITES || version.content.len() > CONTENT_BYTES {
+        if usize::from(version.site) > SITES || version.content.len() > FILE_BYTES {
             return Err(NoMemory);
         }
         let file = version.file;

@@ -1,4 +1,5 @@
 ghost use Rattle.std.specs.Prelude.{◌≡◌, ◌≤◌, ◌==◌, ◌+◌, ◌&&◌, cond, length, filter, None, IfOk};
+ghost use Rattle.call_rules.specs.declared.want.Want.TheVariants as want;
 ghost use Rattle.promises.specs.Past.{Epoch, acts, is_number};
 ghost use Rattle.promises.specs.Rows.{is_asked};
 ghost use Rattle.promises.specs.Tree.{free_pages};
@@ -29,12 +30,23 @@ pub struct ActTold {
 
 /// With what an operation is carried out: the call whose step it is, the mode of its instance, what the tree adds to its words, and
 /// the pages that are free.
-#[derive(Drop)]
 pub struct Acting {
     pub actor: CallId,
     pub mode: Mode,
     pub added: Added,
     pub free: u16,
+}
+
+// Taken apart in one place: where one is dropped, the prover sees one call.
+impl Drop for Acting {
+    fn drop(self) {
+        let Acting {
+            actor: _,
+            mode: _,
+            added: _,
+            free: _,
+        } = self;
+    }
 }
 
 /// With what the operation is carried out that an open instance executes next, as its call asks; none where it may not come next,
@@ -58,16 +70,12 @@ pub fn act_with(
     if !is_ready(t, x, at.n) {
         return Ok(None);
     }
-    let asked = Want::Do {
-        inst: at.instance,
-        op: op.copy()?,
-    };
     let step = OperationAt {
         epoch: t.id(),
         instance: x,
         n: at.n,
     };
-    let Some(actor) = asked_by(config, told, step, &asked)? else {
+    let Some(actor) = asked_for(config, told, step, at.instance, op)? else {
         return Ok(None);
     };
     let added = added_to(config, told, t, x, op)?;
@@ -84,6 +92,25 @@ fn is_ready(t: &EpochRow, x: &InstanceRow, n: u32) -> bool
     ensures { result ≡ ((n == x.now.work.ops + 1) && is_number t.now.joined x.now.grant.ss) }
 {
     is_next(x, n) && is_number(t.joined(), x.grant().ss)
+}
+
+/// The call that asks for this operation of the instance next, of those whose step it is.
+fn asked_for(
+    config: &Config,
+    told: &Told,
+    at: OperationAt<'_>,
+    instance: Serial,
+    op: &Op,
+) -> Result<Option<CallId>, NoMemory>
+    requires each { OneEach told.now }
+    requires one { length (filter (acts at.epoch at.instance.now at.n) told.now.calls) ≤ 1 }
+    ensures { (t : Epoch) → t.id ≡ at.entry.epoch → IfOk result (λ id. id ≡ cond (is_asked config.now told.now t (acts t.id at.entry.instance.now at.entry.n) (want.Do instance op.now)) (actor_of told.now t.id at.entry.instance.now at.entry.n) None) }
+{
+    let asked = Want::Do {
+        inst: instance,
+        op: op.copy()?,
+    };
+    asked_by(config, told, at, &asked)
 }
 
 /// The call that asks this next, of those whose step the operation is.

@@ -63,7 +63,7 @@ so_far_next h g n m line a b c s e few short reads hears =
       read = Between-line a b c s.bytes line s.read reads;
     }
 
-pub few_records : (h : Hearing) (n : ℕ) (a b : Option (List ℕ)) → SoFar h n a b → h.records ≤ n
+pub few_records : (h : Hearing) (n : ℕ) (a b : Option (List ℕ)) → SoFar h n a b → h.tally.records ≤ n
 few_records h n a b s = omega (arith, s.hears.counted, records_few s.lines, reads_length nothing_read s.bytes s.lines s.hears.reader s.hears.reads, s.counted)
 
 -- all lines were read
@@ -272,5 +272,5 @@ pub rose_since : (a b c : ℕ) → a ≤ b → Rose b c → Rose a c
 rose_since a b c p h = omega (arith, p, h)
 
 -- there is room for a record more
-pub few_before : (h : Hearing) (n m : ℕ) (a b : Option (List ℕ)) → SoFar h n a b → m ≡ n + 1 → m ≤ 1000000 → h.records < 1000000
+pub few_before : (h : Hearing) (n m : ℕ) (a b : Option (List ℕ)) → SoFar h n a b → m ≡ n + 1 → m ≤ 1000000 → h.tally.records < 1000000
 few_before h n m a b s e few = omega (arith, few_records h n a b s, e, few)

@@ -6,6 +6,7 @@ use Rattle.std.proofs.lemmas.Bool.{false≢true}
 use Rattle.locus_ids.specs.declared.config.Config.{Config}
 use Rattle.trace_book.specs.declared.record.Record.{Record}
 use Rattle.record_reading.specs.Reading.{IsLine, IsLineRead}
+use Rattle.audit_tally.specs.declared.tally.Tally.{Tally}
 use Rattle.audit_input.specs.Input.{ReadsAll, Takes, nothing_read}
 use Rattle.audit_input.specs.declared.audit_reader.AuditLine.{AuditLine}
 use Rattle.audit_input.specs.declared.audit_reader.AuditLine.TheVariants as line
@@ -97,40 +98,40 @@ quiet c k n (line.Record m r ∷ lines) e none = absurd (omega (arith, none))
 
 -- Before the trace.
 
-pub hears_none : (h : Hearing) → h ≡ record { input = nothing_read; audit = None; records = 0; broken = None } → Hears [] [] h
+pub hears_none : (h : Hearing) → h ≡ record { input = nothing_read; audit = None; tally = record { records = 0; broken = None } } → Hears [] [] h
 hears_none h e = subst (Hears [] []) (sym e) (record { reader = nothing_read; reads = refl; counted = refl; stage = (refl, refl, refl, refl) })
 
 abbrev Before : Hearing → AuditReader → Type 0
-Before h reader = (h.input ≡ reader) × (reader.traced ≡ false) × (h.records ≡ 0) × (h.broken ≡ None)
+Before h reader = (h.input ≡ reader) × (reader.traced ≡ false) × (h.tally.records ≡ 0) × (h.tally.broken ≡ None)
 
 -- what stays as it was, by a line that is no record and doesn't begin the trace
-stays_before : (all : List (List ℕ)) (lines : List AuditLine) (bytes : List ℕ) (h g : Hearing) (reader next : AuditReader) (l : AuditLine) → ReadsAll nothing_read all lines reader → h.records ≡ length (filter is_record lines) → Before h reader → h.audit ≡ None →
-    Takes reader bytes l next → is_record l ≡ false → next.traced ≡ false → g.audit ≡ h.audit → g.input ≡ next → g.records ≡ h.records → g.broken ≡ h.broken → Hears (all ++ bytes ∷ []) (lines ++ l ∷ []) g
-stays_before all lines bytes h g reader next l reads counted before none takes quietly traced audit input records broken = record {
+stays_before : (all : List (List ℕ)) (lines : List AuditLine) (bytes : List ℕ) (h g : Hearing) (reader next : AuditReader) (l : AuditLine) → ReadsAll nothing_read all lines reader → h.tally.records ≡ length (filter is_record lines) → Before h reader → h.audit ≡ None →
+    Takes reader bytes l next → is_record l ≡ false → next.traced ≡ false → g.audit ≡ h.audit → g.input ≡ next → g.tally ≡ h.tally → Hears (all ++ bytes ∷ []) (lines ++ l ∷ []) g
+stays_before all lines bytes h g reader next l reads counted before none takes quietly traced audit input tally = record {
   reader = next;
   reads = reads_push nothing_read all lines reader bytes l next reads takes;
-  counted = records ∙ (counted ∙ sym (none_push lines l quietly));
-  stage = subst (IsStage g next (lines ++ l ∷ [])) (sym (audit ∙ none)) (input, traced, records ∙ before.2, broken ∙ before.3);
+  counted = ap (λ (t : Tally). t.records) tally ∙ (counted ∙ sym (none_push lines l quietly));
+  stage = subst (IsStage g next (lines ++ l ∷ [])) (sym (audit ∙ none)) (input, traced, ap (λ (t : Tally). t.records) tally ∙ before.2, ap (λ (t : Tally). t.broken) tally ∙ before.3);
 }
 
 -- the trace begins
-begins : (all : List (List ℕ)) (lines : List AuditLine) (bytes : List ℕ) (h g : Hearing) (reader next : AuditReader) → ReadsAll nothing_read all lines reader → h.records ≡ length (filter is_record lines) → Before h reader →
-    Takes reader bytes line.Trace next → g.audit ≡ Some (audit_of next) → g.records ≡ h.records → g.broken ≡ h.broken → Hears (all ++ bytes ∷ []) (lines ++ line.Trace ∷ []) g
-begins all lines bytes h g reader next reads counted before takes audit records broken =
+begins : (all : List (List ℕ)) (lines : List AuditLine) (bytes : List ℕ) (h g : Hearing) (reader next : AuditReader) → ReadsAll nothing_read all lines reader → h.tally.records ≡ length (filter is_record lines) → Before h reader →
+    Takes reader bytes line.Trace next → g.audit ≡ Some (audit_of next) → g.tally ≡ h.tally → Hears (all ++ bytes ∷ []) (lines ++ line.Trace ∷ []) g
+begins all lines bytes h g reader next reads counted before takes audit tally =
     let still = none_push lines line.Trace refl in
     let q = quiet next.header.config (nothing_audited next.header.config) 1 (lines ++ line.Trace ∷ []) refl (still ∙ (sym counted ∙ before.2)) in
     record {
       reader = next;
       reads = reads_push nothing_read all lines reader bytes line.Trace next reads takes;
-      counted = records ∙ (counted ∙ sym still);
-      stage = subst (IsStage g next (lines ++ line.Trace ∷ [])) (sym audit) (refl, ap (λ (r : AuditReader). r.traced) takes.3, (λ _. sym q.knows), broken ∙ (before.3 ∙ sym q.found));
+      counted = ap (λ (t : Tally). t.records) tally ∙ (counted ∙ sym still);
+      stage = subst (IsStage g next (lines ++ line.Trace ∷ [])) (sym audit) (refl, ap (λ (r : AuditReader). r.traced) takes.3, (λ _. sym q.knows), ap (λ (t : Tally). t.broken) tally ∙ (before.3 ∙ sym q.found));
     }
 
-goes_before : (all : List (List ℕ)) (lines : List AuditLine) (bytes : List ℕ) (h g : Hearing) (reader next : AuditReader) (told : AuditLine) → ReadsAll nothing_read all lines reader → h.records ≡ length (filter is_record lines) → Before h reader → h.audit ≡ None →
+goes_before : (all : List (List ℕ)) (lines : List AuditLine) (bytes : List ℕ) (h g : Hearing) (reader next : AuditReader) (told : AuditLine) → ReadsAll nothing_read all lines reader → h.tally.records ≡ length (filter is_record lines) → Before h reader → h.audit ≡ None →
     Takes reader bytes told next → GoesOn told next h g → Hears (all ++ bytes ∷ []) (lines ++ told ∷ []) g
-goes_before all lines bytes h g reader next line.Passed reads counted before none takes goes = stays_before all lines bytes h g reader next line.Passed reads counted before none takes refl (ap (λ (r : AuditReader). r.traced) takes.2 ∙ before.1) goes.0 goes.1 goes.2 goes.3
-goes_before all lines bytes h g reader next line.Header reads counted before none takes goes = stays_before all lines bytes h g reader next line.Header reads counted before none takes refl (ap (λ (r : AuditReader). r.traced) takes.1.2) goes.0 goes.1 goes.2 goes.3
-goes_before all lines bytes h g reader next line.Trace reads counted before none takes goes = begins all lines bytes h g reader next reads counted before takes goes.0 goes.1 goes.2
+goes_before all lines bytes h g reader next line.Passed reads counted before none takes goes = stays_before all lines bytes h g reader next line.Passed reads counted before none takes refl (ap (λ (r : AuditReader). r.traced) takes.2 ∙ before.1) goes.0 goes.1 goes.2
+goes_before all lines bytes h g reader next line.Header reads counted before none takes goes = stays_before all lines bytes h g reader next line.Header reads counted before none takes refl (ap (λ (r : AuditReader). r.traced) takes.1.2) goes.0 goes.1 goes.2
+goes_before all lines bytes h g reader next line.Trace reads counted before none takes goes = begins all lines bytes h g reader next reads counted before takes goes.0 goes.1
 goes_before all lines bytes h g reader next (line.Record n r) reads counted before none takes goes = absurd (false≢true (sym before.1 ∙ takes.0))
 
 before_of : (all : List (List ℕ)) (lines : List AuditLine) (h : Hearing) → (k : Hears all lines h) → h.audit ≡ None → Before h k.reader
@@ -153,7 +154,7 @@ refuses_before all lines bytes h k none bad = record {
 abbrev Begun : Hearing → AuditReader → List AuditLine → Auditing → Type 0
 Begun h reader lines a = IsStage h reader lines (Some a)
 
-judged_on : (lines : List AuditLine) (number n : ℕ) (r : Record) (h g : Hearing) (reader : AuditReader) (a : Auditing) (o : Option ℕ) → number ≡ 1 + length lines → h.broken ≡ o → Begun h reader lines a → JudgesIn number n r a o g → IsStage g reader (lines ++ line.Record n r ∷ []) g.audit
+judged_on : (lines : List AuditLine) (number n : ℕ) (r : Record) (h g : Hearing) (reader : AuditReader) (a : Auditing) (o : Option ℕ) → number ≡ 1 + length lines → h.tally.broken ≡ o → Begun h reader lines a → JudgesIn number n r a o g → IsStage g reader (lines ++ line.Record n r ∷ []) g.audit
 judged_on lines number n r h g reader a (Some first) placed e stage judged =
     let c : Config = reader.header.config in
     let found : first_broken c (nothing_audited c) 1 lines ≡ Some first = sym stage.3 ∙ e in
@@ -188,7 +189,7 @@ next_record all lines bytes number n r h g a k some placed is judges =
         reader = k.reader;
         reads = reads_push nothing_read all lines k.reader bytes (line.Record n r) k.reader k.reads (stage.1, is, refl);
         counted = omega (arith, judges.counted, k.counted, record_push lines n r);
-        stage = judged_on lines number n r h g k.reader a h.broken place refl stage (judges.judged a some);
+        stage = judged_on lines number n r h g k.reader a h.tally.broken place refl stage (judges.judged a some);
       },
     )
 
@@ -205,13 +206,13 @@ refuses_record all lines bytes h a k some bad =
 
 -- The answer.
 
-pub answered : (all : List (List ℕ)) (lines : List AuditLine) (h : Hearing) (a : Auditing) → Hears all lines h → h.audit ≡ Some a → IsAnswered all (answer_by h.records h.broken)
+pub answered : (all : List (List ℕ)) (lines : List AuditLine) (h : Hearing) (a : Auditing) → Hears all lines h → h.audit ≡ Some a → IsAnswered all (answer_by h.tally.records h.tally.broken)
 answered all lines h a k some =
     let stage : Begun h k.reader lines a = subst (IsStage h k.reader lines) some k.stage in
     record {
       lines = lines;
       input = record { after = k.reader; reads = k.reads; traced = stage.1 };
-      is = ap (λ (n : ℕ). answer_by n h.broken) k.counted ∙ ap (answer_by (length (filter is_record lines))) stage.3;
+      is = ap (λ (n : ℕ). answer_by n h.tally.broken) k.counted ∙ ap (answer_by (length (filter is_record lines))) stage.3;
     }
 
 pub unanswered : (all : List (List ℕ)) (lines : List AuditLine) (h : Hearing) → Hears all lines h → h.audit ≡ None → MissesTrace all lines

@@ -18,18 +18,18 @@ heard_all c lines = fold (heard c) (nothing_audited c) lines
 -- Before the trace the reader is what the lines make, and there is no record. From then on the cluster is the one of the header, what the
 -- records tell is known until one isn't consistent, and the first such is.
 abbrev pub IsStage : Hearing → AuditReader → List AuditLine → Option Auditing → Type 0
-IsStage h reader lines None = (h.input ≡ reader) × (reader.traced ≡ false) × (h.records ≡ 0) × (h.broken ≡ None)
+IsStage h reader lines None = (h.input ≡ reader) × (reader.traced ≡ false) × (h.tally.records ≡ 0) × (h.tally.broken ≡ None)
 IsStage h reader lines (Some a) =
     (a.config ≡ reader.header.config)
     × (reader.traced ≡ true)
-    × (h.broken ≡ None → a.state ≡ heard_all reader.header.config lines)
-    × (h.broken ≡ first_broken reader.header.config (nothing_audited reader.header.config) 1 lines)
+    × (h.tally.broken ≡ None → a.state ≡ heard_all reader.header.config lines)
+    × (h.tally.broken ≡ first_broken reader.header.config (nothing_audited reader.header.config) 1 lines)
 
 -- these lines of bytes were heard, as these lines
 pub record Hears (all : List (List ℕ)) (lines : List AuditLine) (h : Hearing) : Type 0 where
   pub reader : AuditReader
   pub reads : ReadsAll nothing_read all lines reader
-  pub counted : h.records ≡ length (filter is_record lines)
+  pub counted : h.tally.records ≡ length (filter is_record lines)
   pub stage : IsStage h reader lines h.audit
 
 -- the bytes are no line that may stand after these
@@ -50,8 +50,8 @@ audit_of r = record { config = r.header.config; state = nothing_audited r.header
 
 -- by a line before the trace the reader goes on, and where it is the line `trace`, the audit begins
 abbrev pub GoesOn : AuditLine → AuditReader → Hearing → Hearing → Type 0
-GoesOn line.Trace next old new = (new.audit ≡ Some (audit_of next)) × (new.records ≡ old.records) × (new.broken ≡ old.broken)
-GoesOn _ next old new = (new.audit ≡ old.audit) × (new.input ≡ next) × (new.records ≡ old.records) × (new.broken ≡ old.broken)
+GoesOn line.Trace next old new = (new.audit ≡ Some (audit_of next)) × (new.tally ≡ old.tally)
+GoesOn _ next old new = (new.audit ≡ old.audit) × (new.input ≡ next) × (new.tally ≡ old.tally)
 
 pub record TakesBefore (old : Hearing) (bytes : List ℕ) (new : Hearing) : Type 0 where
   pub told : AuditLine
@@ -65,9 +65,9 @@ broken_at number known = cond (is_broken known) (Some number) None
 
 -- a record is judged in this audit, unless one before it isn't consistent
 abbrev pub JudgesIn : ℕ → ℕ → Record → Auditing → Option ℕ → Hearing → Type 0
-JudgesIn number n r a (Some first) new = (new.audit ≡ Some a) × (new.broken ≡ Some first)
-JudgesIn number n r a None new = (new.audit ≡ Some (record { config = a.config; state = audited a.config a.state n r })) × (new.broken ≡ broken_at number (audited a.config a.state n r))
+JudgesIn number n r a (Some first) new = (new.audit ≡ Some a) × (new.tally.broken ≡ Some first)
+JudgesIn number n r a None new = (new.audit ≡ Some (record { config = a.config; state = audited a.config a.state n r })) × (new.tally.broken ≡ broken_at number (audited a.config a.state n r))
 
 pub record Judges (number n : ℕ) (r : Record) (old new : Hearing) : Type 0 where
-  pub counted : new.records ≡ old.records + 1
-  pub judged : (a : Auditing) → old.audit ≡ Some a → JudgesIn number n r a old.broken new
+  pub counted : new.tally.records ≡ old.tally.records + 1
+  pub judged : (a : Auditing) → old.audit ≡ Some a → JudgesIn number n r a old.tally.broken new

@@ -8,6 +8,7 @@ ghost use Rattle.audit_run.specs.Hearings.{Hears, Judges, MissesTrace, Refuses, 
 use crate::fault::AuditFault;
 use audit_answers::Answer;
 use audit_input::{AuditLine, AuditReader};
+use audit_tally::Tally;
 use locus_ids::NoMemory;
 use record_reading::{RecordFault, parse_record};
 use schedule_lines::Header;
@@ -17,16 +18,24 @@ use trace_audit::{Audit, Verdict};
 use trace_book::Record;
 
 /// What is known of the lines of an input so far.
-#[derive(Drop)]
 pub struct Hearing {
     /// The header, until the trace begins.
     pub input: AuditReader,
     /// What the records tell, from then on.
     pub audit: Option<Audit>,
-    /// How many records there were.
-    pub records: u32,
-    /// The first line whose record isn't consistent.
-    pub broken: Option<u32>,
+    /// How many records there were, and the first line whose record isn't consistent.
+    pub tally: Tally,
+}
+
+// Taken apart in one place: where a hearing is dropped, the prover sees one call.
+impl Drop for Hearing {
+    fn drop(self) {
+        let Hearing {
+            input: _,
+            audit: _,
+            tally: _,
+        } = self;
+    }
 }
 
 impl Hearing {
@@ -37,14 +46,13 @@ impl Hearing {
         Hearing {
             input: AuditReader::new(alloc),
             audit: None,
-            records: 0,
-            broken: None,
+            tally: Tally::new(),
         }
     }
 
     /// The next line, with its number from 1.
     pub fn take(&mut self, alloc: Global, number: u32, bytes: &[u8]) -> Result<(), RecordFault>
-        requires few { self.old.records < 1000000 }
+        requires few { self.old.tally.records < 1000000 }
         ensures heard { (all : List (List ℕ)) (lines : List AuditLine) → Hears all lines self.old → number ≡ length all + 1 → OnOk result ((l : AuditLine) × Hears (all ++ bytes.now ∷ []) (lines ++ l ∷ []) self.new) }
         ensures bad { (all : List (List ℕ)) (lines : List AuditLine) → Hears all lines self.old → result ≡ Err RecordFault.Bad → Refuses all lines bytes.now }
     {
@@ -61,20 +69,22 @@ impl Hearing {
         ensures ok { OnOk result (TakesBefore self.old bytes.now self.new) }
         ensures bad { result ≡ Err RecordFault.Bad → (told : AuditLine) (next : AuditReader) → Takes self.old.input bytes.now told next → ⊥ }
     {
-        match self.input.read(alloc, bytes)? {
-            AuditLine::Trace => self.begin(alloc)?,
-            AuditLine::Passed => {}
-            AuditLine::Header => {}
-            AuditLine::Record { line: _, what: _ } => {}
-        }
+        let told = self.input.read(alloc, bytes)?;
+        let begun = match &told {
+            AuditLine::Trace => self.begin(alloc),
+            AuditLine::Passed => Ok(()),
+            AuditLine::Header => Ok(()),
+            AuditLine::Record { line: _, what: _ } => Ok(()),
+        };
+        drop(told);
+        begun?;
         Ok(())
     }
 
     /// The trace begins, in the cluster of the header.
     fn begin(&mut self, alloc: Global) -> Result<(), NoMemory>
         ensures audit { OnOk result (self.new.audit ≡ Some (audit_of self.old.input)) }
-        ensures records { OnOk result (self.new.records ≡ self.old.records) }
-        ensures broken { OnOk result (self.new.broken ≡ self.old.broken) }
+        ensures tally { OnOk result (self.new.tally ≡ self.old.tally) }
     {
         let header = replace(&mut self.input.header, Header::new(alloc));
         self.audit = Some(Audit::new(alloc, header.config)?);
@@ -83,19 +93,20 @@ impl Hearing {
 
     /// A record. After the first that isn't consistent they are counted alone.
     fn judge(&mut self, number: u32, line: u32, what: Record) -> Result<(), NoMemory>
-        requires { self.old.records < 1000000 }
+        requires { self.old.tally.records < 1000000 }
         ensures { OnOk result (Judges number line what self.old self.new) }
     {
-        self.records += 1;
-        if self.broken.is_some() {
+        if !self.tally.count() {
+            drop(what);
             return Ok(());
         }
         let Some(audit) = &mut self.audit else {
+            drop(what);
             return Ok(());
         };
         match audit.take(line, what)? {
-            Verdict::Good => {}
-            Verdict::Broken => self.broken = Some(number),
+            Verdict::Good => self.tally.judged(number, true),
+            Verdict::Broken => self.tally.judged(number, false),
         }
         Ok(())
     }
@@ -108,10 +119,10 @@ impl Hearing {
         if self.audit.is_none() {
             return Err(AuditFault::BadLine { line: next });
         }
-        match self.broken {
+        match self.tally.broken {
             Some(line) => Ok(Answer::No { line }),
             None => Ok(Answer::Yes {
-                records: self.records,
+                records: self.tally.records,
             }),
         }
     }

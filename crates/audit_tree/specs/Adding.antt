@@ -1,7 +1,7 @@
 -- What the tree adds to the words of an operation, and what the operation gives and leaves with that.
 use Rattle.std.specs.Prelude.{ℕ, ◌≤◌, List, length, Option, None, Some}
 use Rattle.std.specs.List.{find}
-use Rattle.locus_ids.specs.Sizes.{content_bytes_max}
+use Rattle.locus_ids.specs.Sizes.{file_bytes_max}
 use Rattle.locus_ids.specs.declared.ids.Mode.{Mode}
 use Rattle.locus_ids.specs.declared.ids.Stamp.{Stamp}
 use Rattle.commit_graph.specs.Vectors.{vector_of}
@@ -22,7 +22,7 @@ use Rattle.audit_tree.specs.declared.acting.Added.TheVariants.{Nothing, Unseen, 
 
 -- a content that an abort goes back to is no longer than a content may be
 abbrev pub IsShort : Added → Type 0
-IsShort (Content bytes) = length bytes ≤ content_bytes_max
+IsShort (Content bytes) = length bytes ≤ file_bytes_max
 IsShort _ = Unit {0}
 
 -- what a commit gives and leaves, and what an abort, a mend and a removal do

@@ -1,5 +1,5 @@
 ghost use Rattle.std.specs.Prelude.{◌≡◌, ◌≤◌, [], length, OnOk};
-ghost use Rattle.locus_ids.specs.Sizes.{content_bytes_max};
+ghost use Rattle.locus_ids.specs.Sizes.{file_bytes_max};
 ghost use Rattle.dir_format.specs.Contents.{entries_of};
 
 use dir_format::Dir;
@@ -44,7 +44,7 @@ impl LastDir {
 
     /// Reads the directory of this content, where it isn't the last one.
     pub(crate) fn read(&mut self, content: &[u8]) -> Result<(), NoMemory>
-        requires { length content.now ≤ content_bytes_max }
+        requires { length content.now ≤ file_bytes_max }
         ensures { OnOk result (self.new ≡ content.now) }
     {
         if self.content.as_slice() == content {

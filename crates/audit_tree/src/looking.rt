@@ -1,5 +1,5 @@
 ghost use Rattle.std.specs.Prelude.{◌≡◌, ◌≤◌, length, IfOk};
-ghost use Rattle.locus_ids.specs.Sizes.{content_bytes_max};
+ghost use Rattle.locus_ids.specs.Sizes.{file_bytes_max};
 ghost use Rattle.dir_format.specs.Lookups.{lookup};
 ghost use Rattle.lawful_trace.specs.Progress.{entered, found_in};
 
@@ -20,7 +20,7 @@ impl LastDir {
         what: &What,
         content: &[u8],
     ) -> Result<Answer, NoMemory>
-        requires { length content.now ≤ content_bytes_max }
+        requires { length content.now ≤ file_bytes_max }
         ensures { IfOk result (λ answer. answer ≡ found_in kind stamp what.now content.now) }
     {
         match what {

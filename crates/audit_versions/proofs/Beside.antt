@@ -8,7 +8,7 @@ use Rattle.std.proofs.lemmas.Option.{get_or_from_slice_get}
 use Rattle.plain_facts.proofs.Options.{none_some, some_same}
 use Rattle.plain_facts.proofs.Tests.{false_unless}
 use Rattle.plain_facts.proofs.Numbers.{equal}
-use Rattle.locus_ids.specs.Sizes.{sites_max, content_bytes_max}
+use Rattle.locus_ids.specs.Sizes.{sites_max, file_bytes_max}
 use Rattle.locus_ids.specs.declared.ids.FileId.{FileId}
 use Rattle.locus_ids.specs.declared.ids.Stamp.{Stamp}
 use Rattle.commit_graph.specs.declared.history.Version.{Version}
@@ -34,11 +34,11 @@ file_placed h self files key file o view named is placed =
     placed ∙ (ap (λ k. place_of k files) is ∙ ap (place_of (file_key file)) (named ∙ ap (map file_of) view))
 
 -- a found version has a content that isn't too long
-pub short_found : (p : Version → Bool) (h : List Version) (v : Version) → AllShort h → find p h ≡ Some v → length v.content ≤ content_bytes_max
+pub short_found : (p : Version → Bool) (h : List Version) (v : Version) → AllShort h → find p h ≡ Some v → length v.content ≤ file_bytes_max
 short_found p [] v k e = absurd (none_some v e)
 short_found p (u ∷ older) v k e = at (p u) (short_found p older v k.1) e where
-  at : (b : Bool) → (find p older ≡ Some v → length v.content ≤ content_bytes_max) → cond b (Some u) (find p older) ≡ Some v → length v.content ≤ content_bytes_max
-  at true before f = subst (λ (w : Version). length w.content ≤ content_bytes_max) (some_same u v f) k.0
+  at : (b : Bool) → (find p older ≡ Some v → length v.content ≤ file_bytes_max) → cond b (Some u) (find p older) ≡ Some v → length v.content ≤ file_bytes_max
+  at true before f = subst (λ (w : Version). length w.content ≤ file_bytes_max) (some_same u v f) k.0
   at false before f = before f
 
 -- as many counters as versions
@@ -110,7 +110,7 @@ counts_more f parts place n h so is =
 -- the tables of a history with one version more
 pub agree_more : (h self grown : List Version) (counts counts_grown : List (List ℕ)) (names names_grown files files_grown : List Key) (regular stays : Bool) (v : Version) (row : List ℕ)
     → Agree h counts names files regular → h ≡ self → grown ≡ v ∷ h → counts_grown ≡ counts ++ row ∷ [] → names_grown ≡ name_of v ∷ names → files_grown ≡ file_of v ∷ files
-    → row ≡ counts_on self v → stays ≡ is_regular (v ∷ self) → length h < 4294967294 → v.site ≤ sites_max → length v.content ≤ content_bytes_max
+    → row ≡ counts_on self v → stays ≡ is_regular (v ∷ self) → length h < 4294967294 → v.site ≤ sites_max → length v.content ≤ file_bytes_max
     → Agree grown counts_grown names_grown files_grown stays
 agree_more h self grown counts counts_grown names names_grown files files_grown regular stays v row k view is_h is_counts is_names is_files is_row told few sited short =
     let own : counts_on self v ≡ counts_on h v = ap (λ hs. counts_on hs v) (sym view) in
@@ -138,6 +138,6 @@ agree_none h counts names files is_h is_counts is_names is_files = record {
 }
 
 -- what is found is short
-pub short_behind : (p : Version → Bool) (h self : List Version) (o : Option (Bor Version)) → h ≡ self → AllShort h → option_copied o ≡ find p self → IfSome o (λ v. length v.now.content ≤ content_bytes_max)
+pub short_behind : (p : Version → Bool) (h self : List Version) (o : Option (Bor Version)) → h ≡ self → AllShort h → option_copied o ≡ find p self → IfSome o (λ v. length v.now.content ≤ file_bytes_max)
 short_behind p h self None view k e = tt
 short_behind p h self (Some v) view k e = short_found p h v.now k (ap (find p) view ∙ sym e)

@@ -1,7 +1,7 @@
 -- Regular histories, in which written vectors tell ancestors. A history is a list of versions, the newest first.
 use Rattle.std.specs.Prelude.{◌==◌, ◌≤◌, Bool, true, false, not, ◌&&◌, ◌||◌, cond, nat_le, List, [], ◌∷◌, length}
 use Rattle.std.specs.List.{list_all, list_any}
-use Rattle.locus_ids.specs.Sizes.{sites_max, content_bytes_max}
+use Rattle.locus_ids.specs.Sizes.{sites_max, file_bytes_max}
 use Rattle.locus_ids.specs.declared.ids.FileId.{FileId}
 use Rattle.commit_graph.specs.declared.history.Version.{Version}
 use Rattle.commit_graph.specs.Versions.{same_file, is_in}
@@ -52,4 +52,4 @@ AllSited (v ∷ older) = (v.site ≤ sites_max) × AllSited older
 -- no content is longer than a content may be
 abbrev pub AllShort : List Version → Type 0
 AllShort [] = Unit {0}
-AllShort (v ∷ older) = (length v.content ≤ content_bytes_max) × AllShort older
+AllShort (v ∷ older) = (length v.content ≤ file_bytes_max) × AllShort older

@@ -1,9 +1,10 @@
 -- At each moment of a run each event that may come finds what it needs.
-use Rattle.std.proofs.Common.{◌≡◌, ◌≢◌, ◌≤◌, ◌<◌, ℕ, zero, suc, ◌==◌, nat_lt, Bool, true, false, cond, ◌||◌, List, [], ◌∷◌, filter, length, Option, None, Some, refl, sym, ◌∙◌, ap, subst, arith}
+use Rattle.std.proofs.Common.{◌≡◌, ◌≢◌, ◌≤◌, ◌<◌, ℕ, zero, suc, ◌==◌, nat_lt, Bool, true, false, cond, List, [], ◌∷◌, filter, length, Option, None, Some, refl, sym, ◌∙◌, ap, subst, arith}
 use Rattle.std.specs.List.{AllByRecursion, list_any}
 use Rattle.role_steps.proofs.of_plain_facts.Numbers.{equal}
 use Rattle.role_steps.proofs.of_plain_facts.Tests.{and_first, false_true, or_first, or_other, or_second}
 use Rattle.locus_ids.specs.Sites.{has}
+use Rattle.locus_ids.specs.Sizes.{file_bytes_max}
 use Rattle.locus_ids.specs.declared.config.Config.{Config}
 use Rattle.locus_ids.specs.declared.ids.Serial.{Serial}
 use Rattle.locus_ids.specs.declared.sites.Links.{Links}
@@ -20,13 +21,15 @@ use Rattle.role_steps.specs.Views.{Event, Calls, Receives, Ticks, Parts, Merges,
 use Rattle.role_steps.specs.declared.rounds.InEpoch.{InEpoch}
 use Rattle.role_steps.specs.declared.synchronizing.SyncTable.{SyncTable}
 use Rattle.the_run.specs.Steps.{is_dropped, step, takes}
-use Rattle.the_run.specs.Worlds.{World, Running, links_of, place_at}
+use Rattle.the_run.specs.Worlds.{World, Line, Running, links_of, place_at}
+use Rattle.tree_model.specs.Files.{HeldVersion}
 use Rattle.packet_format_laws.proofs.of_make_laws.Happening.{taken_boot, taken_epoch}
 use Rattle.packet_format_laws.specs.of_pack_laws.Packed.{BodyPacked, PacketPacked, PullPacked}
 use Rattle.packet_format_laws.proofs.of_pack_laws.PacksRun.{sent_packed}
 use Rattle.tree_laws.specs.Doing.{IsReceived}
-use Rattle.tree_laws.specs.Packets.{PacketFact}
+use Rattle.tree_laws.specs.Packets.{BodyFact, PacketFact}
 use Rattle.packet_format_laws.specs.of_one_tree_laws.Places.{InsideFact, SiteFact, SiteIn}
+use Rattle.packet_format_laws.specs.of_one_tree_laws.Rest.{Past}
 use Rattle.packet_format_laws.proofs.of_one_tree_laws.Rising.{every_among}
 use Rattle.packet_format_laws.proofs.of_one_tree_laws.Run.{sent_fact}
 use Rattle.packet_format_laws.proofs.of_one_tree_laws.Steps.{to_boot}
@@ -39,11 +42,11 @@ use Rattle.site_node.specs.of_site_tables.Inodes.{AreInodes}
 use Rattle.site_node.specs.Fitting.{CanAct, CanAdopt, CanTakeIn, HasInodes, IsShort, acted}
 use Rattle.site_node.specs.Taking.{IsSpent, is_tried}
 use Rattle.packet_format_laws.specs.of_packet_fit_laws.Epochs.{NamesUpTo}
-use Rattle.calm_laws.specs.of_fit_laws.Pulling.{FitsPull, NoticeFits}
+use Rattle.calm_laws.specs.of_fit_laws.Pulling.{FitsPull}
 use Rattle.calm_laws.proofs.of_fit_laws.Opens.{body_opens}
-use Rattle.calm_laws.proofs.of_fit_laws.Pulling.{notice_fits}
 use Rattle.calm_laws.proofs.of_fit_laws.Storing.{store_fits}
 use Rattle.calm_laws.proofs.of_fit_laws.Tables.{site_tables}
+use Rattle.calm_laws.proofs.of_fit_laws.Working.{trace_works}
 use Rattle.complete_laws.specs.FitCallJoining.{HasGroups, pulled}
 use Rattle.complete_laws.proofs.FitCallAdopting.{room}
 use Rattle.complete_laws.proofs.FitCallAgreeing.{kinds_now}
@@ -96,9 +99,11 @@ can_adopt c few s v fit p among ready =
 
 -- ---- a packet ----
 
-short_of : (c : Config) (to : ℕ) (b : Body) → NoticeFits c to b → IsShort b
-short_of c to (body.Notify file kind set size stamp vector holder) k = k.2.most
-short_of c to _ k = tt
+-- a notice is of a version that stands, and none is longer than a call can make it
+short_of : (c : Config) (t : List Line) → Past c t → (p : Packet) (b : Body) → BodyFact c t p b → IsShort b
+short_of c t past p (body.Notify file kind set size stamp vector holder) k =
+    subst (λ (n : ℕ). n ≤ file_bytes_max) (ap (λ (v : HeldVersion). length v.content) (sym k.is_version.same) ∙ k.size_is) ((trace_works c t past.followed past.rest.each).0 file k.version.stamp)
+short_of c t past p _ k = tt
 
 -- only what comes in an epoch is for the storage site
 stores_of : (f : Frame) (m : Serial → Mending) (tables : List SyncTable) (groups : List ℕ) (home from : ℕ) (s : Store) (b : Body) → (nat_lt (kind_number b) 6 ≡ false → CanTakeAtStore f m tables groups home from b s) → CanTakeAtStore f m tables groups home from b s
@@ -132,7 +137,7 @@ module _ (c : Config) (few : length c.packs ≤ 4) (w : World) (moment : IsMomen
   takes_in : (o : Option InEpoch) → v.epoch ≡ o → CanTakeIn c p.to (groups_at c p.to) p.to p.from p.body v o
   takes_in None at = tt
   takes_in (Some e) at = record {
-    pulls = short_of c p.to p.body (notice_fits c w.trace moment.past p p.body it packed);
+    pulls = short_of c w.trace moment.past p p.body it;
     stores = stores_of (frame_in c p.to v.boot e) (mending_by v.tables v.users v.store) v.tables (groups_at c p.to) p.to p.from v.store p.body (stores e at);
   }
 

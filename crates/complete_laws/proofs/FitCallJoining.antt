@@ -38,7 +38,7 @@ use Rattle.packet_format_laws.specs.of_order_laws.Joining.{PacksAreOfSites}
 use Rattle.packet_format_laws.proofs.of_store_laws.AnswerDone.{done_named}
 use Rattle.tree_laws.proofs.Grants.{open_named}
 use Rattle.locus_ids.specs.declared.ids.EpochId.{EpochId}
-use Rattle.locus_ids.specs.Sizes.{content_bytes_max, sites_max}
+use Rattle.locus_ids.specs.Sizes.{file_bytes_max, sites_max}
 use Rattle.packet_format_laws.specs.of_store_laws.Rests.{MendsAs}
 use Rattle.packet_format_laws.proofs.of_store_laws.Closes.{found_instance}
 use Rattle.packet_format_laws.specs.of_one_tree_laws.Places.{InsideFact}
@@ -58,7 +58,7 @@ joinable : (h : List Version) → AreSized h → (f : FileId) (ss : List Stamp) 
 joinable h sized f [] k = tt
 joinable h sized f (s ∷ ss) k = ((wide (length (content_of h f s)) (sized f s), k.0), joinable h sized f ss k.1)
   where
-    wide : (n : ℕ) → n ≤ content_bytes_max → n < 2 ^ 32
+    wide : (n : ℕ) → n ≤ file_bytes_max → n < 2 ^ 32
     wide n l = omega (arith, l)
 
 module _ (c : Config) (t : List Line) (past : Past c t) (few : length c.packs ≤ 4) (f : Frame) (v : SiteView) (inside : InsideFact c f t v) (inst : Serial) (small : inst.us ≤ sites_max) where

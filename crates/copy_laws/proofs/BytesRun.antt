@@ -276,7 +276,7 @@ closes_at c w x v e _ q taken l f g here at a = tt
 
 -- ---- every event and change ----
 
-bytes_kept : (c : Config) → Kept c (Both c)
+pub bytes_kept : (c : Config) → Kept c (Both c)
 bytes_kept c = record {
   steps = λ n s e v w here own g. (covers.steps n s e v w here own g.0, own_event n s e v w here own g);
   receives = λ n x v w here sent g. (covers.receives n x v w here sent g.0, received n x v w here sent g);
@@ -343,5 +343,8 @@ first_bytes c = record {
 
 -- ---- every run ----
 
+pub first_both : (c : Config) → Both c (first_world c)
+first_both c = (first_all c, λ l o. first_bytes c)
+
 pub run_both : (c : Config) (lines : List ScheduleLine) → Both c (run_in c lines)
-run_both c lines = every_run c (Both c) (bytes_kept c) (first_all c, λ l o. first_bytes c) lines
+run_both c lines = every_run c (Both c) (bytes_kept c) (first_both c) lines

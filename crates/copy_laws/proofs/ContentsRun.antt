@@ -40,7 +40,7 @@ joined_line s id m [] h = absurd h
 joined_line s id m (x ∷ xs) (inl h) = inl h
 joined_line s id m (x ∷ xs) (inr h) = inr (joined_line s id m xs h)
 
-run_laws : (c : Config) (lines : List ScheduleLine) → Laws c (past_of (run_in c lines).trace)
+pub run_laws : (c : Config) (lines : List ScheduleLine) → Laws c (past_of (run_in c lines).trace)
 run_laws c lines = record {
   joins = run_joins_once c lines;
   lists = λ s t id m n a b. one_list c lines s t id m n (joined_line s id m (run_in c lines).trace a) (joined_line t id n (run_in c lines).trace b);
@@ -59,7 +59,7 @@ run_laws c lines = record {
 
 -- ---- the law ----
 
-copy_has : (past : List Told) → Histories past → (x : FileCopy) → CopyFact past x → HasItsContent past x
+pub copy_has : (past : List Told) → Histories past → (x : FileCopy) → CopyFact past x → HasItsContent past x
 copy_has past l x h = sym (content_is past x.file x.stamp x.content l h)
 
 pub run_contents : (c : Config) (lines : List ScheduleLine) → CopiesHaveContents (run_in c lines)

@@ -9,6 +9,7 @@ ghost use Rattle.css_core.specs.Lettered.{turn_after, last_sent};
 
 use crate::LookRequest;
 use crate::css::Css;
+use crate::early::is_waiting;
 use crate::looks::{LookRow, Turn, look_row, note_look, unknown_row};
 use crate::service::{Service, service_on};
 use keyed_tables::process_key;
@@ -31,6 +32,9 @@ impl Css {
     {
         if self.started {
             return self.takes_look(frame, from, look, out);
+        }
+        if is_waiting(self.early.as_slice(), from, look.process) {
+            return Ok(());
         }
         let body = Body::Look {
             call: look.call,

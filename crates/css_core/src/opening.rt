@@ -1,12 +1,14 @@
-ghost use Rattle.std.specs.Prelude.{◌≡◌, ◌++◌, None, true, IfOk, OnOk};
+ghost use Rattle.std.specs.Prelude.{◌≡◌, ◌++◌, None, false, true, IfOk, OnOk};
+ghost use Rattle.std.specs.List.{list_any};
 ghost use Rattle.std.specs.Option.{option_map};
 ghost use Rattle.site_frame.specs.Printed.{printed};
 ghost use Rattle.commit_graph.specs.Grants.{grant_refusal};
 ghost use Rattle.role_steps.specs.Versions.{stamps_of, kept, file_row};
-ghost use Rattle.role_steps.specs.Opens.{decision, file_decision, decides, takes_open, on_opened, open_row, openers};
-ghost use Rattle.role_steps.specs.Reports.{waits_early, on_open};
+ghost use Rattle.role_steps.specs.Tables.{row};
+ghost use Rattle.role_steps.specs.Opens.{asks_storage, decision, file_decision, decides, granted_at_once, is_open_stage, takes_open, on_opened, open_key, open_row, openers, with_open};
+ghost use Rattle.role_steps.specs.Reports.{is_early_of, waits_early, on_open};
 ghost use Rattle.css_decision.specs.Decided.{decision_of};
-ghost use Rattle.css_opens.specs.Settled.{is_asked, settled_row};
+ghost use Rattle.css_opens.specs.Settled.{answer_sent, answer_told, is_asked, settled_row};
 ghost use Rattle.css_core.specs.Closed.{settled_table, settled_sent, settled_told};
 
 use crate::css::Css;
@@ -15,7 +17,7 @@ use css_decision::{
     Decision, OpenRequest, asked_entry, denied_entry, grant_on, kept_refusal, make_decision,
     mode_of,
 };
-use css_opens::Settling;
+use css_opens::{OpenEntry, Settling};
 use locus_ids::{FileId, Mode, NoMemory, Refusal, Serial, SiteId};
 use role_steps::Early;
 use site_frame::SiteFrame;
@@ -37,6 +39,9 @@ impl Css {
         if self.started {
             return self.takes_open(frame, from, asked, out);
         }
+        if is_waiting(self.early.as_slice(), from, asked.process) {
+            return Ok(());
+        }
         let body = Body::Open {
             serial: asked.serial,
             call: asked.call,
@@ -48,13 +53,11 @@ impl Css {
         self.waits(from, asked.process, body)
     }
 
-    /// A request that comes before the start waits, the first one of its site and process.
+    /// A request that comes before the start waits: it is the first one of its site and process.
     pub(crate) fn waits(&mut self, from: SiteId, process: u8, body: Body) -> Result<(), NoMemory>
+        requires { list_any (is_early_of from process) self.old.early ≡ false }
         ensures { OnOk result (self.new ≡ waits_early from process body self.old) }
     {
-        if is_waiting(self.early.as_slice(), from, process) {
-            return Ok(());
-        }
         self.early.push(Early {
             site: from,
             process,
@@ -151,18 +154,48 @@ impl Css {
     {
         match decision {
             Decision::Denied { why } => {
-                let entry = denied_entry(self.early.allocator(), from, asked, why.copy()?);
-                entry.refuses_user(frame, &why, out)?;
-                entry.notes_refusal(frame, &why, out)?;
-                self.opens.push(entry)
+                let entry = denied_entry(self.early.allocator(), from, asked, why);
+                self.denies(frame, entry, out)
             }
             Decision::Granted { grant } => {
                 let entry = asked_entry(from, asked, grant);
-                entry.asks_storage(frame, out)?;
-                entry.notes_at_once(frame, out)?;
-                self.opens.push(entry)
+                self.asks(frame, entry, out)
             }
         }
+    }
+
+    /// A new open is refused: its using site and the trace are told why.
+    fn denies(
+        &mut self,
+        frame: &SiteFrame,
+        entry: OpenEntry,
+        out: &mut Outbox,
+    ) -> Result<(), NoMemory>
+        requires { row open_key (open_key entry) self.old.opens ≡ None }
+        ensures view { OnOk result (self.new ≡ with_open entry self.old) }
+        ensures packets { OnOk result (out.new.packets ≡ out.old.packets ++ answer_sent frame.now entry entry.stage) }
+        ensures records { OnOk result (out.new.records ≡ out.old.records ++ printed (answer_told frame.now entry entry.stage)) }
+    {
+        entry.tells_answer(frame, out)?;
+        self.opens.push(entry)
+    }
+
+    /// The storage site of a new open is asked.
+    fn asks(
+        &mut self,
+        frame: &SiteFrame,
+        entry: OpenEntry,
+        out: &mut Outbox,
+    ) -> Result<(), NoMemory>
+        requires new { row open_key (open_key entry) self.old.opens ≡ None }
+        requires open { is_open_stage entry.stage ≡ true }
+        ensures view { OnOk result (self.new ≡ with_open entry self.old) }
+        ensures packets { OnOk result (out.new.packets ≡ out.old.packets ++ asks_storage frame.now entry) }
+        ensures records { OnOk result (out.new.records ≡ out.old.records ++ printed (granted_at_once frame.now entry entry.mode)) }
+    {
+        entry.asks_storage(frame, out)?;
+        entry.notes_at_once(frame, out)?;
+        self.opens.push(entry)
     }
 
     /// What a storage site answers an open.

@@ -12,11 +12,23 @@ use site_frame::SiteFrame;
 use trace_book::What;
 
 /// What a look is served.
-#[derive(Drop)]
 pub enum Service {
     Denied { why: Refusal },
     /// This version, which this site has.
     Served { version: VersionRow, site: SiteId },
+}
+
+// Taken apart in one place: where a service is dropped, the prover sees one call.
+impl Drop for Service {
+    fn drop(self) {
+        match self {
+            Service::Denied { why: _ } => (),
+            Service::Served {
+                version: _,
+                site: _,
+            } => (),
+        }
+    }
 }
 
 fn no_storage() -> Service

@@ -33,11 +33,22 @@ pub(crate) fn is_to_rescue(entries: &[Entry], kept: &[KeptVector], entry: &Entry
 fn wants_rescue(entries: &[Entry], kept: &[KeptVector], ino: Ino) -> bool
     ensures { result ≡ wants_rescue entries.now kept.now ino }
 {
+    // Of most removed files no version is kept: their entries aren't looked through.
+    if !is_kept(kept, ino) {
+        return false;
+    }
     if has_live(entries, ino) {
         return false;
     }
     let seen = all_seen(entries, ino);
     is_any_unseen(kept, ino, &seen)
+}
+
+/// A version of the file is kept.
+fn is_kept(kept: &[KeptVector], ino: Ino) -> bool
+    ensures { result ≡ list_any (λ v. v.ino == ino) kept.now }
+{
+    kept.iter().any(|version| version.ino.get() == ino.get())
 }
 
 fn has_live(entries: &[Entry], ino: Ino) -> bool

@@ -1,5 +1,5 @@
 -- What a call asks of an open instance as its next operation can be done.
-use Rattle.std.proofs.Common.{◌≡◌, ℕ, ◌+◌, ◌≤◌, ◌<◌, ◌^◌, suc, zero, Bool, true, false, ◌&&◌, cond, nat_le, nat_lt, List, [], ◌∷◌, ◌++◌, length, map, Option, Some, None, refl, sym, ◌∙◌, ap, subst, ◌⊎◌, inl, inr, arith}
+use Rattle.std.proofs.Common.{◌≡◌, ℕ, ◌+◌, ◌≤◌, ◌<◌, ◌^◌, suc, zero, Bool, true, false, ◌&&◌, cond, nat_le, nat_lt, List, [], ◌∷◌, ◌++◌, length, map, Option, Some, None, refl, sym, ◌∙◌, subst, ◌⊎◌, inl, inr, arith}
 use Rattle.std.proofs.lemmas.Bool.Decides.{nat_tests}
 use Rattle.std.specs.List.{AllByRecursion, list_all}
 use Rattle.locus_ids.specs.declared.config.Config.{Config}
@@ -88,7 +88,7 @@ use Rattle.fit_laws.proofs.CalmAskingRemoving.{Finding, LeavesOn, LeftSo, script
 use Rattle.fit_laws.proofs.CalmAskingSources.{source}
 use Rattle.fit_laws.proofs.CalmAskingStanding.{OnlyLeft, finds_still}
 use Rattle.fit_laws.proofs.CalmAskingTold.{WasActed, WasOpened, act_source, open_source}
-use Rattle.fit_laws.proofs.CalmAskingWords.{IsUse, Mails, Makes, NameSo, WalkAsks, AskedBy}
+use Rattle.fit_laws.proofs.CalmAskingWords.{IsUse, Mails, Makes, NameSo, AskedBy}
 
 -- ---- what a remove has seen ----
 

@@ -1,5 +1,5 @@
 -- When an operation has an effect on a content.
-use Rattle.std.proofs.Common.{◌≡◌, ℕ, ◌+◌, ◌≤◌, Bool, true, false, ◌&&◌, cond, nat_le, List, [], ◌∷◌, length, Option, Some, None, refl, sym, ◌∙◌, ap, subst, arith}
+use Rattle.std.proofs.Common.{◌≡◌, ℕ, ◌+◌, ◌≤◌, Bool, true, ◌&&◌, cond, nat_le, List, length, Option, Some, None, ◌∙◌, ap, arith}
 use Rattle.std.proofs.lemmas.Bool.Decides.{nat_tests}
 use Rattle.locus_ids.specs.declared.ids.Kind.{Kind}
 use Rattle.locus_ids.specs.Sizes.{file_bytes_max, inodes_max}

@@ -1,5 +1,5 @@
 -- What each line keeps of an open instance holds of it: it is granted, and goes on by its own operations and commits.
-use Rattle.std.proofs.Common.{◌≡◌, ℕ, Bool, true, false, List, [], ◌∷◌, Option, Some, None, refl, sym, ◌∙◌, ap, subst, ◌⊎◌, inl, inr}
+use Rattle.std.proofs.Common.{◌≡◌, ℕ, Bool, true, false, List, [], ◌∷◌, Option, Some, refl, sym, ◌∙◌, subst, ◌⊎◌, inl, inr}
 use Rattle.role_steps.proofs.of_plain_facts.Options.{none_some, some_same}
 use Rattle.role_steps.proofs.of_plain_facts.Tests.{true_false}
 use Rattle.locus_ids.specs.declared.config.Config.{Config}

@@ -1,5 +1,5 @@
 -- An open instance that owes nothing stands on a version, but for that of a mend.
-use Rattle.std.proofs.Common.{◌≡◌, ℕ, ◌==◌, Bool, true, false, not, cond, ◌&&◌, ◌||◌, List, [], ◌∷◌, Option, Some, None, refl, sym, ◌∙◌, ap, subst, ◌⊎◌, inl, inr}
+use Rattle.std.proofs.Common.{◌≡◌, ℕ, ◌==◌, Bool, true, false, not, cond, ◌&&◌, List, [], ◌∷◌, Option, Some, None, refl, sym, ◌∙◌, ap, subst, ◌⊎◌, inl, inr}
 use Rattle.std.specs.Option.{is_none}
 use Rattle.role_steps.proofs.of_plain_facts.Tests.{and_first, and_second, or_first, true_false}
 use Rattle.locus_ids.specs.declared.config.Config.{Config}

@@ -1,5 +1,5 @@
 -- What an instance has found stands in its content, while nothing is done on it that changes the content.
-use Rattle.std.proofs.Common.{◌≡◌, ℕ, ◌+◌, ◌==◌, nat_lt, Bool, true, false, cond, ◌&&◌, List, [], ◌∷◌, length, Option, Some, None, refl, sym, ◌∙◌, ap, subst, ◌⊎◌, inl, inr}
+use Rattle.std.proofs.Common.{◌≡◌, ℕ, ◌+◌, ◌==◌, nat_lt, Bool, true, false, cond, List, [], ◌∷◌, Option, Some, None, refl, sym, ◌∙◌, ap, subst, ◌⊎◌, inl, inr}
 use Rattle.role_steps.proofs.of_plain_facts.Numbers.{equal}
 use Rattle.role_steps.proofs.of_plain_facts.Options.{some_same}
 use Rattle.role_steps.proofs.of_plain_facts.Tests.{and_first, and_second, true_false}

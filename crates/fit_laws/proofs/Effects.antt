@@ -11,7 +11,7 @@ use Rattle.std.proofs.Math.Seq.{drop-append-add, drop-append_seam}
 use Rattle.role_steps.proofs.of_plain_facts.Options.{some_same}
 use Rattle.role_steps.proofs.of_plain_facts.Tests.{true_false}
 use Rattle.locus_ids.specs.declared.refusal.Refusal.TheVariants as refusal
-use Rattle.locus_ids.specs.Sizes.{content_bytes_max, directory_bytes_max, file_bytes_max, page_bytes}
+use Rattle.locus_ids.specs.Sizes.{file_bytes_max, directory_bytes_max, page_bytes}
 use Rattle.trace_book.specs.declared.operation.Op.{Op}
 use Rattle.trace_book.specs.declared.operation.Op.TheVariants as op
 use Rattle.trace_book.specs.declared.operation.Outcome.{Outcome}
@@ -44,12 +44,12 @@ changed_fits base content changed e fits made = record {
         let by : IsKept content e.content page = made.kept page inside lacks.0 in
         kept_through base content e.content page (fits.kept page (kept_there content e.content page inside by) (within_lacks (length e.content) changed page inside lacks.1)) by
 
-pub begins_fit : (content : List ℕ) → length content ≤ content_bytes_max → FitsOver content content []
+pub begins_fit : (content : List ℕ) → length content ≤ file_bytes_max → FitsOver content content []
 begins_fit content small = record { size = small; below = tt; once = tt; kept = λ page inside lacks. kept_same content content page refl }
 
 -- ---- effects ----
 
-module _ (content : List ℕ) (small : length content ≤ content_bytes_max) where
+module _ (content : List ℕ) (small : length content ≤ file_bytes_max) where
   tells_so : (r : Outcome) → ChangesPages content (tells content r)
   tells_so r = record { size = small; below = tt; kept = λ page inside lacks. kept_same content content page refl }
 
@@ -68,7 +68,7 @@ module _ (content : List ℕ) (small : length content ≤ content_bytes_max) whe
   puts_so : (new : List ℕ) (counts : Bool) → ChangesPages content (puts content new counts)
   puts_so new counts = over (nat_lt directory_bytes_max (length new)) refl
     where
-      short : nat_lt directory_bytes_max (length new) ≡ false → length new ≤ content_bytes_max
+      short : nat_lt directory_bytes_max (length new) ≡ false → length new ≤ file_bytes_max
       short e = grind (arith, nat_tests)
 
       over : (b : Bool) → nat_lt directory_bytes_max (length new) ≡ b → ChangesPages content (cond b (tells content (outcome.No refusal.TooLong)) (record { result = outcome.Done; content = new; pages = pages_replaced content new; counts = counts; spent = false }))
@@ -78,7 +78,7 @@ module _ (content : List ℕ) (small : length content ≤ content_bytes_max) whe
   directory_so : (d : DirEffect) → IsBounded d → ChangesPages content (on_directory content d)
   directory_so d bounded = record { size = over d.counts refl; below = replaced_below (directory_left content d); kept = replaced_kept (directory_left content d) }
     where
-      over : (b : Bool) → d.counts ≡ b → length (cond b (dir_bytes d.entries) content) ≤ content_bytes_max
+      over : (b : Bool) → d.counts ≡ b → length (cond b (dir_bytes d.entries) content) ≤ file_bytes_max
       over true e = bounded e
       over false e = small
 
@@ -99,7 +99,7 @@ module _ (content : List ℕ) (small : length content ≤ content_bytes_max) whe
   cuts_so : (len : ℕ) → ChangesPages content (cuts content len)
   cuts_so len = record { size = less; below = tt; kept = λ page inside lacks. cut_kept content len page }
     where
-      less : length (take len content) ≤ content_bytes_max
+      less : length (take len content) ≤ file_bytes_max
       less = (let e : length (take len content) ≡ min len (length content) = length-take len content in omega (arith, e, small))
 
   -- ---- a write ----
@@ -133,7 +133,7 @@ module _ (content : List ℕ) (small : length content ≤ content_bytes_max) whe
         let d : length (drop end content) ≡ length content - end = length-drop end content in
         omega (arith, a, b, d, front_is)
 
-    size_is : length new ≤ content_bytes_max
+    size_is : length new ≤ file_bytes_max
     size_is = omega (arith, length_is, small, fits)
 
     end_inside : end ≤ length new

@@ -1,5 +1,5 @@
 -- An insert names a file that stands, of the directory's group, and its kind; and what is written or cut is a file that is no directory.
-use Rattle.std.proofs.Common.{◌≡◌, ℕ, ◌==◌, Bool, true, false, cond, List, [], ◌∷◌, ◌++◌, append-nil, append_assoc, Option, Some, None, refl, sym, ◌∙◌, ap, subst, ◌⊎◌, inl, inr}
+use Rattle.std.proofs.Common.{◌≡◌, ℕ, Bool, true, false, cond, List, [], ◌∷◌, ◌++◌, append-nil, append_assoc, Some, None, refl, sym, ◌∙◌, ap, subst, ◌⊎◌, inl, inr}
 use Rattle.role_steps.proofs.of_plain_facts.Numbers.{equal}
 use Rattle.role_steps.proofs.of_plain_facts.Options.{some_same}
 use Rattle.role_steps.proofs.of_plain_facts.Tests.{true_false}
@@ -12,9 +12,7 @@ use Rattle.locus_ids.specs.declared.ids.Kind.TheVariants as kind
 use Rattle.locus_ids.specs.declared.ids.Mode.{Mode}
 use Rattle.locus_ids.specs.declared.ids.Mode.TheVariants as mode
 use Rattle.locus_ids.specs.declared.ids.Serial.{Serial}
-use Rattle.locus_ids.specs.declared.refusal.Refusal.TheVariants as refusal
 use Rattle.commit_graph.specs.Grants.{is_read}
-use Rattle.commit_graph.specs.Versions.{same_file}
 use Rattle.trace_book.specs.declared.call.Call.{Call}
 use Rattle.trace_book.specs.declared.call.Call.TheVariants as call
 use Rattle.trace_book.specs.declared.call.OpenMode.TheVariants as how
@@ -25,7 +23,6 @@ use Rattle.trace_book.specs.declared.operation.Op.{Op}
 use Rattle.trace_book.specs.declared.operation.Op.TheVariants as op
 use Rattle.trace_book.specs.declared.operation.Outcome.{Outcome}
 use Rattle.trace_book.specs.declared.record.Record.TheVariants as says
-use Rattle.trace_book.specs.declared.reply.Reply.TheVariants as reply
 use Rattle.call_rules.specs.Descriptors.{beginning}
 use Rattle.call_rules.specs.Scripts.{wants}
 use Rattle.call_rules.specs.declared.answer.Answer.{Answer}
@@ -37,7 +34,7 @@ use Rattle.the_run.specs.Worlds.{Line}
 use Rattle.tree_model.specs.declared.accepted.Waiting.{Waiting}
 use Rattle.tree_model.specs.declared.instance.Instance.{Instance}
 use Rattle.tree_model.specs.Calls.{call_named, granted_to}
-use Rattle.tree_model.specs.Files.{first_call, kind_made}
+use Rattle.tree_model.specs.Files.{first_call}
 use Rattle.lawful_trace.specs.Progress.{is_packed_in}
 use Rattle.lawful_trace.specs.Tables.{begun, call_of_act, has_named, unless_named, use_number, uses_of}
 use Rattle.lawful_trace.specs.TreeRows.{IsCallIn, granted_group, is_open_of}
@@ -69,7 +66,7 @@ use Rattle.rest_laws.proofs.of_one_tree_laws.RemovePlaced.{GrantedSo, IsPlaced, 
 use Rattle.rest_laws.proofs.StoreStepAsking.{changed_open}
 use Rattle.rest_laws.proofs.of_one_tree_laws.RemoveScripts.{Along, IsOr, along_at, along_same}
 use Rattle.fit_laws.specs.EntryEntries.{MakesMessage, NamesFile}
-use Rattle.fit_laws.proofs.EntryFacts.{CloseAnswered, IsAnswered, IsKnown, IsPlain, MakeAnswered, WasEnded, WasMade, named_known, roots_known}
+use Rattle.fit_laws.proofs.EntryFacts.{IsAnswered, IsKnown, IsPlain, WasEnded, WasMade, named_known, roots_known}
 use Rattle.fit_laws.proofs.EntryHeard.{Heard}
 use Rattle.fit_laws.proofs.EntryInserting.{Inserting, OpensIn, wants_inserting}
 use Rattle.fit_laws.proofs.EntryMade.{made_first, made_named}

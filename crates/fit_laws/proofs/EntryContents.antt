@@ -1,8 +1,8 @@
 -- What an operation does to the entries of a directory: each keeps its number and kind, and only an insert adds one.
-use Rattle.std.proofs.Common.{◌≡◌, ℕ, suc, ◌+◌, Bool, true, false, cond, ◌&&◌, List, [], ◌∷◌, length, map, Option, None, Some, refl, sym, ap, subst}
+use Rattle.std.proofs.Common.{◌≡◌, ℕ, suc, ◌+◌, Bool, true, false, cond, ◌&&◌, List, [], ◌∷◌, length, map, Option, None, Some, refl, sym, subst}
 use Rattle.std.specs.List.{AllByRecursion, find}
 use Rattle.std.specs.Ordering.{nat_cmp}
-use Rattle.std.specs.Prelude.{nat_le, nat_lt}
+use Rattle.std.specs.Prelude.{nat_lt}
 use Rattle.std.specs.Str.{bytes_eq}
 use Rattle.std.specs.declared.cmp.Ordering.{Ordering}
 use Rattle.std.specs.declared.cmp.Ordering.TheVariants.{Less, Equal, Greater}
@@ -12,19 +12,18 @@ use Rattle.locus_ids.specs.declared.refusal.Refusal.TheVariants as refusal
 use Rattle.locus_ids.specs.Sizes.{directory_bytes_max}
 use Rattle.trace_book.specs.declared.operation.Op.{Op}
 use Rattle.trace_book.specs.declared.operation.Op.TheVariants as op
-use Rattle.trace_book.specs.declared.operation.Outcome.{Outcome}
 use Rattle.trace_book.specs.declared.operation.Outcome.TheVariants as outcome
 use Rattle.dir_format.specs.declared.entry.Entry.{Entry}
 use Rattle.dir_format.specs.declared.looking.LookResult.{LookResult}
 use Rattle.dir_format.specs.declared.looking.LookResult.TheVariants as look
 use Rattle.dir_format.specs.Contents.{entries_from, entries_of, is_dir}
 use Rattle.dir_format.specs.Effects.{DirEffect, dir_effect, becomes, empty_among, find_by, insert_beside, is_spent, live_entry, live_one, moved, probe_beside, remove_entry, removed, rename_beside, rename_by, rename_entry, size_of}
-use Rattle.dir_format.specs.Entries.{IsDir, is_live, max_count, nothing_seen, pair_in, is_pair, with_entry}
-use Rattle.dir_format.specs.Grammar.{IsDirectory, dir_bytes}
+use Rattle.dir_format.specs.Entries.{IsDir, is_live, nothing_seen, pair_in, is_pair, with_entry}
+use Rattle.dir_format.specs.Grammar.{dir_bytes}
 use Rattle.dir_format.specs.Lookups.{has_name, is_meant, lookup, shown_names}
 use Rattle.dir_format.proofs.ContentOf.{content_is, dir_tells}
 use Rattle.dir_format.proofs.Placing.{all_with}
-use Rattle.dir_reconcile.specs.Joins.{AgreeOnKinds, joined_by, joined_dirs, joined_entry}
+use Rattle.dir_reconcile.specs.Joins.{AgreeOnKinds, joined_by, joined_dirs}
 use Rattle.dir_reconcile.specs.Rescues.{entry_after_rescue, is_to_rescue, rescued, revived}
 use Rattle.dir_reconcile.specs.declared.kept.KeptVector.{KeptVector}
 use Rattle.dir_reconcile.proofs.Directories.{all_joined, dir_joined}

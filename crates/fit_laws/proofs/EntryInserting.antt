@@ -1,7 +1,6 @@
 -- The script of a create, a mkdir or a mail: when it asks to insert an entry, its make was answered, and what it made is closed.
 use Rattle.std.proofs.Common.{◌≡◌, ℕ, Bool, true, false, cond, List, [], ◌∷◌, ◌++◌, append-nil, Option, Some, None, refl, sym, ◌∙◌, ap, subst, inl, inr}
 use Rattle.locus_ids.specs.declared.ids.CallId.{CallId}
-use Rattle.locus_ids.specs.declared.config.Config.{Config}
 use Rattle.locus_ids.specs.declared.config.Mount.{Mount}
 use Rattle.locus_ids.specs.declared.ids.FileId.{FileId}
 use Rattle.locus_ids.specs.declared.ids.Kind.{Kind}
@@ -37,7 +36,7 @@ use Rattle.tree_laws.proofs.Holding.{Script}
 use Rattle.rest_laws.proofs.of_store_laws.AnswerScripting.{walked_so}
 use Rattle.rest_laws.proofs.of_one_tree_laws.RemoveScripts.{Along, IsOr, along_more, along_same, goes, goes_walked, or_more, packed_is}
 use Rattle.rest_laws.proofs.of_holding_laws.MendReopens.{reopen_so}
-use Rattle.fit_laws.proofs.EntryAsked.{IsOfDirs, IsOfFiles, Parts, UserParts, close_all_so, describes_so, finds_so, give_up_one, give_up_two, lists_so, mend_so, opens_dir_so, renames_so, uses_so}
+use Rattle.fit_laws.proofs.EntryAsked.{IsOfDirs, IsOfFiles, Parts, close_all_so, describes_so, finds_so, give_up_one, give_up_two, lists_so, mend_so, opens_dir_so, renames_so, uses_so}
 
 -- what is opened or made is of the group
 abbrev pub OpensIn : ℕ → Want → Type 0

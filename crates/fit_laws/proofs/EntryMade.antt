@@ -10,7 +10,6 @@ use Rattle.locus_ids.specs.declared.ids.Mode.TheVariants as mode
 use Rattle.locus_ids.specs.declared.ids.Serial.{Serial}
 use Rattle.locus_ids.specs.declared.ids.Stamp.{Stamp}
 use Rattle.commit_graph.specs.Versions.{same_file}
-use Rattle.trace_book.specs.declared.call.Call.{Call}
 use Rattle.trace_book.specs.declared.record.Record.{Record}
 use Rattle.trace_book.specs.declared.record.Record.TheVariants as says
 use Rattle.std.specs.Option.{option_map, option_or}
@@ -21,7 +20,7 @@ use Rattle.the_run.specs.Worlds.{Line}
 use Rattle.tree_model.specs.declared.accepted.Waiting.{Waiting}
 use Rattle.tree_model.specs.declared.instance.Instance.{Instance}
 use Rattle.tree_model.specs.Calls.{call_named}
-use Rattle.tree_model.specs.Files.{committing, first_call, kind_made, kind_of_file, words_named}
+use Rattle.tree_model.specs.Files.{committing, first_call, kind_made, words_named}
 use Rattle.tree_model.specs.Folds.{Trace}
 use Rattle.tree_model.specs.Opening.{is_given_by}
 use Rattle.tree_model.specs.State.{is_named}

@@ -1,14 +1,13 @@
 -- What mends have brought: contents of versions of directories, whose entries name files that stand.
 use Rattle.std.proofs.Common.{◌≡◌, ℕ, ◌==◌, Bool, true, false, cond, List, [], ◌∷◌, map, Option, None, Some, refl, sym, ◌∙◌, ap, subst}
-use Rattle.std.specs.Option.{option_map, option_or}
+use Rattle.std.specs.Option.{option_map}
 use Rattle.role_steps.proofs.of_plain_facts.Options.{none_some, some_same}
 use Rattle.locus_ids.specs.declared.config.Config.{Config}
 use Rattle.locus_ids.specs.declared.ids.CallId.{CallId}
 use Rattle.locus_ids.specs.declared.ids.FileId.{FileId}
-use Rattle.locus_ids.specs.declared.ids.Kind.{Kind}
 use Rattle.locus_ids.specs.declared.ids.Kind.TheVariants as kind
 use Rattle.locus_ids.specs.declared.ids.Stamp.{Stamp}
-use Rattle.commit_graph.specs.Versions.{content_of, same_file}
+use Rattle.commit_graph.specs.Versions.{content_of}
 use Rattle.trace_book.specs.Same.{same_call}
 use Rattle.trace_book.specs.declared.call.Call.{Call}
 use Rattle.trace_book.specs.declared.call.Call.TheVariants as call
@@ -22,9 +21,8 @@ use Rattle.role_steps.specs.declared.users.WaitingCall.{WaitingCall}
 use Rattle.the_run.specs.Worlds.{Line}
 use Rattle.the_run.proofs.InsideSync.{Found, first_found}
 use Rattle.tree_model.specs.declared.accepted.Waiting.{Waiting}
-use Rattle.tree_model.specs.declared.instance.Instance.{Instance}
 use Rattle.tree_model.specs.Calls.{accepted_as, call_named}
-use Rattle.tree_model.specs.Files.{committing, first_call, kind_made, kind_of_file, words_named}
+use Rattle.tree_model.specs.Files.{first_call, kind_made, kind_of_file, words_named}
 use Rattle.tree_model.specs.Folds.{Trace}
 use Rattle.tree_model.specs.Histories.{history}
 use Rattle.tree_laws.specs.Following.{IsFollowed, MayTell}

@@ -36,9 +36,8 @@ use Rattle.dir_format.specs.declared.looking.LookResult.TheVariants as look
 use Rattle.dir_format.specs.Contents.{entries_of}
 use Rattle.dir_format.specs.Entries.{IsDir}
 use Rattle.dir_format.specs.Lookups.{is_meant, look_among, lookup}
-use Rattle.file_effects.specs.Effects.{As, Deed, Effect, Mends, Removes, is_refusal}
+use Rattle.file_effects.specs.Effects.{Deed, Effect, Mends, is_refusal}
 use Rattle.file_effects.specs.Works.{carried_out, counted}
-use Rattle.file_effects.specs.declared.work.Work.{Work}
 use Rattle.call_rules.specs.Descriptors.{beginning}
 use Rattle.call_rules.specs.declared.answer.Answer.{Answer}
 use Rattle.call_rules.specs.declared.answer.Answer.TheVariants as answer
@@ -47,11 +46,9 @@ use Rattle.call_rules.specs.declared.want.Want.TheVariants as want
 use Rattle.wire_messages.specs.declared.body.Opening.{Opening}
 use Rattle.role_steps.specs.Opens.{mode_of}
 use Rattle.role_steps.specs.Own.{Every}
-use Rattle.role_steps.specs.Requests.{opening_of}
 use Rattle.role_steps.specs.Views.{Told, Shown}
 use Rattle.the_run.specs.Worlds.{Line}
 use Rattle.tree_model.specs.declared.instance.Instance.{Instance}
-use Rattle.tree_model.specs.Calls.{call_named}
 use Rattle.tree_model.specs.Files.{first_call, kind_of_file}
 use Rattle.tree_model.specs.Folds.{Trace}
 use Rattle.tree_model.specs.Histories.{format_version, format_versions, history, history_after, stamped_content}
@@ -59,15 +56,14 @@ use Rattle.tree_model.specs.Lists.{change_first}
 use Rattle.tree_model.specs.Mending.{joined_all, joined_content, kept_vectors}
 use Rattle.tree_model.specs.Opening.{is_given_by}
 use Rattle.tree_model.specs.State.{TreeState, instance_in, is_granted_here, is_inside, is_make, is_named, is_writer, kept_of}
-use Rattle.tree_model.specs.Tree.{acted, grant_of, granted, joined, kept_in, left, next, once_acted, once_committed, opened, released, tree_of, without_make}
+use Rattle.tree_model.specs.Tree.{acted, grant_of, joined, kept_in, left, next, once_acted, once_committed, opened, released, tree_of, without_make}
 use Rattle.tree_model.specs.Working.{are_several, deed_of, effect_of, effect_on, is_target, operated_by, sees, work_after}
 use Rattle.lawful_trace.specs.Progress.{close_answer, entered, granted_answer, look_answer, outcome_answer}
 use Rattle.lawful_trace.specs.Tables.{call_of_act, call_of_release}
 use Rattle.lawful_trace.specs.TreeRows.{IsCallIn, MayCommit, granted_group, is_writing}
-use Rattle.tree_laws.specs.Calls.{Waits, heard, log, script}
-use Rattle.tree_laws.specs.Following.{IsFollowed, MayTell, RowsAreLawful}
+use Rattle.tree_laws.specs.Calls.{Waits, heard, log}
+use Rattle.tree_laws.specs.Following.{IsFollowed, MayTell}
 use Rattle.tree_laws.specs.Instances.{IsOpening, instance_now}
-use Rattle.tree_laws.specs.Past.{EndRecord, Printed, WasReleased}
 use Rattle.tree_laws.specs.Printed.{entries, onto_entries}
 use Rattle.tree_laws.specs.Serials.{asked_now}
 use Rattle.tree_laws.proofs.Asking.{StepRecord}
@@ -88,12 +84,12 @@ use Rattle.rest_laws.proofs.of_holding_laws.OneVersionFirsts.{MakesFirst, commit
 use Rattle.rest_laws.proofs.of_holding_laws.Turning.{all_passing}
 use Rattle.rest_laws.proofs.of_store_laws.AnswerAnswering.{acter_in, releaser_in}
 use Rattle.rest_laws.proofs.of_store_laws.ScriptFitted.{Began, began}
-use Rattle.fit_laws.specs.EntryEntries.{EntriesName, IsEntered, MakesMessage, NamesFile}
+use Rattle.fit_laws.specs.EntryEntries.{EntriesName, IsEntered, MakesMessage}
 use Rattle.fit_laws.proofs.EntryActing.{asks_now, changed_plain, inserted_named, written_plain}
-use Rattle.fit_laws.proofs.EntryContents.{AllNamed, ContentNames, MayDo, agree, content_dir, effect_named, joined_two, rescued_written}
+use Rattle.fit_laws.proofs.EntryContents.{AllNamed, MayDo, content_dir, effect_named, joined_two, rescued_written}
 use Rattle.fit_laws.proofs.EntryFacts.{IsAnswered, IsKnown, IsPlain, IsSound, LookAnswered, MakeAnswered, SoundAt, WasEnded, With, dir_sound, makes_stay, message_kind, named_stays, plain_stays, sound_at_stays, sound_stays}
 use Rattle.fit_laws.proofs.EntryHeard.{Heard, told_heard}
-use Rattle.fit_laws.proofs.EntryWalking.{AsksBy, WalkerAsks}
+use Rattle.fit_laws.proofs.EntryWalking.{AsksBy}
 
 -- ---- what holds of a trace ----
 

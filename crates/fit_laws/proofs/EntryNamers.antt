@@ -1,5 +1,5 @@
 -- Whom an instance was granted to that a descriptor has named opens a file, or is a read that has opened a version again.
-use Rattle.std.proofs.Common.{◌≡◌, true, List, Option, Some, ◌⊎◌, inl, inr}
+use Rattle.std.proofs.Common.{◌≡◌, true, List, Some, ◌⊎◌, inl, inr}
 use Rattle.locus_ids.specs.declared.config.Config.{Config}
 use Rattle.locus_ids.specs.declared.ids.CallId.{CallId}
 use Rattle.locus_ids.specs.declared.ids.EpochId.{EpochId}

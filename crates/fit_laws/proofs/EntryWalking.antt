@@ -1,6 +1,6 @@
 -- What the script of a call asks, where its looks were answered rightly: a component is asked of a directory, a call that opens opens a
 -- file, and only a call on a descriptor writes or cuts.
-use Rattle.std.proofs.Common.{◌≡◌, ℕ, Bool, true, false, cond, List, [], ◌∷◌, Option, Some, None, refl, sym, ◌∙◌, ap, subst, inl, inr}
+use Rattle.std.proofs.Common.{◌≡◌, ℕ, Bool, true, false, cond, List, [], ◌∷◌, Option, Some, None, refl, sym, subst, inl, inr}
 use Rattle.locus_ids.specs.declared.ids.CallId.{CallId}
 use Rattle.locus_ids.specs.declared.ids.EpochId.{EpochId}
 use Rattle.locus_ids.specs.declared.config.Mount.{Mount}
@@ -10,7 +10,7 @@ use Rattle.locus_ids.specs.declared.ids.Kind.TheVariants as kind
 use Rattle.locus_ids.specs.declared.ids.Serial.{Serial}
 use Rattle.locus_ids.specs.declared.refusal.Refusal.TheVariants as refusal
 use Rattle.trace_book.specs.Messages.{message_name}
-use Rattle.trace_book.specs.Names.{but_last, components, last_of}
+use Rattle.trace_book.specs.Names.{but_last, components}
 use Rattle.trace_book.specs.declared.call.Call.{Call}
 use Rattle.trace_book.specs.declared.call.Call.TheVariants as call
 use Rattle.trace_book.specs.declared.call.OpenMode.{OpenMode}
@@ -25,10 +25,7 @@ use Rattle.trace_book.specs.declared.operation.What.TheVariants as what
 use Rattle.trace_book.specs.declared.reply.Reply.{Reply}
 use Rattle.trace_book.specs.declared.reply.Reply.TheVariants as reply
 use Rattle.call_rules.specs.Mailing.{tells_name, shown_messages}
-use Rattle.call_rules.specs.Making.{opens_dir, probes}
-use Rattle.call_rules.specs.Naming.{renames}
-use Rattle.call_rules.specs.Opening.{describes, lists, opens_file, shown_in}
-use Rattle.call_rules.specs.Removing.{finds}
+use Rattle.call_rules.specs.Opening.{opens_file, shown_in}
 use Rattle.call_rules.specs.Reopening.{reopen_wants}
 use Rattle.call_rules.specs.Scripts.{begun_wants, named_wants, path_wants, wants, where_packed}
 use Rattle.call_rules.specs.Walks.{mounted_in, passes, root_of, walk, walked}

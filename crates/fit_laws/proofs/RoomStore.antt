@@ -9,7 +9,7 @@ use Rattle.locus_ids.specs.declared.ids.Mode.TheVariants as mode
 use Rattle.locus_ids.specs.declared.ids.Serial.{Serial}
 use Rattle.locus_ids.specs.declared.ids.Stamp.{Stamp}
 use Rattle.locus_ids.specs.declared.refusal.Refusal.TheVariants as refusal
-use Rattle.locus_ids.specs.Sizes.{content_bytes_max, pack_pages}
+use Rattle.locus_ids.specs.Sizes.{file_bytes_max, pack_pages}
 use Rattle.trace_book.specs.declared.operation.Op.{Op}
 use Rattle.trace_book.specs.declared.operation.Op.TheVariants as op
 use Rattle.trace_book.specs.declared.operation.Outcome.{Outcome as Result}
@@ -293,7 +293,7 @@ spent_so content spent None made e k = absurd (none k)
 spent_so content spent (Some x) made e k = subst (ChangesPages content) (some_same (record x { spent = spent }) e k) (record { size = (made x refl).size; below = (made x refl).below; kept = (made x refl).kept })
 
 -- what an operation does at the storage site names the pages that it changes
-here_so : (o : Op) (seen : List ℕ) (m : Mending) (content : List ℕ) → length content ≤ content_bytes_max → (e : Effect) → effect_of o seen m content ≡ Some e → ChangesPages content e
+here_so : (o : Op) (seen : List ℕ) (m : Mending) (content : List ℕ) → length content ≤ file_bytes_max → (e : Effect) → effect_of o seen m content ≡ Some e → ChangesPages content e
 here_so (op.Remove name ino) seen m content small e k = effect_so content small (Removes name ino seen) e k
 here_so op.Mend seen m content small e k = spent_so content (rescue_is_spent ds m.kept) (effect (Mends (has_several m.contents) (dir_bytes (rescued ds m.kept))) content) (λ x p. effect_so content small (Mends (has_several m.contents) (dir_bytes (rescued ds m.kept))) x p) e k
   where

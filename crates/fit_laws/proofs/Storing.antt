@@ -55,7 +55,7 @@ use Rattle.fit_laws.proofs.Numbers.{own_inode, stands_inode}
 use Rattle.fit_laws.proofs.PageLists.{are_pages}
 use Rattle.fit_laws.proofs.Sets.{has_some, made_some, set_some}
 use Rattle.fit_laws.proofs.Versions.{beyond}
-use Rattle.fit_laws.proofs.Working.{Works, trace_works}
+use Rattle.fit_laws.proofs.Working.{Works, holds_file, trace_works}
 
 -- ---- packs and numbers ----
 
@@ -218,7 +218,7 @@ module _ (c : Config) (t : List Line) (past : Past c t) (f : Frame) (frame : Fra
     number = number_is i.mode fact.lies;
     version = record {
       some = set_is i.mode fact.lies;
-      most = fits.size;
+      most = holds_file (length i.work.content) fits.size;
       named = raised_stamp c t past i.file i.parents i.vector fact.vector_is f.me me_site;
       agrees = raised_agrees c t past i.file i.parents i.vector fact.vector_is f.me me_site;
     };

@@ -11,7 +11,7 @@ use Rattle.locus_ids.specs.declared.ids.Mode.{Mode}
 use Rattle.locus_ids.specs.declared.ids.Serial.{Serial}
 use Rattle.locus_ids.specs.declared.ids.Stamp.{Stamp}
 use Rattle.locus_ids.specs.declared.sites.Sites.{Sites}
-use Rattle.locus_ids.specs.Sizes.{content_bytes_max}
+use Rattle.locus_ids.specs.Sizes.{content_bytes_max, file_bytes_max}
 use Rattle.commit_graph.specs.Versions.{content_of, is_in, is_version, same_file, same_stamp}
 use Rattle.commit_graph.specs.declared.history.Version.{Version}
 use Rattle.trace_book.specs.Same.{same_epoch}
@@ -84,9 +84,13 @@ all_both P Q (x ∷ xs) a b = ((a.0, b.0), all_both P Q xs a.1 b.1)
 
 -- ---- what holds of histories and instances ----
 
+-- a pack holds what a file may be
+pub holds_file : (n : ℕ) → n ≤ file_bytes_max → n ≤ content_bytes_max
+holds_file n few = omega (arith, few)
+
 -- no version is longer than a file may be
 abbrev pub AreSized : List Version → Type 0
-AreSized h = (f : FileId) (s : Stamp) → length (content_of h f s) ≤ content_bytes_max
+AreSized h = (f : FileId) (s : Stamp) → length (content_of h f s) ≤ file_bytes_max
 
 abbrev pub Works : List Version → Instance → Type 0
 Works h x = FitsOver (stamped_content h x.grant.file x.work.last) x.work.content x.work.changed
@@ -94,7 +98,7 @@ Works h x = FitsOver (stamped_content h x.grant.file x.work.last) x.work.content
 abbrev LastStands : List Version → Instance → Type 0
 LastStands h x = (s : Stamp) → x.work.last ≡ Some s → is_in h x.grant.file s ≡ true
 
-sized_at : (h : List Version) → AreSized h → (f : FileId) (o : Option Stamp) → length (stamped_content h f o) ≤ content_bytes_max
+sized_at : (h : List Version) → AreSized h → (f : FileId) (o : Option Stamp) → length (stamped_content h f o) ≤ file_bytes_max
 sized_at h sized f None = omega arith
 sized_at h sized f (Some s) = sized f s
 
@@ -160,13 +164,13 @@ module _ (c : Config) (older : List Line) (followed : IsFollowed c older) (sized
     its_works : Works h may.instance
     its_works = (subst (AllByRecursion (Works h)) may.one (all_filtered (Works h) (is_writing f) (tree_of c may.epoch f.group before).instances (works may.epoch f.group))).0
 
-    short : length content ≤ content_bytes_max
-    short = subst (λ (xs : List ℕ). length xs ≤ content_bytes_max) (sym may.same) its_works.size
+    short : length content ≤ file_bytes_max
+    short = subst (λ (xs : List ℕ). length xs ≤ file_bytes_max) (sym may.same) its_works.size
 
     commit_sized : AreSized (made ∷ h)
     commit_sized g s = over (is_version g s made)
       where
-        over : (b : Bool) → length (cond b content (content_of h g s)) ≤ content_bytes_max
+        over : (b : Bool) → length (cond b content (content_of h g s)) ≤ file_bytes_max
         over true = short
         over false = sized g s
 
@@ -295,11 +299,11 @@ formats_sized : (k : ℕ) (packs : List Sites) → AreSized (format_versions k p
 formats_sized k [] f s = omega arith
 formats_sized k (p ∷ ps) f s = at (p.0 == 0) (formats_sized (k + 1) ps f s)
   where
-    over : (b : Bool) → length (content_of (format_versions (k + 1) ps) f s) ≤ content_bytes_max → length (cond b [] (content_of (format_versions (k + 1) ps) f s)) ≤ content_bytes_max
+    over : (b : Bool) → length (content_of (format_versions (k + 1) ps) f s) ≤ file_bytes_max → length (cond b [] (content_of (format_versions (k + 1) ps) f s)) ≤ file_bytes_max
     over true later = omega arith
     over false later = later
 
-    at : (a : Bool) → length (content_of (format_versions (k + 1) ps) f s) ≤ content_bytes_max → length (content_of (cond a (format_versions (k + 1) ps) (format_version k ∷ format_versions (k + 1) ps)) f s) ≤ content_bytes_max
+    at : (a : Bool) → length (content_of (format_versions (k + 1) ps) f s) ≤ file_bytes_max → length (content_of (cond a (format_versions (k + 1) ps) (format_version k ∷ format_versions (k + 1) ps)) f s) ≤ file_bytes_max
     at true later = later
     at false later = over (is_version f s (format_version k)) later
 

@@ -4,6 +4,8 @@
 #![tactic(auto)]
 
 #[cfg(test)]
+mod checks;
+#[cfg(test)]
 mod dir_format_tests;
 #[cfg(test)]
 mod dir_reconcile_tests;

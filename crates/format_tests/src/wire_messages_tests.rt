@@ -1,9 +1,10 @@
-ghost use Rattle.std.specs.Prelude.{IfOk};
+// Where a call fails, the test ends: so a function has no exit behind each of its calls.
 ghost use Rattle.wire_messages.specs.Packets.{FitsPacket};
 
-use locus_ids::{Bytes, EpochId, NoMemory};
+use crate::checks::holds;
+use locus_ids::{Bytes, EpochId};
 use std::alloc::Global;
-use std::test::Fail;
+use std::process::Abort;
 use wire_messages::{Body, Packet};
 use wire_reading::{NotAPacket, decode};
 use wire_writing::encode;
@@ -14,56 +15,53 @@ const POLL: [u8; 25] = [
 ];
 
 /// The packet that these bytes are.
-fn decoded(alloc: Global, bytes: &[u8]) -> Result<Packet, Fail>
-    ensures { IfOk result (λ p. FitsPacket p) }
+fn decoded<R: Abort>(rt: &R, alloc: Global, bytes: &[u8]) -> Packet
+    ensures { FitsPacket result }
 {
-    if bytes.len() > 65_536 {
-        return Err(Fail::from("too many bytes"));
-    }
-    match decode(alloc, bytes) {
-        Ok(packet) => Ok(packet),
-        Err(_) => Err(Fail::from("no packet")),
-    }
+    assert!(rt; bytes.len() <= 65_536);
+    decode(alloc, bytes).expect(rt, "no packet")
 }
 
 /// Where these bytes are refused, or `None` where they are a packet.
-fn fault(alloc: Global, bytes: &[u8]) -> Result<Option<u32>, Fail> {
-    if bytes.len() > 65_536 {
-        return Err(Fail::from("too many bytes"));
-    }
-    match decode(alloc, bytes) {
-        Ok(_) => Ok(None),
-        Err(NotAPacket::At { at }) => Ok(Some(at)),
-        Err(NotAPacket::NoMemory) => Err(Fail::from("no memory")),
+fn fault<R: Abort>(rt: &R, alloc: Global, bytes: &[u8]) -> Option<u32> {
+    assert!(rt; bytes.len() <= 65_536);
+    match decode(alloc, bytes).err() {
+        None => None,
+        Some(NotAPacket::At { at }) => Some(at),
+        Some(NotAPacket::NoMemory) => panic!(rt; "no memory"),
     }
 }
 
 /// Whether the bytes are a packet's that has the same bytes again.
-fn has_them_again(alloc: Global, bytes: &[u8]) -> Result<bool, Fail> {
-    let packet = decoded(alloc, bytes)?;
+fn has_them_again<R: Abort>(rt: &R, alloc: Global, bytes: &[u8]) -> bool {
+    let packet = decoded(rt, alloc, bytes);
     let mut out = Bytes::new(alloc);
-    encode(&packet, &mut out)?;
-    Ok(out.as_slice() == bytes)
+    encode(&packet, &mut out).expect(rt, "no memory");
+    drop(packet);
+    out.as_slice() == bytes
 }
 
 /// A body of these bytes and, where more are given, of a vector whose first counter is 3 and whose others are 0, and of these.
-fn body(alloc: Global, before: &[u8], after: Option<&[u8]>) -> Result<Bytes, NoMemory> {
-    let mut bytes = Bytes::from_slice(alloc, before)?;
+fn body<R: Abort>(rt: &R, alloc: Global, before: &[u8], after: Option<&[u8]>) -> Bytes {
+    let mut bytes = Bytes::from_slice(alloc, before).expect(rt, "no memory");
     if let Some(after) = after {
-        bytes.append(&[0, 0, 0, 3])?;
-        bytes.append(&[0; 60])?;
-        bytes.append(after)?;
+        bytes.append(&[0, 0, 0, 3]).expect(rt, "no memory");
+        bytes.append(&[0; 60]).expect(rt, "no memory");
+        bytes.append(after).expect(rt, "no memory");
     }
-    Ok(bytes)
+    bytes
 }
 
 /// A packet of a kind in epoch (1, 1, 1), from boot 1 of site 1 to boot 1 of site 2.
-fn packet(alloc: Global, kind: u8, body: &[u8]) -> Result<Bytes, Fail> {
-    let mut bytes = Bytes::from_slice(alloc, &[1, kind, 1, 0, 0, 0, 1, 2, 0, 0, 0, 1])?;
-    bytes.append(&[0, 0, 0, 1, 1, 0, 0, 0, 1, 0, 0, 0])?;
-    bytes.push(u8::try_from(body.len()).ok().ok_or("a long body")?)?;
-    bytes.append(body)?;
-    Ok(bytes)
+fn packet<R: Abort>(rt: &R, alloc: Global, kind: u8, body: &[u8]) -> Bytes {
+    let length = u8::try_from(body.len()).ok().expect(rt, "a long body");
+    let header = [1, kind, 1, 0, 0, 0, 1, 2, 0, 0, 0, 1];
+    let mut bytes = Bytes::from_slice(alloc, &header).expect(rt, "no memory");
+    bytes
+        .append(&[0, 0, 0, 1, 1, 0, 0, 0, 1, 0, 0, 0, length])
+        .expect(rt, "no memory");
+    bytes.append(body).expect(rt, "no memory");
+    bytes
 }
 
 /// Where the first so many bytes of a packet are refused: at the field of the header that they cut, or at the length.
@@ -87,32 +85,40 @@ fn cut_at(n: usize) -> u32 {
     21
 }
 
-/// The bytes before and after the one at a place.
-fn around(bytes: &[u8], n: usize) -> Result<(&[u8], &[u8]), Fail> {
-    if n >= bytes.len() {
-        return Err(Fail::from("no byte"));
-    }
-    Ok((&bytes[..n], &bytes[n + 1..]))
+/// What stands before a place.
+fn start<'a, R: Abort>(rt: &R, bytes: &'a [u8], n: usize) -> &'a [u8] {
+    assert!(rt; n < bytes.len());
+    &bytes[..n]
+}
+
+/// The bytes with 0xFF at a place.
+fn changed<R: Abort>(rt: &R, alloc: Global, bytes: &[u8], n: usize) -> Bytes {
+    assert!(rt; n < bytes.len());
+    let mut changed = Bytes::from_slice(alloc, &bytes[..n]).expect(rt, "no memory");
+    changed.push(0xFF).expect(rt, "no memory");
+    changed.append(&bytes[n + 1..]).expect(rt, "no memory");
+    changed
 }
 
 /// Whether what stands before a place is refused where it ends, and whether 0xFF at that place gives no packet, or one that
 /// has the same bytes again.
-fn holds_at(alloc: Global, bytes: &[u8], n: usize) -> Result<bool, Fail> {
-    let (before, after) = around(bytes, n)?;
-    if fault(alloc, before)? != Some(cut_at(n)) {
-        return Ok(false);
-    }
-    let mut changed = Bytes::from_slice(alloc, before)?;
-    changed.push(0xFF)?;
-    changed.append(after)?;
-    match fault(alloc, changed.as_slice())? {
-        Some(_) => Ok(true),
-        None => has_them_again(alloc, changed.as_slice()),
+fn holds_at<R: Abort>(rt: &R, alloc: Global, bytes: &[u8], n: usize) -> bool {
+    let changed = changed(rt, alloc, bytes, n);
+    fault(rt, alloc, start(rt, bytes, n)) == Some(cut_at(n))
+        && (fault(rt, alloc, changed.as_slice()).is_some()
+            || has_them_again(rt, alloc, changed.as_slice()))
+}
+
+/// The bytes are those of a packet, which has the same again, and no others are near them.
+fn are_a_packet<R: Abort>(rt: &R, alloc: Global, bytes: &[u8], kind: u8) {
+    assert!(rt; has_them_again(rt, alloc, bytes), "kind {kind}");
+    for n in 0..bytes.len() {
+        assert!(rt; holds_at(rt, alloc, bytes, n), "kind {kind} at {n}");
     }
 }
 
 #[test]
-fn each_kind_is_its_bytes(rt: HostRuntime) -> Result<(), Fail> {
+fn each_kind_is_its_bytes(rt: HostRuntime) {
     let alloc = rt.alloc();
     // The kind, its body before a vector and, where it has one, what follows the vector.
     let kinds: [(u8, &[u8], Option<&[u8]>); 24] = [
@@ -178,14 +184,10 @@ fn each_kind_is_its_bytes(rt: HostRuntime) -> Result<(), Fail> {
         (24, &[0, 0, 2, 1, 0, 0, 0, 3], None),
     ];
     for (kind, before, after) in kinds {
-        let body = body(alloc, before, after)?;
-        let bytes = packet(alloc, kind, body.as_slice())?;
-        assert!(rt; has_them_again(alloc, bytes.as_slice())?, "kind {kind}");
-        for n in 0..bytes.len() {
-            assert!(rt; holds_at(alloc, bytes.as_slice(), n)?, "kind {kind} at {n}");
-        }
+        let body = body(&rt, alloc, before, after);
+        let bytes = packet(&rt, alloc, kind, body.as_slice());
+        are_a_packet(&rt, alloc, bytes.as_slice(), kind);
     }
-    Ok(())
 }
 
 /// Whether a packet is sent by boot 1 of site 1 to boot 1 of site 2 in epoch (1, 1, 1), with no body.
@@ -201,35 +203,31 @@ fn is_worked_epoch(epoch: EpochId) -> bool {
     epoch.number == 1 && epoch.site == 1 && epoch.boot == 1
 }
 
-fn reads_worked_poll(alloc: Global) -> Result<bool, Fail> {
-    let poll = decoded(alloc, &POLL)?;
-    Ok(is_worked_poll(&poll))
+fn reads_worked_poll<R: Abort>(rt: &R, alloc: Global) -> bool {
+    let poll = decoded(rt, alloc, &POLL);
+    let is_worked = is_worked_poll(&poll);
+    drop(poll);
+    is_worked
 }
 
 #[test]
-fn the_worked_poll(rt: HostRuntime) -> Result<(), Fail> {
+fn the_worked_poll(rt: HostRuntime) {
     let alloc = rt.alloc();
-    assert!(rt; reads_worked_poll(alloc)?);
-    assert!(rt; has_them_again(alloc, &POLL)?);
-    let (cut, _last) = around(&POLL, 24)?;
-    assert!(rt; fault(alloc, cut)? == Some(21));
-    let mut longer = Bytes::from_slice(alloc, &POLL)?;
-    longer.push(7)?;
-    assert!(rt; fault(alloc, longer.as_slice())? == Some(25));
-    Ok(())
+    holds(&rt, reads_worked_poll(&rt, alloc));
+    holds(&rt, has_them_again(&rt, alloc, &POLL));
+    holds(&rt, fault(&rt, alloc, start(&rt, &POLL, 24)) == Some(21));
+    let mut longer = Bytes::from_slice(alloc, &POLL).expect(&rt, "no memory");
+    longer.push(7).expect(&rt, "no memory");
+    holds(&rt, fault(&rt, alloc, longer.as_slice()) == Some(25));
 }
 
 #[test]
-fn a_report_that_descends(rt: HostRuntime) -> Result<(), Fail> {
+fn a_report_that_descends(rt: HostRuntime) {
     let alloc = rt.alloc();
-    let second = body(
-        alloc,
-        &[0, 2, 1, 0, 7, 0, 0, 0, 9, 1, 0, 0, 0, 3],
-        Some(&[]),
-    )?;
+    let second: [u8; 14] = [0, 2, 1, 0, 7, 0, 0, 0, 9, 1, 0, 0, 0, 3];
+    let second = body(&rt, alloc, &second, Some(&[]));
     let first: [u8; 17] = [0, 0, 2, 0, 3, 1, 0, 7, 0, 0, 0, 9, 1, 0, 0, 0, 3];
-    let both = body(alloc, &first, Some(second.as_slice()))?;
-    let bytes = packet(alloc, 6, both.as_slice())?;
-    assert!(rt; fault(alloc, bytes.as_slice())? == Some(106));
-    Ok(())
+    let both = body(&rt, alloc, &first, Some(second.as_slice()));
+    let bytes = packet(&rt, alloc, 6, both.as_slice());
+    holds(&rt, fault(&rt, alloc, bytes.as_slice()) == Some(106));
 }

@@ -7,7 +7,6 @@ use Rattle.the_run.specs.Runs.{run}
 use Rattle.lawful_trace.specs.Lawful.{IsLawful}
 use Rattle.row_laws.specs.Shown.{trace_of}
 use Rattle.whole_run_laws.proofs.of_call_row_laws.TreeSum.{tree_lawful}
-use Rattle.copy_laws.proofs.Hold.{run_versions_and_copies}
 use Rattle.whole_run_laws.proofs.of_orderly_traces.Forms.{blocks_form}
 use Rattle.whole_run_laws.proofs.of_orderly_traces.OwnLeaves.{leaves_are_own}
 use Rattle.tree_laws.specs.Following.{RowsAreLawful}
@@ -35,7 +34,6 @@ use Rattle.promise_laws.proofs.BudgetsPassed.{budgets_passed}
 use Rattle.promise_laws.proofs.CommitsAsked.{commits_asked}
 use Rattle.promise_laws.proofs.Delivered.{calm_rounds_deliver}
 use Rattle.promise_laws.proofs.MomentsHold.{after_events}
-use Rattle.promise_laws.proofs.OneHistory.{history_is_one}
 use Rattle.promise_laws.proofs.OneTrace.{trace_is_one}
 use Rattle.promise_laws.proofs.Steadying.{steady_rounds, together_is_told}
 use Rattle.promise_laws.proofs.VersionsNow.{versions_throughout}
@@ -59,9 +57,7 @@ run_lawful lines order none = tree_lawful lines none (record {
 pub the_run : (lines : List ScheduleLine) → AreInOrder lines → TheRun lines
 the_run lines order = record {
   trace = trace_is_one (run lines);
-  history = history_is_one (config_of lines) (run lines);
   events = after_events lines order;
-  versions = run_versions_and_copies (config_of lines) lines;
   voids = voids_change_nothing lines order;
   budgets = budgets_passed (config_of lines) lines;
   carried = round_carries (config_of lines) (calm_left (config_of lines)) lines;

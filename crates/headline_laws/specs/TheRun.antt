@@ -4,11 +4,9 @@ use Rattle.std.specs.Prelude.{◌≡◌, List, None}
 use Rattle.schedule_lines.specs.Cluster.{config_of}
 use Rattle.schedule_lines.specs.declared.line.ScheduleLine.{ScheduleLine}
 use Rattle.the_run.specs.Runs.{run}
-use Rattle.copy_laws.specs.Hold.{VersionsAndCopiesHold}
 use Rattle.promise_laws.specs.Budgets.{BudgetsWerePassed}
 use Rattle.promise_laws.specs.Delivering.{CalmRoundsDeliverAll}
 use Rattle.promise_laws.specs.Moments.{HoldsAfterEvents}
-use Rattle.promise_laws.specs.OneHistory.{HistoryIsOne}
 use Rattle.promise_laws.specs.OneTrace.{TraceIsOne}
 use Rattle.promise_laws.specs.Steady.{SteadyRoundsAreCalm, TogetherIsTold}
 use Rattle.promise_laws.specs.Voiding.{VoidLinesChangeNothing}
@@ -19,14 +17,11 @@ use Rattle.headline_laws.specs.Carried.{CalmRoundsCarry}
 pub record TheRun (lines : List ScheduleLine) : Type 0 where
   -- all that is printed of it is of one trace
   pub trace : TraceIsOne (run lines)
-  -- and versions, by whichever name, are of one history
-  pub history : HistoryIsOne (config_of lines) (run lines)
-  -- after each event each disk holds of each file just the version that its site has by the trace, whole; no call but a mend asks more than
-  -- the components of its path and six, or seven for a mail; and a delivery, unless of a report, sends at most one packet that serves a call,
-  -- besides opens of mends
+  -- after each event, and so at the end, each disk holds of each file just the version that its site has by the trace, whole; versions, by
+  -- whichever name, are of one history, have written vectors that tell ancestors, and each copy is a version whole; no call but a mend asks
+  -- more than the components of its path and six, or seven for a mail; and a delivery, unless of a report, sends at most one packet that
+  -- serves a call, besides opens of mends
   pub events : HoldsAfterEvents (config_of lines) lines
-  -- versions have written vectors that tell ancestors, and each copy is a version whole
-  pub versions : VersionsAndCopiesHold (config_of lines) (run lines)
   -- a void line changes nothing
   pub voids : VoidLinesChangeNothing (config_of lines) lines
   -- a round ends by its budget only where more packets have been sent in the run

@@ -12,6 +12,7 @@ use Rattle.std.proofs.lemmas.List.{reverse-append}
 use Rattle.std.proofs.lemmas.List.Elements.{filter-append}
 use Rattle.locus_ids.specs.declared.config.Config.{Config}
 use Rattle.locus_ids.specs.declared.ids.EpochId.{EpochId}
+use Rattle.locus_ids.specs.Sizes.{sites_max}
 use Rattle.commit_graph.specs.Vectors.{numbers_from}
 use Rattle.trace_book.specs.declared.call.Call.{Call}
 use Rattle.trace_book.specs.declared.call.Call.TheVariants as call
@@ -129,7 +130,7 @@ pub record Starts (c : Config) (lines : List ScheduleLine) (trace : Trace) (m si
   pub so : starts_at c lines (reverse trace) m site ≡ true
   pub boot : (site_at (past_at c (reverse trace) m) site).boot ≡ boot_of (before_line trace m) site
 
-pub in_cluster : (n site : ℕ) → is_between 1 (min n 16) site ≡ true → (nat_le 1 site && nat_le site n) ≡ true
+pub in_cluster : (n site : ℕ) → is_between 1 (min n sites_max) site ≡ true → (nat_le 1 site && nat_le site n) ≡ true
 in_cluster n site h = grind (arith, nat_tests)
 
 starts_so : (c : Config) → IsNamed c → (lines : List ScheduleLine) → LinesFit c lines → (trace : Trace) → EachRecord (IsPlaced lines) trace → EachComesSo c trace → (m site : ℕ) → places.initiator lines trace m ≡ Some site → Starts c lines trace m site
@@ -178,11 +179,11 @@ any_more {X} q r more (x ∷ xs) h = at (any_more q r more xs) (q x) refl h
     at later true e k = ap (λ b. b || list_any r xs) (more x e)
     at later false e k = or_more (r x) (later k)
 
-sixteen : (c : Config) → c.sites ≤ 16 → (site : ℕ) → is_of_cluster c site ≡ true → (1 ≤ site) × (site ≤ 16)
-sixteen c few site h = (let parts : (nat_le 1 site ≡ true) × (nat_le site c.sites ≡ true) = both_parts (nat_le 1 site) (nat_le site c.sites) h
+within_sites : (c : Config) → c.sites ≤ sites_max → (site : ℕ) → is_of_cluster c site ≡ true → (1 ≤ site) × (site ≤ sites_max)
+within_sites c few site h = (let parts : (nat_le 1 site ≡ true) × (nat_le site c.sites ≡ true) = both_parts (nat_le 1 site) (nat_le site c.sites) h
     in (leb-true 1 site parts.0, up (leb-true site c.sites parts.1)))
   where
-    up : site ≤ c.sites → site ≤ 16
+    up : site ≤ c.sites → site ≤ sites_max
     up k = omega arith
 
 polled_so : (c : Config) → IsNamed c → (lines : List ScheduleLine) → LinesFit c lines → (trace : Trace) → EachRecord (IsPlaced lines) trace → EachComesSo c trace → (n site : ℕ) → rows.was_polled lines trace n site ≡ true → was_polled c lines (reverse trace) n site ≡ true
@@ -191,8 +192,8 @@ polled_so c named lines fit trace placed comes n site h = any_more (λ m. rows.i
     by : (m : ℕ) (o : Option ℕ) → places.initiator lines trace m ≡ o → rows.is_another o site ≡ true → list_any (λ s. not (s == site) && starts_at c lines (reverse trace) m s) all_sites ≡ true
     by m None e k = false_true k
     by m (Some s) e k = (let it : Starts c lines trace m s = starts_so c named lines fit trace placed comes m s e
-        in let range : (1 ≤ s) × (s ≤ 16) = sixteen c named.sites s it.ours
-        in onto_has (λ x. not (x == site) && starts_at c lines (reverse trace) m x) 16 s [] range.0 range.1 (both (not (s == site)) (starts_at c lines (reverse trace) m s) k it.so))
+        in let range : (1 ≤ s) × (s ≤ sites_max) = within_sites c named.sites s it.ours
+        in onto_has (λ x. not (x == site) && starts_at c lines (reverse trace) m x) sites_max s [] range.0 range.1 (both (not (s == site)) (starts_at c lines (reverse trace) m s) k it.so))
 
     one : (m : ℕ) → rows.is_another (places.initiator lines trace m) site ≡ true → list_any (λ s. not (s == site) && starts_at c lines (reverse trace) m s) all_sites ≡ true
     one m k = by m (places.initiator lines trace m) refl k

@@ -6,6 +6,7 @@ use Rattle.std.specs.Option.{is_none, is_some, option_map}
 use Rattle.std.proofs.lemmas.Bool.Decides.{nat_tests}
 use Rattle.std.proofs.lemmas.List.{length-reverse}
 use Rattle.locus_ids.specs.declared.config.Config.{Config}
+use Rattle.locus_ids.specs.Sizes.{sites_max}
 use Rattle.commit_graph.specs.Vectors.{numbers_from}
 use Rattle.trace_book.specs.declared.entry.Entry.{Entry}
 use Rattle.trace_book.specs.declared.record.Record.{Record}
@@ -175,7 +176,7 @@ apart_is c now p a site = ap is_none (a.sites.epoch site) ∙ at (is_up now site
     at false e = ap is_none (a.sites.down site e)
 
 -- by the value, by the folds
-effect_is : (c : Config) → c.sites ≤ 16 → (earlier : List ScheduleLine) (now : Trace) (p : Past) → Agrees c now p → (l : ScheduleLine) → ((e : Line) → l ≡ Event e → fits_event c.sites e ≡ true) → has_no_effect earlier p l ≡ old.is_void_after earlier now l
+effect_is : (c : Config) → c.sites ≤ sites_max → (earlier : List ScheduleLine) (now : Trace) (p : Past) → Agrees c now p → (l : ScheduleLine) → ((e : Line) → l ≡ Event e → fits_event c.sites e ≡ true) → has_no_effect earlier p l ≡ old.is_void_after earlier now l
 effect_is c few earlier now p a (Event (line.Call site process words)) fit = ap (λ o. Some o) (ap (λ b. not b || list_any (waits_at site process) p.calls) (a.sites.up site (there site (both_parts (is_site c.sites site) (is_between 1 8 process) (both_parts (is_site c.sites site && is_between 1 8 process) (fits_call c.sites words) (fit (line.Call site process words) refl)).0).0)) ∙ ap (λ b. not (is_up now site) || b) waits)
   where
     there : (s : ℕ) → is_site c.sites s ≡ true → is_there p s ≡ true

@@ -3,6 +3,8 @@
 #![tactic(auto)]
 
 #[cfg(test)]
+mod checks;
+#[cfg(test)]
 mod commit_graph_tests;
 #[cfg(test)]
 mod conflict_flags_tests;

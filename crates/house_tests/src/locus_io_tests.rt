@@ -1,63 +1,63 @@
 ghost use Rattle.std.specs.Prelude.{None};
 
+use crate::checks::holds;
 use locus_ids::Bytes;
 use locus_io::{
     MemSink, MemSource, ReadFault, Sink, Source, StdSink, StdSource, SureSink, SureSource,
     WriteFault, give_all,
 };
 use std::io::{self, ErrorKind, Read, Write};
-use std::test::Fail;
 
 #[test]
-fn listed_reads_fail(rt: HostRuntime) -> Result<(), Fail> {
+fn listed_reads_fail(rt: HostRuntime) {
     let alloc = rt.alloc();
-    let bytes = Bytes::from_slice(alloc, b"abc")?;
-    let fails = Bytes::from_slice(alloc, &[2, 4])?;
+    let bytes = Bytes::from_slice(alloc, b"abc").expect(&rt, "no memory");
+    let fails = Bytes::from_slice(alloc, &[2, 4]).expect(&rt, "no memory");
     let mut source = MemSource::new(bytes, fails);
     let mut buf = [0; 2];
-    assert!(rt; source.take(&mut buf) == Ok(2));
-    assert!(rt; buf == [b'a', b'b']);
-    assert!(rt; source.take(&mut buf) == Err(ReadFault::Failed));
-    assert!(rt; source.take(&mut buf) == Ok(1));
-    assert!(rt; buf == [b'c', b'b']);
-    assert!(rt; source.take(&mut buf) == Err(ReadFault::Failed));
-    assert!(rt; source.take(&mut buf) == Ok(0));
-    Ok(())
+    holds(&rt, source.take(&mut buf) == Ok(2));
+    holds(&rt, buf == [b'a', b'b']);
+    holds(&rt, source.take(&mut buf) == Err(ReadFault::Failed));
+    holds(&rt, source.take(&mut buf) == Ok(1));
+    holds(&rt, buf == [b'c', b'b']);
+    holds(&rt, source.take(&mut buf) == Err(ReadFault::Failed));
+    holds(&rt, source.take(&mut buf) == Ok(0));
 }
 
 #[test]
-fn a_block_is_read_at_once(rt: HostRuntime) -> Result<(), Fail> {
+fn a_block_is_read_at_once(rt: HostRuntime) {
     let alloc = rt.alloc();
     let mut bytes = Bytes::new(alloc);
     for n in 0..100_000u32 {
-        bytes.push((n % 251) as u8)?;
+        bytes.push((n % 251) as u8).expect(&rt, "no memory");
     }
     let mut source = SureSource::new(bytes);
-    let mut buf = vec![in alloc; 0; 65_536]?;
-    assert!(rt; source.take(&mut buf) == Ok(65_536));
-    assert!(rt; buf.get(65_535) == Some(&24));
-    assert!(rt; source.take(&mut buf) == Ok(34_464));
-    assert!(rt; source.take(&mut []) == Ok(0));
-    assert!(rt; source.take(&mut buf) == Ok(0));
-    Ok(())
+    let mut buf = vec![in alloc; 0; 65_536].expect(&rt, "no memory");
+    holds(&rt, source.take(&mut buf) == Ok(65_536));
+    holds(&rt, buf.get(65_535) == Some(&24));
+    holds(&rt, source.take(&mut buf) == Ok(34_464));
+    holds(&rt, source.take(&mut []) == Ok(0));
+    holds(&rt, source.take(&mut buf) == Ok(0));
 }
 
 #[test]
-fn listed_writes_fail(rt: HostRuntime) -> Result<(), Fail> {
+fn listed_writes_fail(rt: HostRuntime) {
     let alloc = rt.alloc();
-    let mut sink = MemSink::new(alloc, Bytes::from_slice(alloc, &[2, 3])?);
-    assert!(rt; sink.give(b"ab") == Ok(2));
-    assert!(rt; sink.flush() == Err(WriteFault::Failed));
-    assert!(rt; sink.give(b"x") == Err(WriteFault::Failed));
-    assert!(rt; give_all(&mut sink, b"cd") == Ok(()));
-    assert!(rt; sink.flush() == Ok(()));
-    assert!(rt; sink.bytes() == b"abcd".as_slice());
+    let mut sink = MemSink::new(
+        alloc,
+        Bytes::from_slice(alloc, &[2, 3]).expect(&rt, "no memory"),
+    );
+    holds(&rt, sink.give(b"ab") == Ok(2));
+    holds(&rt, sink.flush() == Err(WriteFault::Failed));
+    holds(&rt, sink.give(b"x") == Err(WriteFault::Failed));
+    holds(&rt, give_all(&mut sink, b"cd") == Ok(()));
+    holds(&rt, sink.flush() == Ok(()));
+    holds(&rt, sink.bytes() == b"abcd".as_slice());
     let mut sure = SureSink::new(alloc);
-    assert!(rt; give_all(&mut sure, b"") == Ok(()));
-    assert!(rt; give_all(&mut sure, b"xyz") == Ok(()));
-    assert!(rt; sure.flush() == Ok(()));
-    assert!(rt; sure.bytes() == b"xyz".as_slice());
-    Ok(())
+    holds(&rt, give_all(&mut sure, b"") == Ok(()));
+    holds(&rt, give_all(&mut sure, b"xyz") == Ok(()));
+    holds(&rt, sure.flush() == Ok(()));
+    holds(&rt, sure.bytes() == b"xyz".as_slice());
 }
 
 /// A reader that always fails.
@@ -71,35 +71,36 @@ impl Read for Broken {
 }
 
 #[test]
-fn readers_of_std_are_sources(rt: HostRuntime) -> Result<(), Fail> {
+fn readers_of_std_are_sources(rt: HostRuntime) {
     let mut source = StdSource::new(b"abc".as_slice());
     let mut buf = [0; 2];
-    assert!(rt; source.take(&mut buf) == Ok(2));
-    assert!(rt; source.take(&mut buf) == Ok(1));
-    assert!(rt; buf == [b'c', b'b']);
-    assert!(rt; source.take(&mut buf) == Ok(0));
-    assert!(rt; StdSource::new(Broken).take(&mut buf) == Err(ReadFault::Failed));
-    Ok(())
+    holds(&rt, source.take(&mut buf) == Ok(2));
+    holds(&rt, source.take(&mut buf) == Ok(1));
+    holds(&rt, buf == [b'c', b'b']);
+    holds(&rt, source.take(&mut buf) == Ok(0));
+    holds(
+        &rt,
+        StdSource::new(Broken).take(&mut buf) == Err(ReadFault::Failed),
+    );
 }
 
 #[test]
-fn writers_of_std_are_sinks(rt: HostRuntime) -> Result<(), Fail> {
+fn writers_of_std_are_sinks(rt: HostRuntime) {
     let alloc = rt.alloc();
     let mut kept = Vec::new(alloc);
     {
         let mut sink = StdSink::new(&mut kept);
-        assert!(rt; give_all(&mut sink, b"abc") == Ok(()));
-        assert!(rt; sink.flush() == Ok(()));
+        holds(&rt, give_all(&mut sink, b"abc") == Ok(()));
+        holds(&rt, sink.flush() == Ok(()));
     }
-    assert!(rt; kept.as_slice() == b"abc".as_slice());
+    holds(&rt, kept.as_slice() == b"abc".as_slice());
     let mut narrow = [0u8; 2];
     {
         let mut sink = StdSink::new(narrow.as_mut_slice());
-        assert!(rt; give_all(&mut sink, b"xyz") == Err(WriteFault::Failed));
-        assert!(rt; sink.give(b"") == Ok(0));
+        holds(&rt, give_all(&mut sink, b"xyz") == Err(WriteFault::Failed));
+        holds(&rt, sink.give(b"") == Ok(0));
     }
-    assert!(rt; narrow == [b'x', b'y']);
-    Ok(())
+    holds(&rt, narrow == [b'x', b'y']);
 }
 
 /// A writer that holds back what it is given until it is flushed, and passes it on then, or fails.
@@ -128,7 +129,7 @@ impl Write for HeldBack {
 }
 
 #[test]
-fn a_flush_passes_on_what_a_writer_holds_back(rt: HostRuntime) -> Result<(), Fail> {
+fn a_flush_passes_on_what_a_writer_holds_back(rt: HostRuntime) {
     let alloc = rt.alloc();
     for (fails, answer, out) in [
         (false, Ok(()), b"abc".as_slice()),
@@ -141,10 +142,9 @@ fn a_flush_passes_on_what_a_writer_holds_back(rt: HostRuntime) -> Result<(), Fai
         };
         {
             let mut sink = StdSink::new(&mut writer);
-            assert!(rt; give_all(&mut sink, b"abc") == Ok(()));
-            assert!(rt; sink.flush() == answer);
+            holds(&rt, give_all(&mut sink, b"abc") == Ok(()));
+            holds(&rt, sink.flush() == answer);
         }
         assert!(rt; writer.out.as_slice() == out, "at {fails}");
     }
-    Ok(())
 }

@@ -1,40 +1,36 @@
 // Lines of recorded traces are read and printed back; lines with one thing wrong are bad.
-use locus_ids::{Bytes, NoMemory};
+use crate::checks::holds;
+use locus_ids::Bytes;
 use record_reading::{RecordFault, parse_record};
 use std::alloc::Global;
-use std::test::Fail;
+use std::process::Abort;
 use trace_book::Record;
 use trace_text::render;
 
 /// The text of the record, on this line and without the line feed, is the line.
-fn is_text(alloc: Global, number: u32, what: &Record, line: &[u8]) -> Result<bool, NoMemory> {
+fn is_text<R: Abort>(rt: &R, alloc: Global, number: u32, what: &Record, line: &[u8]) -> bool {
     let mut out = Bytes::new(alloc);
-    render(what, number, &mut out)?;
-    let mut wanted = Bytes::from_slice(alloc, line)?;
-    wanted.push(b'\n')?;
-    Ok(out.as_slice() == wanted.as_slice())
+    render(what, number, &mut out).expect(rt, "no memory");
+    let mut wanted = Bytes::from_slice(alloc, line).expect(rt, "no memory");
+    wanted.push(b'\n').expect(rt, "no memory");
+    out.as_slice() == wanted.as_slice()
 }
 
 /// The line is that of a record, which is printed as this very line.
-fn is_printed_back(alloc: Global, line: &[u8]) -> Result<bool, NoMemory> {
-    match &parse_record(alloc, line) {
-        Ok(read) => is_text(alloc, read.0, &read.1, line),
-        Err(RecordFault::Bad) => Ok(false),
-        Err(RecordFault::NoMemory) => Err(NoMemory),
-    }
+fn is_printed_back<R: Abort>(rt: &R, alloc: Global, line: &[u8]) -> bool {
+    let (number, what) = parse_record(alloc, line).expect(rt, "no record");
+    let same = is_text(rt, alloc, number, &what, line);
+    drop(what);
+    same
 }
 
 /// No record has this line.
-fn is_bad(alloc: Global, line: &[u8]) -> Result<bool, NoMemory> {
-    match &parse_record(alloc, line) {
-        Ok(_) => Ok(false),
-        Err(RecordFault::Bad) => Ok(true),
-        Err(RecordFault::NoMemory) => Err(NoMemory),
-    }
+fn is_bad(alloc: Global, line: &[u8]) -> bool {
+    parse_record(alloc, line).err() == Some(RecordFault::Bad)
 }
 
 #[test]
-fn records_of_sites_are_read(rt: HostRuntime) -> Result<(), Fail> {
+fn records_of_sites_are_read(rt: HostRuntime) {
     for line in [
         b"4294967295 up 2 2".as_slice(),
         b"4 stopped 2 asked",
@@ -46,13 +42,12 @@ fn records_of_sites_are_read(rt: HostRuntime) -> Result<(), Fail> {
         b"16 void",
         b"12 budget",
     ] {
-        assert!(rt; is_printed_back(rt.alloc(), line)?);
+        holds(&rt, is_printed_back(&rt, rt.alloc(), line));
     }
-    Ok(())
 }
 
 #[test]
-fn records_of_calls_are_read(rt: HostRuntime) -> Result<(), Fail> {
+fn records_of_calls_are_read(rt: HostRuntime) {
     for line in [
         b"8 call 1 8 c1.1.2 create /b 1,16".as_slice(),
         b"8 call 1 8 c1.1.2 open /b x 16",
@@ -74,13 +69,12 @@ fn records_of_calls_are_read(rt: HostRuntime) -> Result<(), Fail> {
         b"9 reply 1 1 c1.1.2 ok usr a@2 a@129",
         b"9 reply 1 1 c1.1.2 changed e1.1.1",
     ] {
-        assert!(rt; is_printed_back(rt.alloc(), line)?);
+        holds(&rt, is_printed_back(&rt, rt.alloc(), line));
     }
-    Ok(())
 }
 
 #[test]
-fn lines_of_no_record_are_bad(rt: HostRuntime) -> Result<(), Fail> {
+fn lines_of_no_record_are_bad(rt: HostRuntime) {
     for line in [
         b"".as_slice(),
         b"7",
@@ -102,13 +96,12 @@ fn lines_of_no_record_are_bad(rt: HostRuntime) -> Result<(), Fail> {
         b"7 adopt 4.2 1 1.1",
         b"7 commit 0.2 1 1.1 - AB",
     ] {
-        assert!(rt; is_bad(rt.alloc(), line)?);
+        holds(&rt, is_bad(rt.alloc(), line));
     }
-    Ok(())
 }
 
 #[test]
-fn calls_of_no_record_are_bad(rt: HostRuntime) -> Result<(), Fail> {
+fn calls_of_no_record_are_bad(rt: HostRuntime) {
     for line in [
         b"7 call 1 9 c1.1.1 list /".as_slice(),
         b"7 call 1 0 c1.1.1 list /",
@@ -128,7 +121,6 @@ fn calls_of_no_record_are_bad(rt: HostRuntime) -> Result<(), Fail> {
         b"7 reply 1 1 c1.1.1 absent",
         b"7 reply 1 1 c1.1.1 ok a/b",
     ] {
-        assert!(rt; is_bad(rt.alloc(), line)?);
+        holds(&rt, is_bad(rt.alloc(), line));
     }
-    Ok(())
 }

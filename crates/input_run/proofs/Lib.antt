@@ -1,5 +1,4 @@
 pub mod Calls
-mod Codes
 pub mod Complete
 pub mod Inputs
 pub mod Loads

@@ -6,29 +6,11 @@ use Rattle.locus_io.specs.Causes.{AppendsFront}
 use Rattle.schedule_lines.specs.declared.line.ScheduleLine.{ScheduleLine}
 use Rattle.the_run.specs.Worlds.{Limit}
 use Rattle.the_run.specs.Runs.{run}
-use Rattle.schedule_run.specs.declared.fault.RunFault.{RunFault}
-use Rattle.schedule_run.specs.declared.fault.RunFault.TheVariants.{Bad, NoMemory, World}
-use Rattle.schedule_run.specs.declared.load_fault.LoadFault.{LoadFault}
-use Rattle.schedule_run.specs.declared.load_fault.LoadFault.TheVariants as load
-use Rattle.run_book.specs.Ledgers.{limit_named}
-use Rattle.input_run.specs.declared.status.Status.{Status}
-use Rattle.input_run.specs.declared.status.Status.TheVariants as status
-use Rattle.input_run.specs.declared.status.Limited.TheVariants.{Line, Lines}
-use Rattle.input_run.specs.Codes.{limited}
+use Rattle.run_status.specs.declared.status.Status.{Status}
+use Rattle.run_status.specs.declared.status.Status.TheVariants as status
+use Rattle.run_status.specs.declared.status.Limited.TheVariants.{Line, Lines}
 use Rattle.input_run.specs.Inputs.{Input, StandsFor}
 use Rattle.input_run.specs.Runs.{output_of}
-
--- what a run comes to where the line of this number is not done
-abbrev pub status_of_line : RunFault → ℕ → Status
-status_of_line Bad number = status.BadLine number
-status_of_line NoMemory number = status.NoMemory
-status_of_line (World cause) number = status.NoMemory
-
--- what a load comes to where it was not run to its end
-abbrev pub status_of_load : LoadFault → Status
-status_of_load (load.Limit passed) = status.Limit (limited (limit_named passed))
-status_of_load load.NoMemory = status.NoMemory
-status_of_load (load.World cause) = status.NoMemory
 
 -- a turn may end a run so
 abbrev pub ends_turn : Status → Bool

@@ -3,19 +3,16 @@ ghost use Rattle.locus_io.specs.Causes.{Rose};
 ghost use Rattle.the_run.specs.Runs.{run as run_of};
 ghost use Rattle.the_run.specs.Commands.{load_lines, load_text};
 ghost use Rattle.generated_load.specs.Draws.{draws_of};
-ghost use Rattle.input_run.specs.Codes.{ends_written};
+ghost use Rattle.run_status.specs.Codes.{ends_written};
 ghost use Rattle.input_run.specs.Inputs.Input.{Schedule, Calls};
 ghost use Rattle.input_run.specs.Promises.{LinePromises, LoadPromises};
-ghost use Rattle.input_run.specs.Turns.{status_of_load as load_status};
 
 use crate::input::run_lines;
-use crate::status::{Limited, Status};
-use crate::turn::{send, status_of};
 use line_reader::LineReader;
 use locus_ids::sizes::LINE_BYTES;
 use locus_io::{Sink, Source};
-use run_book::Passed;
-use schedule_run::{LoadFault, ScheduleRunner, TreeRunner, WorldFault, run_load};
+use run_status::schedule_run::{ScheduleRunner, TreeRunner, run_load};
+use run_status::{Status, send, status_of, status_of_load};
 use std::alloc::Global;
 
 /// Runs a schedule and writes its trace.
@@ -75,26 +72,5 @@ pub fn make<K: Sink>(alloc: Global, number: u64, events: u32, sink: &mut K) -> S
     match send(sink, text.as_slice()) {
         Ok(()) => Status::Ok,
         Err(fault) => Status::from(fault),
-    }
-}
-
-/// What a load comes to where it was not run to its end. Nothing is wanting then but memory.
-fn status_of_load(fault: LoadFault) -> Status
-    requires { (cause : WorldFault) → fault ≡ LoadFault.World cause → cause ≡ WorldFault.NoMemory }
-    ensures { result ≡ load_status fault }
-{
-    match fault {
-        LoadFault::Limit(Passed::Packets) => Status::Limit {
-            what: Limited::Packets,
-        },
-        LoadFault::Limit(Passed::Bytes) => Status::Limit {
-            what: Limited::Bytes,
-        },
-        LoadFault::Limit(Passed::Trace) => Status::Limit {
-            what: Limited::Trace,
-        },
-        LoadFault::NoMemory => Status::NoMemory,
-        LoadFault::World(WorldFault::NoMemory) => Status::NoMemory,
-        LoadFault::World(_) => unreachable!(),
     }
 }

@@ -1,57 +1,14 @@
 ghost use Rattle.std.specs.Prelude.{◌≡◌, ℕ, ◌≤◌, ◌+◌, List, length, Some, None, true, OnOk, OnErr, IfErr};
-ghost use Rattle.std.specs.Io.KnownBytes.{Appends};
-ghost use Rattle.locus_io.specs.Causes.{Rose, AppendsFront};
+ghost use Rattle.locus_io.specs.Causes.{Rose};
 ghost use Rattle.schedule_lines.specs.declared.line.ScheduleLine.{ScheduleLine};
 ghost use Rattle.the_run.specs.Worlds.{Limit};
-ghost use Rattle.run_book.specs.Ledgers.{limit_in};
-ghost use Rattle.input_run.specs.Codes.{ends_written, limited};
+ghost use Rattle.run_status.specs.Codes.{ends_written, limited};
 ghost use Rattle.input_run.specs.Runs.{Refuses};
-ghost use Rattle.input_run.specs.Turns.{status_of_line, ends_turn, ends_telling, HasTold, Tells, TellsFront, Goes, IsCutShort};
+ghost use Rattle.input_run.specs.Turns.{ends_turn, ends_telling, HasTold, Tells, TellsFront, Goes, IsCutShort};
 
 use crate::runners::LineRunner;
-use crate::status::{Limited, Status};
-use locus_io::{Sink, WriteFault, give_all};
-use run_book::Passed;
-use schedule_run::{RunFault, WorldFault};
-
-/// What a run comes to where a line was not done. In the world of a run nothing is ever wanting but memory.
-pub fn status_of(fault: RunFault, number: u32) -> Status
-    requires { (cause : WorldFault) → fault ≡ RunFault.World cause → cause ≡ WorldFault.NoMemory }
-    ensures { result ≡ status_of_line fault number }
-{
-    match fault {
-        RunFault::Bad => Status::BadLine { line: number },
-        RunFault::NoMemory => Status::NoMemory,
-        RunFault::World(WorldFault::NoMemory) => Status::NoMemory,
-        RunFault::World(_) => unreachable!(),
-    }
-}
-
-/// Gives the bytes and flushes.
-pub fn send<K: Sink>(sink: &mut K, bytes: &[u8]) -> Result<(), WriteFault>
-    ensures ok { OnOk result (Appends (K.taken sink.old) (K.taken sink.new) bytes.now) }
-    ensures flushed { OnOk result (K.flushed sink.new ≡ K.taken sink.new) }
-    ensures err { OnErr result (AppendsFront (K.taken sink.old) (K.taken sink.new) bytes.now) }
-    ensures later { K.faults sink.old ≤ K.faults sink.new }
-    ensures failed { result ≡ Err WriteFault.Failed → Rose (K.faults sink.old) (K.faults sink.new) }
-{
-    give_all(sink, bytes)?;
-    sink.flush()
-}
-
-/// Where a limit was passed, the run ends.
-fn stop_past(passed: Option<Passed>) -> Result<(), Status>
-    ensures ok { OnOk result (limit_in passed ≡ None) }
-    ensures err { IfErr result (λ status. (limit : Limit) × (limit_in passed ≡ Some limit) × (status ≡ Status.Limit (limited limit))) }
-{
-    let what = match passed {
-        Some(Passed::Packets) => Limited::Packets,
-        Some(Passed::Bytes) => Limited::Bytes,
-        Some(Passed::Trace) => Limited::Trace,
-        None => return Ok(()),
-    };
-    Err(Status::Limit { what })
-}
+use locus_io::Sink;
+use run_status::{Status, send, status_of, stop_past};
 
 /// Gives the output that is fresh, and flushes.
 #[tactic(none)]

@@ -187,7 +187,7 @@ filter_same : (f g : Stamp → Bool) (P : Stamp → Type 0) → ((b : Stamp) →
 filter_same f g P same [] h = refl
 filter_same f g P same (b ∷ bs) h = ap (λ (x : Bool). cond x (b ∷ filter f bs) (filter f bs)) (same b h.0) ∙ ap (λ (xs : List Stamp). cond (g b) (b ∷ xs) xs) (filter_same f g P same bs h.1)
 
-kept_same : (c : Config) (file : FileId) (trace : List Line) → Grounds c file trace → (bs : List Stamp) → Every (StandsIn file (C file trace)) bs → kept (H c trace) file bs ≡ kept_by_vectors (H c trace) file bs
+pub kept_same : (c : Config) (file : FileId) (trace : List Line) → Grounds c file trace → (bs : List Stamp) → Every (StandsIn file (C file trace)) bs → kept (H c trace) file bs ≡ kept_by_vectors (H c trace) file bs
 kept_same c file trace k bs h =
     filter_same (λ a. not (is_covered (H c trace) file bs a)) (λ a. not (list_any (has_below (H c trace) file a) bs)) (StandsIn file (C file trace))
     (λ a s. ap not (any_same (is_proper_ancestor (H c trace) file a) (has_below (H c trace) file a) (StandsIn file (C file trace)) (λ b t. agree c file trace k a b s t) bs h)) bs h

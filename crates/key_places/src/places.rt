@@ -15,10 +15,16 @@ const MOST: usize = 8192;
 
 /// Keys in the order in which they came. Contracts see the newest one first; a place is the number of keys that came before,
 /// so that it is where the row of the key stands in a table that grows at its end. Most that came not long ago are found without the map.
-#[derive(Drop)]
 pub struct Places {
     all: AllPlaces,
     recent: Vec<Slot>,
+}
+
+// Taken apart in one place: where a table is dropped, the prover sees one call.
+impl Drop for Places {
+    fn drop(self) {
+        let Places { all: _, recent: _ } = self;
+    }
 }
 
 impl Model for Places {

@@ -11,7 +11,7 @@ inodes_max = 1024
 
 -- the most bytes that a content has on a disk and in memory, whatever kind of file it is of
 abbrev pub content_bytes_max : ℕ
-content_bytes_max = 65536
+content_bytes_max = 1110016
 
 -- the most bytes that a call gives a file; a call is refused that would pass it, also where a content could have more
 abbrev pub file_bytes_max : ℕ
@@ -25,9 +25,25 @@ directory_bytes_max = 65536
 abbrev pub page_bytes : ℕ
 page_bytes = 1024
 
--- the most pages that a content has: those that content_bytes_max bytes take
+-- the most pages that a content has: those that content_bytes_max bytes take; a slot and its tables name as many
 abbrev pub content_pages_max : ℕ
-content_pages_max = 64
+content_pages_max = 1084
+
+-- how many pages of a content its slot names: the first ones; tables name the others
+abbrev pub slot_pages : ℕ
+slot_pages = 60
+
+-- how many pages of a content a table names
+abbrev pub table_pages : ℕ
+table_pages = 512
+
+-- the most tables that a content has
+abbrev pub content_tables_max : ℕ
+content_tables_max = 2
+
+-- the tables of a pack
+abbrev pub pack_tables : ℕ
+pack_tables = 64
 
 -- the pages of a pack
 abbrev pub pack_pages : ℕ

@@ -7,7 +7,7 @@ pub const SITES: usize = 16;
 pub const INODES: u16 = 1_024;
 
 /// The most bytes that a content has on a disk and in memory, whatever kind of file it is of.
-pub const CONTENT_BYTES: usize = 65_536;
+pub const CONTENT_BYTES: usize = 1_110_016;
 
 /// The most bytes that a call gives a file. A call is refused that would pass it, also where a content could have more.
 pub const FILE_BYTES: usize = 65_536;
@@ -18,8 +18,20 @@ pub const DIRECTORY_BYTES: usize = 65_536;
 /// The bytes of a page.
 pub const PAGE_BYTES: usize = 1_024;
 
-/// The most pages that a content has: those that `CONTENT_BYTES` bytes take.
-pub const CONTENT_PAGES: usize = 64;
+/// The most pages that a content has: those that `CONTENT_BYTES` bytes take. A slot and its tables name as many.
+pub const CONTENT_PAGES: usize = 1_084;
+
+/// How many pages of a content its slot names: the first ones. Tables name the others.
+pub const SLOT_PAGES: usize = 60;
+
+/// How many pages of a content a table names.
+pub const TABLE_PAGES: usize = 512;
+
+/// The most tables that a content has.
+pub const CONTENT_TABLES: usize = 2;
+
+/// The tables of a pack.
+pub const PACK_TABLES: u16 = 64;
 
 /// The pages of a pack.
 pub const PACK_PAGES: u16 = 3_072;
@@ -37,7 +49,7 @@ pub const DESCRIPTOR_SPAN: u64 = 65_536;
 pub const INODE_SPAN: u64 = 65_536;
 
 /// The bytes of the area of a pack on its disk.
-pub const PACK_BYTES: u32 = 4_195_328;
+pub const PACK_BYTES: u32 = 5_309_440;
 
 /// The greatest length of a line of input without its line feed, in bytes.
 pub const LINE_BYTES: u32 = 16_384;

@@ -4,7 +4,7 @@ use Rattle.std.specs.Prelude.{Option, filter, min}
 use Rattle.std.specs.Str.{bytes_eq}
 use Rattle.std.proofs.lemmas.Slice.Eq.{bytes_eq-Decides}
 use Rattle.std.proofs.lemmas.Bool.{leb-true}
-use Rattle.locus_ids.specs.Sizes.{content_bytes_max, file_bytes_max, page_bytes}
+use Rattle.locus_ids.specs.Sizes.{file_bytes_max, page_bytes}
 use Rattle.trace_book.specs.declared.operation.Outcome.{Outcome}
 use Rattle.file_content.specs.Pages.{pages_of, pages_from, pages_between, pages_written, pages_replaced, is_replaced, page_of}
 use Rattle.role_steps.specs.of_file_effects.Effects.{Effect, is_refusal}
@@ -46,7 +46,7 @@ filter_few : (test : ℕ → Bool) (ps : List ℕ) → length (filter test ps) �
 filter_few test [] = omega arith
 filter_few test (p ∷ ps) = filtered_by (test p) p ps (filter test ps) (filter_few test ps)
 
-pub few_replaced : (old new : List ℕ) → length new ≤ content_bytes_max → length (pages_replaced old new) ≤ 65535
+pub few_replaced : (old new : List ℕ) → length new ≤ file_bytes_max → length (pages_replaced old new) ≤ 65535
 few_replaced old new h = omega (arith, filter_few (is_replaced old new) (pages_from 0 (pages_of (length new))), length-from 0 (pages_of (length new)))
 
 same_bytes : (xs : List ℕ) → bytes_eq xs xs ≡ true
@@ -76,4 +76,4 @@ keeps_so content s none = ap (leaves content s.outcome s.counts s.spent) (sym (n
 
 -- what fits ends within the greatest size
 pub fits_so : (b : Bool) (end : ℕ) → b ≡ leb end file_bytes_max → b ≡ true → end ≤ file_bytes_max
-fits_so b end is h = leb-true end content_bytes_max (sym is ∙ h)
+fits_so b end is h = leb-true end file_bytes_max (sym is ∙ h)

@@ -3,3 +3,4 @@ pub mod Judged
 pub mod Inserting
 pub mod Bounded
 pub mod Mended
+pub mod Zeros

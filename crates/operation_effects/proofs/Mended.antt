@@ -3,7 +3,7 @@ use Rattle.std.proofs.Common.{◌≡◌, ℕ, ◌<◌, ◌==◌, Bool, true, fal
 use Rattle.std.specs.List.{list_any}
 use Rattle.std.specs.Str.{bytes_eq}
 use Rattle.std.proofs.lemmas.Bool.Decides.{nat_tests}
-use Rattle.locus_ids.specs.Sizes.{content_bytes_max, directory_bytes_max}
+use Rattle.locus_ids.specs.Sizes.{file_bytes_max, directory_bytes_max}
 use Rattle.locus_ids.specs.declared.refusal.Refusal.TheVariants as refusal
 use Rattle.trace_book.specs.declared.operation.Outcome.TheVariants as outcome
 use Rattle.dir_format.specs.declared.entry.Entry.{Entry}
@@ -44,7 +44,7 @@ mended_so content ds m =
     let counts : Bool = has_several m.contents || not (bytes_eq new content) in
     unspent_by (mends content (has_several m.contents) new) (rescue_is_spent ds m.kept) (puts_by (ltb directory_bytes_max (length new)) content new counts refl ∙ sym (never_spent ds m.kept))
 
-pub too_long_so : (content joined : List ℕ) (several : Bool) → content_bytes_max < length joined
+pub too_long_so : (content joined : List ℕ) (several : Bool) → file_bytes_max < length joined
     → effect_by content (record { outcome = outcome.No refusal.TooLong; left = None; counts = false; spent = false }) ≡ mends content several joined
 too_long_so content joined several h =
     let over : ltb directory_bytes_max (length joined) ≡ true = grind (arith, nat_tests) in

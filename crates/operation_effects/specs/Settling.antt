@@ -1,6 +1,6 @@
 -- What an operation did to an open instance.
 use Rattle.std.specs.Prelude.{◌≡◌, ℕ, ◌≤◌, Bool, true, List, length, Option, Some, None}
-use Rattle.locus_ids.specs.Sizes.{content_bytes_max, directory_bytes_max}
+use Rattle.locus_ids.specs.Sizes.{file_bytes_max, directory_bytes_max}
 use Rattle.trace_book.specs.declared.operation.Outcome.{Outcome}
 use Rattle.dir_format.specs.Grammar.{dir_bytes}
 use Rattle.dir_format.specs.Effects.{DirEffect}
@@ -45,7 +45,7 @@ effects_by content (Some s) = Some (effect_by content s)
 -- what is left is no longer than a file may be
 abbrev pub IsShort : Option (List ℕ) → Type 0
 IsShort None = Unit {0}
-IsShort (Some new) = length new ≤ content_bytes_max
+IsShort (Some new) = length new ≤ file_bytes_max
 
 abbrev pub IsShortOf : Option Settled → Type 0
 IsShortOf None = Unit {0}

@@ -3,10 +3,12 @@ ghost use Rattle.locus_ids.specs.Sizes.{content_bytes_max};
 ghost use Rattle.file_content.specs.Contents.{cut, written};
 
 use locus_ids::NoMemory;
+use locus_ids::sizes::PAGE_BYTES;
 use std::alloc::Global;
 use std::marker::Model;
 
-/// The working content of an open file, at most 65,536 bytes, which is changed in place. Contracts see its bytes.
+/// The working content of an open file, which is changed in place. It may be as long as one on a disk; what a call gives is no
+/// longer than its rule allows. Contracts see its bytes.
 #[derive(Drop)]
 pub struct WorkingContent(Vec<u8>);
 
@@ -102,12 +104,16 @@ fn append(items: &mut Vec<u8>, bytes: &[u8]) -> Result<(), NoMemory>
     Ok(())
 }
 
+#[tactic(auto, using(crate::proofs::Zeros::zeros_more, crate::proofs::Zeros::zeros_last))]
 fn push_zeros(items: &mut Vec<u8>, count: usize) -> Result<(), NoMemory>
     ensures ok { OnOk result (items.new.items ≡ items.old.items ++ replicate count 0) }
     ensures few { length items.new.items ≤ length items.old.items + count }
 {
-    for _i in 0..count {
-        items.push(0)?;
+    let zeros = [0; PAGE_BYTES];
+    let mut left = count;
+    while left > PAGE_BYTES {
+        append(items, &zeros)?;
+        left -= PAGE_BYTES;
     }
-    Ok(())
+    append(items, &zeros[..left])
 }

@@ -1,7 +1,7 @@
 //! What becomes of an open instance by what an operation gives.
 
 ghost use Rattle.std.specs.Prelude.{◌≡◌, ◌+◌, ◌<◌, ◌≤◌, nat_le, length, [], Some, IfOk};
-ghost use Rattle.locus_ids.specs.Sizes.{content_bytes_max, file_bytes_max};
+ghost use Rattle.locus_ids.specs.Sizes.{file_bytes_max};
 ghost use Rattle.role_steps.specs.of_file_effects.Effects.{As, cuts, effect, tells};
 ghost use Rattle.trace_book.specs.declared.operation.Op.TheVariants as Op;
 ghost use Rattle.operation_effects.specs.Settling.{IsShort, effect_by, worked, worked_so};
@@ -129,7 +129,7 @@ fn put(
     free: u16,
 ) -> Result<Outcome, NoMemory>
     requires few { work.old.ops < 4294967295 }
-    requires short { length new.now ≤ content_bytes_max }
+    requires short { length new.now ≤ file_bytes_max }
     ensures { IfOk result (λ gave. worked_so (Some gave) work.new ≡ worked free work.old (Some (effect_by work.old.content (record { outcome = outcome; left = Some new.now; counts = counts; spent = spent })))) }
 {
     let alloc = work.changed.allocator();

@@ -6,6 +6,7 @@ mod counts;
 mod dispatch;
 mod fault;
 mod framing;
+mod holding;
 mod keys;
 mod letters;
 mod part;

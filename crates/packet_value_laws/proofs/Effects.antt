@@ -7,7 +7,7 @@ use Rattle.std.specs.List.{find}
 use Rattle.std.specs.Prelude.{nat_le}
 use Rattle.locus_ids.specs.declared.ids.Kind.{Kind}
 use Rattle.locus_ids.specs.declared.refusal.Refusal.TheVariants as refusal
-use Rattle.locus_ids.specs.Sizes.{content_bytes_max, directory_bytes_max, file_bytes_max, pack_pages, page_bytes}
+use Rattle.locus_ids.specs.Sizes.{file_bytes_max, directory_bytes_max, pack_pages, page_bytes}
 use Rattle.dir_format.specs.Contents.{entries_of, is_dir}
 use Rattle.dir_format.specs.Effects.{DirEffect, is_spent, live_entry, moved, removed, answers, live_one, refuses, becomes, dir_effect, empty_among, find_by, insert_beside, probe_beside, remove_entry, rename_beside, rename_by, rename_entry, size_of}
 use Rattle.dir_format.specs.Entries.{IsEntry, nothing_seen, pair_in, with_entry}
@@ -36,7 +36,7 @@ use Rattle.packet_value_laws.proofs.Fields.{kind_fits}
 
 pub record EffectFits (e : Effect) : Type 0 where
   pub result : outcomes.Fits e.result
-  pub size : length e.content ≤ content_bytes_max
+  pub size : length e.content ≤ file_bytes_max
   pub pages : length e.pages ≤ 65535
 
 abbrev pub EffectIfAny : Option Effect → Type 0
@@ -57,19 +57,19 @@ filter_most test (x ∷ xs) = over (test x) (filter_most test xs)
     over true h = omega (arith, h)
     over false h = omega (arith, h)
 
-replaced_few : (old new : List ℕ) → length new ≤ content_bytes_max → length (pages_replaced old new) ≤ 65535
+replaced_few : (old new : List ℕ) → length new ≤ file_bytes_max → length (pages_replaced old new) ≤ 65535
 replaced_few old new small =
     let a : length (pages_replaced old new) ≤ length (pages_from 0 (pages_of (length new))) = filter_most (is_replaced old new) (pages_from 0 (pages_of (length new))) in
     let b : length (pages_from 0 (pages_of (length new))) ≡ pages_of (length new) = from_length 0 (pages_of (length new)) in
     few (length new) (length (pages_from 0 (pages_of (length new)))) (length (pages_replaced old new)) small b a
   where
-    few : (n p q : ℕ) → n ≤ content_bytes_max → p ≡ (n + (page_bytes - 1)) / page_bytes → q ≤ p → q ≤ 65535
+    few : (n p q : ℕ) → n ≤ file_bytes_max → p ≡ (n + (page_bytes - 1)) / page_bytes → q ≤ p → q ≤ 65535
     few n p q s e le = omega (arith, s, e, le)
 
-between_few : (from end : ℕ) → end ≤ content_bytes_max → length (pages_between from end) ≤ 65535
+between_few : (from end : ℕ) → end ≤ file_bytes_max → length (pages_between from end) ≤ 65535
 between_few from end small = over (nat_lt from end)
   where
-    few : (n p : ℕ) → n ≤ content_bytes_max → (n + (page_bytes - 1)) / page_bytes - p ≤ 65535
+    few : (n p : ℕ) → n ≤ file_bytes_max → (n + (page_bytes - 1)) / page_bytes - p ≤ 65535
     few n p s = omega (arith, s)
 
     over : (b : Bool) → length (cond b (pages_from (from / page_bytes) (pages_of end - from / page_bytes)) []) ≤ 65535
@@ -132,14 +132,14 @@ empty_fits ds (shown ∷ others) h = h.0
 
 -- ---- one operation ----
 
-module _ (content : List ℕ) (small : length content ≤ content_bytes_max) where
+module _ (content : List ℕ) (small : length content ≤ file_bytes_max) where
   tells_fit : (r : Outcome) → outcomes.Fits r → EffectFits (tells content r)
   tells_fit r h = record { result = h; size = small; pages = omega arith }
 
   puts_fit : (new : List ℕ) (counts : Bool) → EffectFits (puts content new counts)
   puts_fit new counts = over (nat_lt directory_bytes_max (length new)) refl
     where
-      short : nat_lt directory_bytes_max (length new) ≡ false → length new ≤ content_bytes_max
+      short : nat_lt directory_bytes_max (length new) ≡ false → length new ≤ file_bytes_max
       short e = grind (arith, nat_tests)
 
       over : (b : Bool) → nat_lt directory_bytes_max (length new) ≡ b → EffectFits (cond b (tells content (outcome.No refusal.TooLong)) (record { result = outcome.Done; content = new; pages = pages_replaced content new; counts = counts; spent = false }))
@@ -149,11 +149,11 @@ module _ (content : List ℕ) (small : length content ≤ content_bytes_max) whe
   directory_fits : (d : DirEffect) → IsBounded d → DirFits d → EffectFits (on_directory content d)
   directory_fits d bounded h = record { result = h; size = left; pages = replaced_few content (directory_left content d) left }
     where
-      over : (b : Bool) → d.counts ≡ b → length (cond b (dir_bytes d.entries) content) ≤ content_bytes_max
+      over : (b : Bool) → d.counts ≡ b → length (cond b (dir_bytes d.entries) content) ≤ file_bytes_max
       over true e = bounded e
       over false e = small
 
-      left : length (directory_left content d) ≤ content_bytes_max
+      left : length (directory_left content d) ≤ file_bytes_max
       left = over d.counts refl
 
   in_directory_fits : (o : Option DirEffect) → AreBounded o → DirIfAny o → EffectIfAny (in_directory content o)
@@ -174,7 +174,7 @@ module _ (content : List ℕ) (small : length content ≤ content_bytes_max) whe
   read_fits : (at len : ℕ) → len ≤ 4096 → outcomes.Fits (outcome.Data (take len (drop at content)))
   read_fits at len le = let e : length (take len (drop at content)) ≡ min len (length (drop at content)) = length-take len (drop at content) in omega (arith, e, le)
 
-  written_small : (at : ℕ) (bytes : List ℕ) → at + length bytes ≤ file_bytes_max → length (take at (content ++ replicate (at - length content) 0) ++ bytes ++ drop (at + length bytes) content) ≤ content_bytes_max
+  written_small : (at : ℕ) (bytes : List ℕ) → at + length bytes ≤ file_bytes_max → length (take at (content ++ replicate (at - length content) 0) ++ bytes ++ drop (at + length bytes) content) ≤ file_bytes_max
   written_small at bytes fits =
       let zeros : List ℕ = replicate (at - length content) 0 in
       let filled : List ℕ = content ++ zeros in
@@ -199,7 +199,7 @@ module _ (content : List ℕ) (small : length content ≤ content_bytes_max) whe
   cut_fits : (len : ℕ) → EffectFits (cuts content len)
   cut_fits len = record { result = tt; size = less; pages = omega arith }
     where
-      less : length (take len content) ≤ content_bytes_max
+      less : length (take len content) ≤ file_bytes_max
       less = let e : length (take len content) ≡ min len (length content) = length-take len content in omega (arith, e, small)
 
   spent_fits : (spent : Bool) (o : Option Effect) → EffectIfAny o → EffectIfAny (or_spent spent o)

@@ -7,7 +7,7 @@ use Rattle.locus_ids.specs.declared.ids.FileId.{FileId}
 use Rattle.locus_ids.specs.declared.ids.Serial.{Serial}
 use Rattle.locus_ids.specs.declared.ids.Stamp.{Stamp}
 use Rattle.locus_ids.specs.declared.refusal.Refusal.TheVariants as refusal
-use Rattle.locus_ids.specs.Sizes.{content_bytes_max, pack_pages, page_bytes}
+use Rattle.locus_ids.specs.Sizes.{file_bytes_max, pack_pages, page_bytes}
 use Rattle.commit_graph.specs.Versions.{same_stamp}
 use Rattle.file_content.specs.Pages.{page_of, pages_of}
 use Rattle.file_effects.specs.Effects.{Effect, is_refusal}
@@ -169,7 +169,7 @@ on_look_ss_fits f us l stamp s listed k h = ((one_fits f us (body.LookDone l.cal
 
 -- ---- pages ----
 
-page_fits : (content : List ℕ) (page : ℕ) → length content ≤ content_bytes_max → nat_lt page (pages_of (length content)) ≡ true → (1 ≤ length (page_of content page)) × (length (page_of content page) ≤ page_bytes) × (page < 2 ^ 8)
+page_fits : (content : List ℕ) (page : ℕ) → length content ≤ file_bytes_max → nat_lt page (pages_of (length content)) ≡ true → (1 ≤ length (page_of content page)) × (length (page_of content page) ≤ page_bytes) × (page < 2 ^ 8)
 page_fits content page small e = all (length content) (length (page_of content page)) small below length_is
   where
     below : page < pages_of (length content)
@@ -178,7 +178,7 @@ page_fits content page small e = all (length content) (length (page_of content p
     length_is : length (page_of content page) ≡ min page_bytes (length content - page_bytes * page)
     length_is = let a : length (take page_bytes (drop (page_bytes * page) content)) ≡ min page_bytes (length (drop (page_bytes * page) content)) = length-take page_bytes (drop (page_bytes * page) content) in let b : length (drop (page_bytes * page) content) ≡ length content - page_bytes * page = length-drop (page_bytes * page) content in omega (arith, a, b)
 
-    all : (n m : ℕ) → n ≤ content_bytes_max → page < (n + (page_bytes - 1)) / page_bytes → m ≡ min page_bytes (n - page_bytes * page) → (1 ≤ m) × (m ≤ page_bytes) × (page < 2 ^ 8)
+    all : (n m : ℕ) → n ≤ file_bytes_max → page < (n + (page_bytes - 1)) / page_bytes → m ≡ min page_bytes (n - page_bytes * page) → (1 ≤ m) × (m ≤ page_bytes) × (page < 2 ^ 8)
     all n m s b e = (omega (arith, s, b, e), omega (arith, e), omega (arith, s, b))
 
 pulled_fits : (f : Frame) (from : ℕ) (file : FileId) (stamp : Stamp) (page : ℕ) (o : Option FileCopy) → IsListed f.members.boot from → files.Fits file → stamps.Fits stamp → Found CopyFits o → Every (SentFits f.members.boot) (pulled_page f from file stamp page o)

@@ -5,7 +5,7 @@ use Rattle.std.proofs.lemmas.Bool.Decides.{nat_tests}
 use Rattle.role_steps.proofs.of_plain_facts.Tests.{both_true}
 use Rattle.locus_ids.specs.declared.ids.FileId.{FileId}
 use Rattle.locus_ids.specs.declared.ids.Stamp.{Stamp}
-use Rattle.locus_ids.specs.Sizes.{content_bytes_max, page_bytes}
+use Rattle.locus_ids.specs.Sizes.{file_bytes_max, page_bytes}
 use Rattle.commit_graph.specs.Versions.{same_stamp}
 use Rattle.file_content.specs.Pages.{pages_of}
 use Rattle.wire_messages.specs.declared.body.Body.TheVariants as body
@@ -25,7 +25,7 @@ use Rattle.packet_value_laws.proofs.Fields.{every_flat, one_fits, size_most}
 abbrev pub PullsDone : List ℕ → Outcome (List Pull) → Type 0
 PullsDone boots o = Every (SentFits boots) o.sent × Every (PullFits boots) o.view
 
-page_low : (n size : ℕ) → n ≤ size → size ≤ content_bytes_max → pages_of n < 2 ^ 8
+page_low : (n size : ℕ) → n ≤ size → size ≤ file_bytes_max → pages_of n < 2 ^ 8
 page_low n size le most = omega (arith, le, most)
 
 pub pull_fits : (f : Frame) (p : Pull) → PullFits f.members.boot p → Every (SentFits f.members.boot) (pull_packets f p)

@@ -14,8 +14,10 @@ pub mod BudgetsPassed
 pub mod Delivered
 pub mod Staying
 pub mod Steadying
-pub mod MomentsHold
+pub mod RoundMoments
 pub mod VectorsNow
+pub mod VersionsAfter
+pub mod MomentsHold
 pub mod VersionsNow
 pub mod VoidLines
 pub mod Answered

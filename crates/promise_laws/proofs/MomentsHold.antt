@@ -7,18 +7,15 @@ use Rattle.locus_ids.specs.declared.ids.FileId.{FileId}
 use Rattle.locus_ids.specs.Sizes.{inode_span}
 use Rattle.schedule_lines.specs.Cluster.{config_of}
 use Rattle.schedule_lines.specs.Schedule.{AreInOrder}
-use Rattle.schedule_lines.specs.declared.line.Line.{Line as LineWords}
 use Rattle.schedule_lines.specs.declared.line.Line.TheVariants as line
 use Rattle.schedule_lines.specs.declared.line.ScheduleLine.{ScheduleLine}
-use Rattle.schedule_lines.specs.declared.line.ScheduleLine.TheVariants.{Passed, Event as EventLine}
+use Rattle.schedule_lines.specs.declared.line.ScheduleLine.TheVariants.{Event as EventLine}
 use Rattle.role_steps.specs.Storage.{copy_key}
 use Rattle.role_steps.specs.Tables.{row}
 use Rattle.role_steps.specs.Views.{SiteView, all_sites, file_key}
 use Rattle.role_steps.specs.declared.rounds.InEpoch.{InEpoch}
-use Rattle.the_run.specs.Kept.{Kept}
-use Rattle.the_run.specs.Runs.{budget_ends, delivers, ticks_to, run_in}
-use Rattle.the_run.specs.Worlds.{World, Place, Running, Stopped, Line, first_world}
-use Rattle.the_run.proofs.Runs.{every_run}
+use Rattle.the_run.specs.Runs.{ticks_to, run_in}
+use Rattle.the_run.specs.Worlds.{World, Place, Running, Stopped, Line}
 use Rattle.tree_model.specs.Files.{held_version}
 use Rattle.tree_model.specs.Folds.{Trace}
 use Rattle.lawful_trace.specs.Places.{line_at, lines_before}
@@ -39,48 +36,15 @@ use Rattle.rest_laws.proofs.Packs.{schedule_packs}
 use Rattle.rest_laws.proofs.Roles.{roles_do}
 use Rattle.rest_laws.proofs.Shown.{shown_entries}
 use Rattle.convergence_laws.proofs.of_calm_laws.Facts.{RoundFacts, round_facts}
-use Rattle.convergence_laws.proofs.of_calm_laws.Limits.{line_there, take_length}
 use Rattle.convergence_laws.proofs.of_calm_laws.Moments.{GoesOn, goes_itself, goes_round_kept}
-use Rattle.convergence_laws.proofs.of_calm_laws.Rounds.{round_kept, delivered_kept}
-use Rattle.convergence_laws.proofs.of_calm_laws.Twins.{delivers_as, round_run}
 use Rattle.convergence_laws.proofs.TraceTicked.{ticks_then, rest_earlier, holds_round}
 use Rattle.whole_run_laws.specs.Disks.{DisksHold}
-use Rattle.promise_laws.specs.Moments.{HoldsAfterEvents, IsAfterEvent, MomentsEndRounds}
+use Rattle.promise_laws.specs.Moments.{HoldsAfterEvents, IsAfterEvent}
+use Rattle.promise_laws.proofs.OneHistory.{history_is_one}
+use Rattle.promise_laws.proofs.RoundMoments.{kept_after}
 use Rattle.promise_laws.proofs.RunsHold.{few_groups}
 use Rattle.promise_laws.proofs.Steadying.{fitting}
-
--- ---- the end of a shorter round ----
-
-passed_event : (l : LineWords) → Passed ≡ EventLine l → ⊥
-passed_event l e = cc
-
-size_of : (lines : List ScheduleLine) (n most : ℕ) → line_at lines n ≡ EventLine (line.Settle most) → 1 + length (lines_before lines n) ≡ n
-size_of lines zero most e = absurd (passed_event (line.Settle most) e)
-size_of lines (suc k) most e =
-    let there : suc k ≤ length lines = line_there lines k (line.Settle most) e in
-    let l : length (take (suc k - 1) lines) ≡ suc k - 1 = take_length (suc k - 1) lines (omega (arith, there)) in omega (arith, l)
-
-pub moments_end : (c : Config) (lines : List ScheduleLine) → MomentsEndRounds c lines
-moments_end c lines w k = by_end (delivers_as c k.n k.deliveries start)
-  where
-    start : World
-    start = ticks_to c k.n all_sites (run_in c (lines_before lines k.n))
-
-    runs : run_in c (lines_before lines k.n ++ EventLine (line.Settle k.deliveries) ∷ []) ≡ delivers c k.n k.deliveries start
-    runs = round_run c (lines_before lines k.n) k.n k.deliveries (size_of lines k.n k.most k.settles)
-
-    by_end : (delivers c k.n k.deliveries start ≡ delivered c k.n k.deliveries start) ⊎ (delivers c k.n k.deliveries start ≡ budget_ends k.n (delivered c k.n k.deliveries start)) →
-        (run_in c (lines_before lines k.n ++ EventLine (line.Settle k.deliveries) ∷ []) ≡ w) ⊎ (run_in c (lines_before lines k.n ++ EventLine (line.Settle k.deliveries) ∷ []) ≡ budget_ends k.n w)
-    by_end (inl e) = inl (runs ∙ (e ∙ sym k.is_world))
-    by_end (inr e) = inr (runs ∙ (e ∙ ap (budget_ends k.n) (sym k.is_world)))
-
--- ---- what every event keeps ----
-
-kept_after : (c : Config) (P : World → Type 0) → Kept c P → P (first_world c) → (lines : List ScheduleLine) (w : World) → IsAfterEvent c lines w → P w
-kept_after c P k first lines w (inl h) = subst P (sym h.1) (every_run c P k first (take h.0 lines))
-kept_after c P k first lines w (inr (inl h)) = subst P (sym h.is_world) (ticks_kept c h.n P (round_kept c h.n P k) (take h.ticks all_sites) (run_in c (lines_before lines h.n)) (every_run c P k first (lines_before lines h.n)))
-kept_after c P k first lines w (inr (inr h)) = subst P (sym h.is_world) (delivered_kept c h.n P (round_kept c h.n P k) h.deliveries (ticks_to c h.n all_sites (run_in c (lines_before lines h.n)))
-    (ticks_kept c h.n P (round_kept c h.n P k) all_sites (run_in c (lines_before lines h.n)) (every_run c P k first (lines_before lines h.n))))
+use Rattle.promise_laws.proofs.VersionsAfter.{versions_after}
 
 -- ---- disks ----
 
@@ -130,6 +94,8 @@ module _ (lines : List ScheduleLine) (order : AreInOrder lines) where
   pub after_events : HoldsAfterEvents (config_of lines) lines
   after_events w h = record {
     disks = fact_disks (config_of lines) w (fact_after w h);
+    history = history_is_one (config_of lines) w;
+    versions = versions_after (config_of lines) lines w h;
     requests = kept_after (config_of lines) RequestsBounded (requests_kept (config_of lines)) (requests_first (config_of lines)) lines w h;
     deliveries = delivery_one (config_of lines) w (kept_after (config_of lines) KeptLooksOpenNone (looks_kept (config_of lines)) (looks_first (config_of lines)) lines w h);
   }

@@ -105,7 +105,7 @@ run_told lines = record {
   roots = run_roots (config_of lines) lines;
 }
 
-grounds : (c : Config) (f : FileId) (trace : List Line) → ToldSo trace → StampsAreOnce (past_of trace) → Grounds c f trace
+pub grounds : (c : Config) (f : FileId) (trace : List Line) → ToldSo trace → StampsAreOnce (past_of trace) → Grounds c f trace
 grounds c f trace k once =
     let s : Sound f (past_of trace) = sound f (past_of trace) k.numbered k.sited (once f) in
     record {

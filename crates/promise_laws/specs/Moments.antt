@@ -18,11 +18,13 @@ use Rattle.tree_model.specs.State.{has_stamp}
 use Rattle.tree_model.specs.Tree.{candidates, kept_in}
 use Rattle.lawful_trace.specs.Places.{line_at, lines_before}
 use Rattle.kept_laws.specs.Vectors.{has_below}
+use Rattle.copy_laws.specs.Hold.{VersionsAndCopiesHold}
 use Rattle.orderly_laws.specs.Calm.{delivered, ticked}
 use Rattle.bound_laws.specs.Asking.{RequestsBounded}
 use Rattle.bound_laws.specs.Deliveries.{DeliveriesSendOne}
 use Rattle.whole_run_laws.specs.Disks.{DisksHold}
 use Rattle.promise_laws.specs.Holding.{AtEachMoment, CommitsAreHeld}
+use Rattle.promise_laws.specs.OneHistory.{HistoryIsOne}
 
 -- ---- events ----
 
@@ -55,10 +57,13 @@ with_round lines most = lines ++ Event (line.Settle most) ∷ []
 abbrev pub MomentsEndRounds : Config → List ScheduleLine → Type 0
 MomentsEndRounds c lines = (w : World) (k : IsDelivering c lines w) → (run_in c (with_round (lines_before lines k.n) k.deliveries) ≡ w) ⊎ (run_in c (with_round (lines_before lines k.n) k.deliveries) ≡ budget_ends k.n w)
 
--- after each event the disks hold what the records tell, the requests of calls are within their bounds, and one delivery more sends at
--- most one packet that serves a call
+-- after each event the disks hold what the records tell; versions, by whichever name, are of one history; they have written vectors that
+-- tell ancestors, and each copy is a version whole; the requests of calls are within their bounds, and one delivery more sends at most one
+-- packet that serves a call
 pub record EventsLeave (c : Config) (w : World) : Type 0 where
   pub disks : DisksHold c w
+  pub history : HistoryIsOne c w
+  pub versions : VersionsAndCopiesHold c w
   pub requests : RequestsBounded w
   pub deliveries : DeliveriesSendOne c w
 

@@ -1,6 +1,6 @@
 ghost use Rattle.std.specs.Prelude.{reverse};
 ghost use Rattle.promises.specs.Progress.{LargeRoundsEnd};
-ghost use Rattle.promise_samples.specs.Altered.{Passes, Fails, mend, mend_again_after_its_refusal, refusal_for_want_of_a_number, another_refusal_without_a_number, write_refused_for_want_of_a_number};
+ghost use Rattle.promise_samples.specs.Altered.{CutBeforeTheGate, Fails, Passes, StaysByItsGate, mend, mend_again_after_its_refusal, refusal_for_want_of_a_number, another_refusal_without_a_number, write_refused_for_want_of_a_number};
 ghost use Rattle.promise_samples.specs.Examples.{Follows, IsAsked, IsNotAsked, ChangesRefused, CommitsUnaskedAt, IsLateAt, printed};
 ghost use Rattle.promise_samples.specs.First.{first};
 ghost use Rattle.promise_samples.specs.Busy.{busy};
@@ -49,6 +49,8 @@ pub fn altered_pasts_are_judged()
     ensures refusal_for_want_of_a_number { Passes refusal_for_want_of_a_number }
     ensures another_refusal_without_a_number { Fails another_refusal_without_a_number }
     ensures write_refused_for_want_of_a_number { Fails write_refused_for_want_of_a_number }
+    ensures cut_before_the_gate_of_a_long_file { CutBeforeTheGate }
+    ensures stay_by_the_gate_of_a_long_file { StaysByItsGate }
 {}
 
 /// The lines of these traces ask for their records.

@@ -3,8 +3,10 @@ use Rattle.std.specs.Prelude.{ℕ, zero, suc, ◌≡◌, ◌+◌, ◌-◌, ◌==
 use Rattle.std.specs.List.{list_any, list_all}
 use Rattle.std.specs.Option.{is_some, is_none}
 use Rattle.locus_ids.specs.declared.config.Config.{Config}
+use Rattle.locus_ids.specs.declared.ids.FileId.{FileId}
+use Rattle.locus_ids.specs.declared.ids.Stamp.{Stamp}
 use Rattle.commit_graph.specs.Versions.{content_of}
-use Rattle.file_content.specs.Pages.{pages_of}
+use Rattle.file_content.specs.Pages.{pages_of, pages_from, tables_written}
 use Rattle.trace_book.specs.declared.entry.Entry.{Entry}
 use Rattle.trace_book.specs.declared.record.Record.{Record}
 use Rattle.trace_book.specs.declared.record.Record.TheVariants as rec
@@ -64,13 +66,14 @@ pub data DiskCall : Type 0 where
 abbrev pub switch : (Bool → DiskCall) → List DiskCall
 switch moves = moves false ∷ moves true ∷ []
 
--- A version is written: its pages, its slot and a sync, its gate, and where an older slot was open the gate of that.
+-- A version is written: its blocks, which are pages and tables of page numbers, its slot and a sync, its gate, and where an older
+-- slot was open the gate of that.
 pub record Writing : Type 0 where
-  pub pages : ℕ
+  pub blocks : ℕ
   pub older : Bool
 
 abbrev pub calls_of : Writing → List DiskCall
-calls_of w = replicate (w.pages + 2) Plain ++ switch Opens ++ cond w.older (switch Closes) []
+calls_of w = replicate (w.blocks + 2) Plain ++ switch Opens ++ cond w.older (switch Closes) []
 
 -- a boot closes the losing half of the label where both are open, writes the other half, and switches to it
 abbrev pub label_calls : Disk → List DiskCall
@@ -108,13 +111,23 @@ stays w a = are_two_open a.leaves false (a.calls - a.used) (calls_of (record w {
 
 -- Versions that are written.
 
+-- how many pages this version of the file has, 0 where there is none
+abbrev pub pages_in : Past → FileId → Option Stamp → ℕ
+pages_in p f None = 0
+pages_in p f (Some stamp) = pages_of (length (content_of p.history f stamp))
+
+-- these pages of a version with so many (`now`) are written over what the site has, and with them each table under which the
+-- version has other pages than that
+abbrev pub writing_over : Past → ℕ → FileId → (now : ℕ) → List ℕ → Writing
+writing_over p site f now pages = record { blocks = length pages + length (tables_written (pages_in p f (held p site f)) now pages); older = is_some (held p site f) }
+
 -- a commit writes the pages that its instance has changed
 abbrev pub writing_by : Past → ℕ → Instance → Writing
-writing_by p site x = record { pages = length x.work.changed; older = is_some (held p site x.grant.file) }
+writing_by p site x = writing_over p site x.grant.file (pages_of (length x.work.content)) x.work.changed
 
 -- an adoption writes all pages of the version
 abbrev pub writing_of : Past → ℕ → Copy → Writing
-writing_of p site v = record { pages = pages_of (length (content_of p.history v.file v.stamp)); older = is_some (held p site v.file) }
+writing_of p site v = writing_over p site v.file (pages_in p v.file (Some v.stamp)) (pages_from 0 (pages_in p v.file (Some v.stamp)))
 
 -- how this record writes a version on the disk of the site, if it tells of one
 abbrev pub writings_in : Past → ℕ → Record → List Writing

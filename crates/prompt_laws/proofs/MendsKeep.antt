@@ -17,7 +17,7 @@ use Rattle.call_rules.specs.declared.want.Want.TheVariants as want
 use Rattle.locus_ids.specs.declared.refusal.Refusal.{Refusal}
 use Rattle.lawful_trace.specs.LineRows.{is_mend}
 use Rattle.role_steps.specs.Mends.{has_mend_in, is_mend_in, mends_in}
-use Rattle.role_steps.specs.Requests.{asks, asks_close_of, asks_op_of, descriptors_of, user_instance, waiting_key, waiting_of, without_waiting}
+use Rattle.role_steps.specs.Requests.{asks, asks_close_of, asks_op_of, descriptors_of, user_instance, waiting_key, waiting_of, waiting_span, without_waiting}
 use Rattle.role_steps.specs.Tables.{with_row, without_row}
 use Rattle.role_steps.specs.Using.{accepted, after_reply, holds_again, asks_want, frees, goes_on, next_want, on_call, replies, without_hope, own_call}
 use Rattle.role_steps.specs.Views.{Frame, Users}
@@ -123,11 +123,11 @@ frees_keep : (g process : ℕ) (words : Call) (u : Users) → KeepsMends g u (fr
 frees_keep g process (call.Close fd) u = record { hopeless = refl; stays = λ h. h }
 frees_keep g process _ u = record { hopeless = refl; stays = λ h. h }
 
-user_key : (g process : ℕ) (words : Call) → is_mend words ≡ false → 1 ≤ process → g < 16 → waiting_of process words ≡ g → ⊥
+user_key : (g process : ℕ) (words : Call) → is_mend words ≡ false → 1 ≤ process → g < waiting_span → waiting_of process words ≡ g → ⊥
 user_key g process (call.Mend file) e low small same = true_false e
 user_key g process _ e low small same = omega (arith, low, small, same)
 
-pub call_keeps : (g : ℕ) (f : Frame) (now : Option EpochId) (process : ℕ) (words : Call) (u : Users) → is_mend words ≡ false → 1 ≤ process → g < 16 → KeepsMends g u (on_call f now process words u).view
+pub call_keeps : (g : ℕ) (f : Frame) (now : Option EpochId) (process : ℕ) (words : Call) (u : Users) → is_mend words ≡ false → 1 ≤ process → g < waiting_span → KeepsMends g u (on_call f now process words u).view
 call_keeps g f now process words u e low small =
     let counted : Users = frees process words (record u { calls = u.calls + 1 }) in
     let w : WaitingCall = accepted process (u.calls + 1) words (beginning (descriptors_of u process) now (own_call f.me f.boot (u.calls + 1)) words) in

@@ -9,6 +9,7 @@ use Rattle.lawful_trace.specs.LineRows.{is_mend}
 use Rattle.role_steps.specs.Epochs.{begins_round, boots_where, chosen_members, chosen_set, decides_if, frame_in, is_sync_site, leaves_of, own_groups, part_boot, passed_over, passes_over, passes_over_of, starts_part, starts_part_of, unanswered}
 use Rattle.role_steps.specs.Mends.{has_mend_in, starts_mend, starts_mend_of, starts_mends_in, wants_mend}
 use Rattle.role_steps.specs.Reports.{new_table}
+use Rattle.role_steps.specs.Requests.{waiting_span}
 use Rattle.role_steps.specs.Tables.{first_that}
 use Rattle.role_steps.specs.Views.{Frame, Outcome, SiteView, Users, and_then, quiet}
 use Rattle.role_steps.specs.declared.rounds.InEpoch.{InEpoch}
@@ -89,7 +90,7 @@ parted_outside me links v = over v.epoch refl
 
 -- no mend of a site is left to start
 pub record HasNoneLeft (v : SiteView) (t : SyncTable) : Type 0 where
-  pub small : t.group < 16
+  pub small : t.group < waiting_span
   pub none : t.started ≡ true → has_mend_in v.users t.group ≡ false → NoneWants v t
 
 -- a site in no epoch, or none of whose mends is left

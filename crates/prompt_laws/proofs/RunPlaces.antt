@@ -48,6 +48,7 @@ use Rattle.trace_book.specs.declared.call.Call.{Call}
 use Rattle.trace_book.specs.declared.call.Call.TheVariants as call
 use Rattle.role_steps.specs.Adoption.{table_group}
 use Rattle.role_steps.specs.Epochs.{frame_in, is_sync_site, own_groups}
+use Rattle.role_steps.specs.Requests.{waiting_span}
 use Rattle.role_steps.specs.Using.{is_packed, is_some_site}
 use Rattle.role_steps.specs.Views.{all_groups, pack_sites}
 use Rattle.role_steps.specs.declared.synchronizing.SyncTable.{SyncTable}
@@ -173,15 +174,15 @@ passed_all p Q (x ∷ xs) h = at (p x) refl (passed_all p Q xs h.1)
     at true e k = ((e, h.0), k)
     at false e k = k
 
-all_small : Every (λ (g : ℕ). g < 16) all_groups
+all_small : Every (λ (g : ℕ). g < waiting_span) all_groups
 all_small = (omega (arith), (omega (arith), (omega (arith), (omega (arith), tt))))
 
 -- its tables are of groups that it synchronizes
 abbrev IsSynced : Config → ℕ → InEpoch → ℕ → Type 0
-IsSynced c s e g = (is_sync_site c s e.members g ≡ true) × (g < 16)
+IsSynced c s e g = (is_sync_site c s e.members g ≡ true) × (g < waiting_span)
 
 synced_all : (c : Config) (s boot : ℕ) (e : InEpoch) → Every (IsSynced c s e) (synced_groups (frame_in c s boot e))
-synced_all c s boot e = passed_all (is_sync_site c s e.members) (λ (g : ℕ). g < 16) (own_groups c s) (every_filter (λ (g : ℕ). g < 16) (λ (g : ℕ). has (pack_sites c g) s) all_groups all_small)
+synced_all c s boot e = passed_all (is_sync_site c s e.members) (λ (g : ℕ). g < waiting_span) (own_groups c s) (every_filter (λ (g : ℕ). g < waiting_span) (λ (g : ℕ). has (pack_sites c g) s) all_groups all_small)
 
 packed_in : (c : Config) (s : ℕ) (e : InEpoch) (g : ℕ) → is_sync_site c s e.members g ≡ true → is_packed (frame_in c 0 0 e) g ≡ true
 packed_in c s e g k = ap is_some_site (is_synced c s e.members g k)

@@ -1,6 +1,6 @@
 -- Pulls of versions that a file may have, and what is asked of them and of the site's own copy.
 use Rattle.std.specs.Prelude.{ℕ, ◌≤◌, Bool, true, false, List, [], ◌∷◌, length, Option, None, Some}
-use Rattle.locus_ids.specs.Sizes.{content_bytes_max}
+use Rattle.locus_ids.specs.Sizes.{file_bytes_max}
 use Rattle.locus_ids.specs.declared.ids.FileId.{FileId}
 use Rattle.locus_ids.specs.declared.ids.Stamp.{Stamp}
 use Rattle.commit_graph.specs.Versions.{same_stamp}
@@ -14,7 +14,7 @@ use Rattle.propagation.specs.declared.own_copy.CopyHead.{CopyHead}
 
 -- the version has no more bytes than a file may have, and no more have come than it has
 pub record IsSized (p : Pull) : Type 0 where
-  pub size : p.size ≤ content_bytes_max
+  pub size : p.size ≤ file_bytes_max
   pub content : length p.content ≤ p.size
 
 abbrev pub AreSized : List Pull → Type 0

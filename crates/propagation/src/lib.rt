@@ -9,5 +9,5 @@ mod puller;
 mod pulling;
 
 pub use adopting::{Adopting, adoptions_are_choices};
-pub use own_copy::CopyHead;
+pub use own_copy::{CopyHead, is_above_own};
 pub use puller::Puller;

@@ -11,7 +11,7 @@ use crate::CopyHead;
 use crate::own_copy::{is_below, same_stamp};
 use crate::pulling::{is_awaited, send_next};
 use keyed_tables::{SortedTable, file_key, find};
-use locus_ids::sizes::CONTENT_BYTES;
+use locus_ids::sizes::FILE_BYTES;
 use locus_ids::{FileId, NoMemory, SiteId, Stamp};
 use role_steps::Pull;
 use site_frame::SiteFrame;
@@ -99,7 +99,7 @@ impl Puller {
         ensures packets { (copy : Option FileCopy) → head_of copy ≡ own → IsSized pull → OnOk result (out.new.packets ≡ out.old.packets ++ (on_notify frame.now from copy pull self.old).sent) }
         ensures records { OnOk result (out.new.records ≡ out.old.records) }
     {
-        if pull.size as usize > CONTENT_BYTES || pull.content.len() > pull.size as usize {
+        if pull.size as usize > FILE_BYTES || pull.content.len() > pull.size as usize {
             return Ok(());
         }
         self.notified(frame, from, own, pull, out)

@@ -4,7 +4,7 @@ use Rattle.std.specs.Prelude.{◌&&◌, nat_le, nat_lt}
 use Rattle.std.specs.Fmt.{decimal}
 use Rattle.std.specs.List.{list_all}
 use Rattle.std.proofs.lemmas.Bool.{and_parts, false≢true}
-use Rattle.locus_ids.specs.Sizes.{content_bytes_max, descriptor_span, file_bytes_max, inodes_max, sites_max}
+use Rattle.locus_ids.specs.Sizes.{file_bytes_max, descriptor_span, inodes_max, sites_max}
 use Rattle.locus_ids.specs.Sites.{has}
 use Rattle.locus_ids.specs.declared.ids.Brought.{Brought}
 use Rattle.locus_ids.specs.declared.ids.CallId.{CallId}
@@ -363,12 +363,12 @@ record_line (Act epoch inst n asked given) h =
     j5 (codes "act ") (epoch_text epoch) (serial_text inst) (decimal n) (op_text asked) (outcome_text given) refl
     (epoch_line epoch p0.0) (serial_line inst p1.0) (number_line 1 number_max n (lit< tt) p2.0) l.0 l.1
 record_line (Commit file site stamp parents content) h =
-    let p0 = and_parts (is_file file) (is_any_site site && (is_stamp stamp && (list_all is_stamp parents && (is_data content_bytes_max content)))) h in
-    let p1 = and_parts (is_any_site site) (is_stamp stamp && (list_all is_stamp parents && (is_data content_bytes_max content))) p0.1 in
-    let p2 = and_parts (is_stamp stamp) (list_all is_stamp parents && (is_data content_bytes_max content)) p1.1 in
-    let p3 = and_parts (list_all is_stamp parents) (is_data content_bytes_max content) p2.1 in
+    let p0 = and_parts (is_file file) (is_any_site site && (is_stamp stamp && (list_all is_stamp parents && (is_data file_bytes_max content)))) h in
+    let p1 = and_parts (is_any_site site) (is_stamp stamp && (list_all is_stamp parents && (is_data file_bytes_max content))) p0.1 in
+    let p2 = and_parts (is_stamp stamp) (list_all is_stamp parents && (is_data file_bytes_max content)) p1.1 in
+    let p3 = and_parts (list_all is_stamp parents) (is_data file_bytes_max content) p2.1 in
     j5 (codes "commit ") (file_text file) (decimal site) (stamp_text stamp) (stamps_text parents) (hex_text content) refl
-    (file_line file p0.0) (number_line 1 sites_max site (lit< tt) p1.0) (stamp_line stamp p2.0) (stamps_line parents p3.0) (data_line content_bytes_max content p3.1)
+    (file_line file p0.0) (number_line 1 sites_max site (lit< tt) p1.0) (stamp_line stamp p2.0) (stamps_line parents p3.0) (data_line file_bytes_max content p3.1)
 record_line (Release epoch inst file stamp) h =
     let p0 = and_parts (is_epoch epoch) (is_instance inst && (is_file file && (is_optional_stamp stamp))) h in
     let p1 = and_parts (is_instance inst) (is_file file && (is_optional_stamp stamp)) p0.1 in

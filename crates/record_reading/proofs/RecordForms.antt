@@ -5,7 +5,7 @@ use Rattle.std.specs.Fmt.{decimal}
 use Rattle.std.specs.Option.{option_map}
 use Rattle.std.specs.Str.{bytes_eq}
 use Rattle.std.proofs.lemmas.Option.{none-some}
-use Rattle.locus_ids.specs.Sizes.{content_bytes_max}
+use Rattle.locus_ids.specs.Sizes.{file_bytes_max}
 use Rattle.locus_ids.specs.declared.ids.Brought.{Brought}
 use Rattle.locus_ids.specs.declared.ids.CallId.{CallId}
 use Rattle.locus_ids.specs.declared.ids.EpochId.{EpochId}
@@ -121,9 +121,9 @@ packet_case =
 
 commit_case : Case record_text is_record (codes "commit")
     (λ (t : FileId × (ℕ × (Stamp × (List Stamp × (List ℕ))))). Commit t.0 t.1.0 t.1.1.0 t.1.1.1.0 t.1.1.1.1)
-    (words_in file_in (words_in any_site_in (words_in stamp_in (words_in stamps_in ((data_in content_bytes_max))))))
+    (words_in file_in (words_in any_site_in (words_in stamp_in (words_in stamps_in ((data_in file_bytes_max))))))
 commit_case =
-    case_of (spaced (file_word 1) (spaced site_word (spaced (stamp_word 32 refl refl) (spaced stamps_word (data_word content_bytes_max).form))))
+    case_of (spaced (file_word 1) (spaced site_word (spaced (stamp_word 32 refl refl) (spaced stamps_word (data_word file_bytes_max).form))))
     (λ t. words_5 (codes "commit ") (file_text t.0) (decimal t.1.0) (stamp_text t.1.1.0) (stamps_text t.1.1.1.0) (hex_text t.1.1.1.1))
     (λ t. refl)
 

@@ -1,7 +1,7 @@
 -- Which records are well-formed: the ranges of what a record says. Nothing here depends on other records or on the cluster.
 use Rattle.std.specs.Prelude.{ℕ, ◌==◌, Bool, true, false, ◌&&◌, cond, List, length, nat_le, nat_lt, Option, None, Some}
 use Rattle.std.specs.List.{list_all}
-use Rattle.locus_ids.specs.Sizes.{content_bytes_max, file_bytes_max, inodes_max, sites_max}
+use Rattle.locus_ids.specs.Sizes.{file_bytes_max, inodes_max, sites_max}
 use Rattle.locus_ids.specs.declared.ids.Brought.{Brought}
 use Rattle.locus_ids.specs.declared.ids.CallId.{CallId}
 use Rattle.locus_ids.specs.declared.ids.EpochId.{EpochId}
@@ -219,7 +219,7 @@ is_record (Look epoch call request file what result) = is_epoch epoch && (is_cal
 is_record (Grant epoch call request inst mode file stamp ss) = is_epoch epoch && (is_call_id call && (is_request request && (is_instance inst && (is_file file && (is_optional_stamp stamp && is_any_site ss)))))
 is_record (Refuse epoch call request inst mode file why) = is_epoch epoch && (is_call_id call && (is_request request && (is_instance inst && (is_refused_file mode file && is_refusal why))))
 is_record (Act epoch inst n op result) = is_epoch epoch && (is_instance inst && (is_counted n && is_act op result))
-is_record (Commit file site stamp parents content) = is_file file && (is_any_site site && (is_stamp stamp && (list_all is_stamp parents && is_data content_bytes_max content)))
+is_record (Commit file site stamp parents content) = is_file file && (is_any_site site && (is_stamp stamp && (list_all is_stamp parents && is_data file_bytes_max content)))
 is_record (Release epoch inst file stamp) = is_epoch epoch && (is_instance inst && (is_file file && is_optional_stamp stamp))
 is_record (Adopt file site stamp) = is_file file && (is_any_site site && is_stamp stamp)
 is_record (Answer site process call reply) = is_any_site site && (is_process process && (is_call_id call && is_reply reply))

@@ -2,7 +2,7 @@
 use Rattle.std.specs.Prelude.{ℕ, cond, codes, List, [], Option, None, Some}
 use Rattle.std.specs.Option.{option_and_then, option_map}
 use Rattle.std.specs.Str.{bytes_eq}
-use Rattle.locus_ids.specs.Sizes.{content_bytes_max}
+use Rattle.locus_ids.specs.Sizes.{file_bytes_max}
 use Rattle.locus_ids.specs.declared.ids.Brought.{Brought}
 use Rattle.locus_ids.specs.declared.ids.FileId.{FileId}
 use Rattle.locus_ids.specs.declared.ids.Mode.{Mode}
@@ -128,7 +128,7 @@ release_in rest = option_map (λ t. Release t.0 t.1.0 t.1.1.0 t.1.1.1) (words_in
 
 abbrev pub commit_in : List ℕ → Option Record
 commit_in rest =
-    option_map (λ t. Commit t.0 t.1.0 t.1.1.0 t.1.1.1.0 t.1.1.1.1) (words_in file_in (words_in any_site_in (words_in stamp_in (words_in stamps_in (data_in content_bytes_max)))) rest)
+    option_map (λ t. Commit t.0 t.1.0 t.1.1.0 t.1.1.1.0 t.1.1.1.1) (words_in file_in (words_in any_site_in (words_in stamp_in (words_in stamps_in (data_in file_bytes_max)))) rest)
 
 abbrev pub adopt_in : List ℕ → Option Record
 adopt_in rest = option_map (λ t. Adopt t.0 t.1.0 t.1.1) (words_in file_in (words_in any_site_in stamp_in) rest)

@@ -1,11 +1,12 @@
 // What a trace tells of calls and of open instances.
 ghost use Rattle.std.specs.Prelude.{◌≡◌, IfOk};
+ghost use Rattle.record_words.specs.Fields.{any_site_in, file_in, mode_in, optional_stamp_in, words_in};
 ghost use Rattle.record_reading.specs.Ranges.{names_inode};
 ghost use Rattle.record_reading.specs.Records.{accept_in, act_record_in, answer_in, grant_in, look_record_in, refuse_in, refused_file_in, refused_open_in, release_in};
 
 use crate::{operations, requests};
 use line_text::two_words;
-use locus_ids::{FileId, Mode, NoMemory, Refusal};
+use locus_ids::{FileId, Mode, NoMemory, Refusal, Stamp};
 use record_words::fields::{self, any_site};
 use record_words::{answers, refusals};
 use std::alloc::Global;
@@ -97,13 +98,7 @@ pub(crate) fn grant(rest: &[u8]) -> Option<Record>
     let request = fields::request(request)?;
     let (inst, rest) = two_words(rest)?;
     let inst = fields::instance(inst)?;
-    let (mode, rest) = two_words(rest)?;
-    let mode = fields::mode(mode)?;
-    let (file, rest) = two_words(rest)?;
-    let file = fields::file(file)?;
-    let (stamp, rest) = two_words(rest)?;
-    let stamp = fields::optional_stamp(stamp)?;
-    let ss = any_site(rest)?;
+    let (mode, (file, (stamp, ss))) = granted_open(rest)?;
     Some(Record::Grant {
         epoch,
         call,
@@ -114,6 +109,20 @@ pub(crate) fn grant(rest: &[u8]) -> Option<Record>
         stamp,
         ss,
     })
+}
+
+/// What is granted: `MODE FILE STAMP SITE`.
+fn granted_open(rest: &[u8]) -> Option<(Mode, (FileId, (Option<Stamp>, u8)))>
+    ensures { result ≡ words_in mode_in (words_in file_in (words_in optional_stamp_in any_site_in)) rest.now }
+{
+    let (mode, rest) = two_words(rest)?;
+    let mode = fields::mode(mode)?;
+    let (file, rest) = two_words(rest)?;
+    let file = fields::file(file)?;
+    let (stamp, rest) = two_words(rest)?;
+    let stamp = fields::optional_stamp(stamp)?;
+    let ss = any_site(rest)?;
+    Some((mode, (file, (stamp, ss))))
 }
 
 /// `EPOCH CALL REQUEST INSTANCE MODE FILE REFUSAL`.

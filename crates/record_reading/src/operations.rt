@@ -6,7 +6,7 @@ use line_text::{hex_bytes, number, two_words};
 use locus_ids::NoMemory;
 use locus_ids::sizes::FILE_BYTES;
 use record_words::answers::{bytes_read, committed, done, found};
-use record_words::fields::{self, inode, short_number};
+use record_words::fields::{self, inode, is_word, short_number};
 use record_words::lists;
 use std::alloc::Global;
 use trace_book::{Op, Outcome};
@@ -25,25 +25,25 @@ pub(crate) fn act(alloc: Global, bytes: &[u8]) -> Result<Option<(Op, Outcome)>, 
 fn act_with(alloc: Global, word: &[u8], rest: &[u8]) -> Result<Option<(Op, Outcome)>, NoMemory>
     ensures { IfOk result (λ o. o ≡ act_with word.now rest.now) }
 {
-    if word == b"probe".as_slice() {
+    if is_word(word, b"probe") {
         return probe(alloc, rest);
     }
-    if word == b"find".as_slice() {
+    if is_word(word, b"find") {
         return find(alloc, rest);
     }
-    if word == b"insert".as_slice() {
+    if is_word(word, b"insert") {
         return insert(alloc, rest);
     }
-    if word == b"remove".as_slice() {
+    if is_word(word, b"remove") {
         return remove(alloc, rest);
     }
-    if word == b"rename".as_slice() {
+    if is_word(word, b"rename") {
         return rename(alloc, rest);
     }
-    if word == b"empty".as_slice() {
+    if is_word(word, b"empty") {
         return Ok(done(alloc, rest)?.map(|outcome| (Op::Empty, outcome)));
     }
-    if word == b"mend".as_slice() {
+    if is_word(word, b"mend") {
         return Ok(done(alloc, rest)?.map(|outcome| (Op::Mend, outcome)));
     }
     content_act(alloc, word, rest)
@@ -53,19 +53,19 @@ fn act_with(alloc: Global, word: &[u8], rest: &[u8]) -> Result<Option<(Op, Outco
 fn content_act(alloc: Global, word: &[u8], rest: &[u8]) -> Result<Option<(Op, Outcome)>, NoMemory>
     ensures { IfOk result (λ o. o ≡ content_act word.now rest.now) }
 {
-    if word == b"read".as_slice() {
+    if is_word(word, b"read") {
         return read(alloc, rest);
     }
-    if word == b"write".as_slice() {
+    if is_word(word, b"write") {
         return write(alloc, rest);
     }
-    if word == b"cut".as_slice() {
+    if is_word(word, b"cut") {
         return cut(alloc, rest);
     }
-    if word == b"commit".as_slice() {
+    if is_word(word, b"commit") {
         return Ok(committed(alloc, rest)?.map(|outcome| (Op::Commit, outcome)));
     }
-    if word == b"abort".as_slice() {
+    if is_word(word, b"abort") {
         return Ok(done(alloc, rest)?.map(|outcome| (Op::Abort, outcome)));
     }
     Ok(None)

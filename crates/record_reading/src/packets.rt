@@ -1,30 +1,31 @@
 ghost use Rattle.std.specs.Prelude.{◌≡◌};
 ghost use Rattle.record_reading.specs.Records.{copy_packet_in, packet_in, service_packet_in};
 
+use record_words::fields::is_word;
 use trace_book::PacketKind;
 
 pub(crate) fn packet(word: &[u8]) -> Option<PacketKind>
     ensures { result ≡ packet_in word.now }
 {
-    if word == b"poll".as_slice() {
+    if is_word(word, b"poll") {
         return Some(PacketKind::Poll);
     }
-    if word == b"promise".as_slice() {
+    if is_word(word, b"promise") {
         return Some(PacketKind::Promise);
     }
-    if word == b"refuse".as_slice() {
+    if is_word(word, b"refuse") {
         return Some(PacketKind::Refuse);
     }
-    if word == b"install".as_slice() {
+    if is_word(word, b"install") {
         return Some(PacketKind::Install);
     }
-    if word == b"joined".as_slice() {
+    if is_word(word, b"joined") {
         return Some(PacketKind::Joined);
     }
-    if word == b"report".as_slice() {
+    if is_word(word, b"report") {
         return Some(PacketKind::Report);
     }
-    if word == b"reportok".as_slice() {
+    if is_word(word, b"reportok") {
         return Some(PacketKind::ReportOk);
     }
     copy_packet(word)
@@ -34,25 +35,25 @@ pub(crate) fn packet(word: &[u8]) -> Option<PacketKind>
 fn copy_packet(word: &[u8]) -> Option<PacketKind>
     ensures { result ≡ copy_packet_in word.now }
 {
-    if word == b"look".as_slice() {
+    if is_word(word, b"look") {
         return Some(PacketKind::Look);
     }
-    if word == b"lookss".as_slice() {
+    if is_word(word, b"lookss") {
         return Some(PacketKind::LookSs);
     }
-    if word == b"lookdone".as_slice() {
+    if is_word(word, b"lookdone") {
         return Some(PacketKind::LookDone);
     }
-    if word == b"notify".as_slice() {
+    if is_word(word, b"notify") {
         return Some(PacketKind::Notify);
     }
-    if word == b"pull".as_slice() {
+    if is_word(word, b"pull") {
         return Some(PacketKind::Pull);
     }
-    if word == b"page".as_slice() {
+    if is_word(word, b"page") {
         return Some(PacketKind::Page);
     }
-    if word == b"have".as_slice() {
+    if is_word(word, b"have") {
         return Some(PacketKind::Have);
     }
     service_packet(word)
@@ -62,34 +63,34 @@ fn copy_packet(word: &[u8]) -> Option<PacketKind>
 fn service_packet(word: &[u8]) -> Option<PacketKind>
     ensures { result ≡ service_packet_in word.now }
 {
-    if word == b"open".as_slice() {
+    if is_word(word, b"open") {
         return Some(PacketKind::Open);
     }
-    if word == b"openss".as_slice() {
+    if is_word(word, b"openss") {
         return Some(PacketKind::OpenSs);
     }
-    if word == b"opened".as_slice() {
+    if is_word(word, b"opened") {
         return Some(PacketKind::Opened);
     }
-    if word == b"opendone".as_slice() {
+    if is_word(word, b"opendone") {
         return Some(PacketKind::OpenDone);
     }
-    if word == b"op".as_slice() {
+    if is_word(word, b"op") {
         return Some(PacketKind::Op);
     }
-    if word == b"opdone".as_slice() {
+    if is_word(word, b"opdone") {
         return Some(PacketKind::OpDone);
     }
-    if word == b"close".as_slice() {
+    if is_word(word, b"close") {
         return Some(PacketKind::Close);
     }
-    if word == b"closed".as_slice() {
+    if is_word(word, b"closed") {
         return Some(PacketKind::Closed);
     }
-    if word == b"closedok".as_slice() {
+    if is_word(word, b"closedok") {
         return Some(PacketKind::ClosedOk);
     }
-    if word == b"closedone".as_slice() {
+    if is_word(word, b"closedone") {
         return Some(PacketKind::CloseDone);
     }
     None

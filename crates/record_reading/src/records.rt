@@ -7,6 +7,7 @@ use crate::site_records::{join, leave, packet, start, stopped, up};
 use crate::version_records::{adopt, commit};
 use line_text::two_words;
 use locus_ids::NoMemory;
+use record_words::fields::is_word;
 use std::alloc::Global;
 use trace_book::Record;
 
@@ -23,10 +24,10 @@ pub(crate) fn record(alloc: Global, bytes: &[u8]) -> Result<Option<Record>, NoMe
 fn short_record(word: &[u8]) -> Option<Record>
     ensures { result ≡ short_record word.now }
 {
-    if word == b"void".as_slice() {
+    if is_word(word, b"void") {
         return Some(Record::Void);
     }
-    if word == b"budget".as_slice() {
+    if is_word(word, b"budget") {
         return Some(Record::Budget);
     }
     None
@@ -36,28 +37,28 @@ fn short_record(word: &[u8]) -> Option<Record>
 fn long_record(alloc: Global, word: &[u8], rest: &[u8]) -> Result<Option<Record>, NoMemory>
     ensures { IfOk result (λ o. o ≡ long_record word.now rest.now) }
 {
-    if word == b"up".as_slice() {
+    if is_word(word, b"up") {
         return Ok(up(rest));
     }
-    if word == b"stopped".as_slice() {
+    if is_word(word, b"stopped") {
         return Ok(stopped(rest));
     }
-    if word == b"leave".as_slice() {
+    if is_word(word, b"leave") {
         return Ok(leave(rest));
     }
-    if word == b"join".as_slice() {
+    if is_word(word, b"join") {
         return Ok(join(rest));
     }
-    if word == b"grant".as_slice() {
+    if is_word(word, b"grant") {
         return Ok(grant(rest));
     }
-    if word == b"release".as_slice() {
+    if is_word(word, b"release") {
         return Ok(release(rest));
     }
-    if word == b"adopt".as_slice() {
+    if is_word(word, b"adopt") {
         return Ok(adopt(rest));
     }
-    if word == b"packet".as_slice() {
+    if is_word(word, b"packet") {
         return Ok(packet(rest));
     }
     kept_record(alloc, word, rest)
@@ -67,25 +68,25 @@ fn long_record(alloc: Global, word: &[u8], rest: &[u8]) -> Result<Option<Record>
 fn kept_record(alloc: Global, word: &[u8], rest: &[u8]) -> Result<Option<Record>, NoMemory>
     ensures { IfOk result (λ o. o ≡ kept_record word.now rest.now) }
 {
-    if word == b"start".as_slice() {
+    if is_word(word, b"start") {
         return start(alloc, rest);
     }
-    if word == b"call".as_slice() {
+    if is_word(word, b"call") {
         return accept(alloc, rest);
     }
-    if word == b"look".as_slice() {
+    if is_word(word, b"look") {
         return look(alloc, rest);
     }
-    if word == b"refuse".as_slice() {
+    if is_word(word, b"refuse") {
         return refuse(alloc, rest);
     }
-    if word == b"act".as_slice() {
+    if is_word(word, b"act") {
         return act(alloc, rest);
     }
-    if word == b"commit".as_slice() {
+    if is_word(word, b"commit") {
         return commit(alloc, rest);
     }
-    if word == b"reply".as_slice() {
+    if is_word(word, b"reply") {
         return answer(alloc, rest);
     }
     Ok(None)

@@ -6,7 +6,7 @@ ghost use Rattle.record_reading.specs.Records.{cause_in, group_with, join_in, le
 use crate::packets;
 use line_text::two_words;
 use locus_ids::{ItemList, NoMemory};
-use record_words::fields::{self, any_site, counted};
+use record_words::fields::{self, any_site, counted, is_word};
 use record_words::lists;
 use std::alloc::Global;
 use trace_book::{BroughtList, Record, StopCause};
@@ -24,13 +24,13 @@ pub(crate) fn up(rest: &[u8]) -> Option<Record>
 fn cause(word: &[u8]) -> Option<StopCause>
     ensures { result ≡ cause_in word.now }
 {
-    if word == b"asked".as_slice() {
+    if is_word(word, b"asked") {
         return Some(StopCause::Asked);
     }
-    if word == b"fuse".as_slice() {
+    if is_word(word, b"fuse") {
         return Some(StopCause::Fuse);
     }
-    if word == b"fault".as_slice() {
+    if is_word(word, b"fault") {
         return Some(StopCause::Fault);
     }
     None

@@ -4,7 +4,7 @@ ghost use Rattle.record_reading.specs.Records.{adopt_in, commit_in};
 
 use line_text::two_words;
 use locus_ids::NoMemory;
-use locus_ids::sizes::CONTENT_BYTES;
+use locus_ids::sizes::FILE_BYTES;
 use record_words::fields::{self, any_site};
 use record_words::lists;
 use std::alloc::Global;
@@ -38,7 +38,7 @@ pub(crate) fn commit(alloc: Global, rest: &[u8]) -> Result<Option<Record>, NoMem
     let Some(parents) = lists::stamps(alloc, parents)? else {
         return Ok(None);
     };
-    let Some(content) = lists::data(alloc, rest, CONTENT_BYTES)? else {
+    let Some(content) = lists::data(alloc, rest, FILE_BYTES)? else {
         return Ok(None);
     };
     Ok(Some(Record::Commit {

@@ -4,7 +4,7 @@ ghost use Rattle.record_words.specs.Answers.{long_refusal, refusal_in, short_ref
 ghost use Rattle.record_words.specs.Fields.{any_site_in, inode_in, process_in, short_in, stamp_in, words_in};
 ghost use Rattle.locus_ids.specs.declared.refusal.Refusal.TheVariants as refusal;
 
-use crate::fields::{any_site, epoch, inode, process, short, stamp};
+use crate::fields::{any_site, epoch, inode, is_word, process, short, stamp};
 use crate::lists::component;
 use line_text::two_words;
 use locus_ids::{NoMemory, Refusal};
@@ -23,37 +23,37 @@ pub fn refusal(alloc: Global, bytes: &[u8]) -> Result<Option<Refusal>, NoMemory>
 fn short_refusal(word: &[u8]) -> Option<Refusal>
     ensures { result ≡ short_refusal word.now }
 {
-    if word == b"isdir".as_slice() {
+    if is_word(word, b"isdir") {
         return Some(Refusal::IsDir);
     }
-    if word == b"nostorage".as_slice() {
+    if is_word(word, b"nostorage") {
         return Some(Refusal::NoStorage);
     }
-    if word == b"nopartition".as_slice() {
+    if is_word(word, b"nopartition") {
         return Some(Refusal::NoPartition);
     }
-    if word == b"baddescriptor".as_slice() {
+    if is_word(word, b"baddescriptor") {
         return Some(Refusal::BadDescriptor);
     }
-    if word == b"toolong".as_slice() {
+    if is_word(word, b"toolong") {
         return Some(Refusal::TooLong);
     }
-    if word == b"noinode".as_slice() {
+    if is_word(word, b"noinode") {
         return Some(Refusal::NoInode);
     }
-    if word == b"badname".as_slice() {
+    if is_word(word, b"badname") {
         return Some(Refusal::BadName);
     }
-    if word == b"readonly".as_slice() {
+    if is_word(word, b"readonly") {
         return Some(Refusal::ReadOnly);
     }
-    if word == b"nodescriptor".as_slice() {
+    if is_word(word, b"nodescriptor") {
         return Some(Refusal::NoDescriptor);
     }
-    if word == b"spent".as_slice() {
+    if is_word(word, b"spent") {
         return Some(Refusal::Spent);
     }
-    if word == b"noconflict".as_slice() {
+    if is_word(word, b"noconflict") {
         return Some(Refusal::NoConflict);
     }
     None
@@ -63,34 +63,34 @@ fn short_refusal(word: &[u8]) -> Option<Refusal>
 fn long_refusal(alloc: Global, word: &[u8], rest: &[u8]) -> Result<Option<Refusal>, NoMemory>
     ensures { IfOk result (λ o. o ≡ long_refusal word.now rest.now) }
 {
-    if word == b"busy".as_slice() {
+    if is_word(word, b"busy") {
         return Ok(busy(rest));
     }
-    if word == b"absent".as_slice() {
+    if is_word(word, b"absent") {
         return Ok(component(alloc, rest)?.map(|name| Refusal::Absent { name }));
     }
-    if word == b"notdir".as_slice() {
+    if is_word(word, b"notdir") {
         return Ok(component(alloc, rest)?.map(|name| Refusal::NotDir { name }));
     }
-    if word == b"exists".as_slice() {
+    if is_word(word, b"exists") {
         return Ok(inode(rest).map(|ino| Refusal::Exists { ino }));
     }
-    if word == b"notempty".as_slice() {
+    if is_word(word, b"notempty") {
         return Ok(component(alloc, rest)?.map(|name| Refusal::NotEmpty { name }));
     }
-    if word == b"conflict".as_slice() {
+    if is_word(word, b"conflict") {
         return Ok(conflict(rest));
     }
-    if word == b"ambiguous".as_slice() {
+    if is_word(word, b"ambiguous") {
         return Ok(ambiguous(rest));
     }
-    if word == b"changed".as_slice() {
+    if is_word(word, b"changed") {
         return Ok(epoch(rest).map(|epoch| Refusal::Changed { epoch }));
     }
-    if word == b"stale".as_slice() {
+    if is_word(word, b"stale") {
         return Ok(epoch(rest).map(|epoch| Refusal::Stale { epoch }));
     }
-    if word == b"nospace".as_slice() {
+    if is_word(word, b"nospace") {
         return Ok(no_space(rest));
     }
     Ok(None)

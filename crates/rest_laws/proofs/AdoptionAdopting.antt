@@ -1,6 +1,6 @@
 -- One adoption: what it tells, writes and sends, and what the site has then.
 use Rattle.std.proofs.Common.{◌≡◌, ℕ, ◌==◌, Bool, true, false, List, [], ◌∷◌, map, Option, Some, None, length, refl, sym, ◌∙◌, ap, subst, inl, inr}
-use Rattle.role_steps.proofs.of_plain_facts.Numbers.{equal_self}
+use Rattle.role_steps.proofs.of_plain_facts.Numbers.{equal, equal_self}
 use Rattle.role_steps.proofs.of_plain_facts.Tests.{true_false}
 use Rattle.commit_graph.specs.Versions.{content_of}
 use Rattle.file_content.specs.Pages.{pages_of, pages_from}
@@ -125,7 +125,7 @@ module _ (c : Config) (n : ℕ) (trace : List Line) (f : Frame) (v : SiteView) (
       own = (refl, tt);
       view = noted (row table_group p.file.group v.tables) refl;
       sent = adopted_sent c n trace k.past.rest.packs k.past.followed (stores c n trace f v p k) f k.inside.frame v.store k.inside.store p k.pull (complete c n trace f v p k) (wants c n trace f v p k) k.above;
-      written = record { own = refl; may = may c n trace f v p k; held = store.copies; pages = ap (λ (n : ℕ). pages_from 0 (pages_of n)) all_pages };
+      written = record { own = refl; may = may c n trace f v p k; held = store.copies; pages = ap (λ (n : ℕ). pages_from 0 (pages_of n)) all_pages; now = ap pages_of (equal (length p.content) p.size (complete c n trace f v p k) ∙ all_pages) };
     }
       where
         all_pages : p.size ≡ length (content_of (history c (entries trace)) p.file p.stamp)

@@ -1,9 +1,8 @@
 // What an outbox has, as text: each packet by its receiver, its kind and what it says, and then each record as a trace has it.
-use locus_ids::{Bytes, CallId, EpochId, FileId, Mode, Refusal, Serial, Stamp};
+use locus_ids::{Bytes, FileId, Mode, Refusal, Serial, Stamp};
 use std::alloc::Global;
 use std::test::Fail;
 use trace_book::{Op, Outcome, Record, Reply};
-use trace_text::render;
 use wire_messages::{Body, CloseAnswer, Granted, LookAnswer, OpenedAs, Outbox};
 
 /// What an outbox has, with `; ` between.
@@ -17,7 +16,7 @@ pub fn shown(alloc: Global, out: &Outbox) -> Result<String, Fail> {
     }
     for record in out.records().as_slice() {
         part(&mut text)?;
-        push_record(alloc, &mut text, record, 2, 1)?;
+        push_record(alloc, &mut text, record)?;
     }
     Ok(text)
 }
@@ -30,56 +29,43 @@ fn part(text: &mut String) -> Result<(), Fail> {
     Ok(())
 }
 
-/// The text of a record without so many bytes before and behind it.
-fn push_record(
-    alloc: Global,
-    text: &mut String,
-    record: &Record,
-    before: usize,
-    behind: usize,
-) -> Result<(), Fail> {
-    let mut line = Bytes::new(alloc);
-    render(record, 0, &mut line)?;
-    let end = line.len().saturating_sub(behind);
-    let shown = line.as_slice().get(before..end).ok_or("a short line")?;
-    text.push_str(str::from_utf8(shown)?)?;
+/// The text that the bytes are.
+fn push_bytes(text: &mut String, bytes: &Bytes) -> Result<(), Fail> {
+    text.push_str(str::from_utf8(bytes.as_slice())?)?;
     Ok(())
 }
 
-/// An operation as a trace has it, behind `0 act e0.0.0 ` and before ` ok`.
-pub fn push_op(alloc: Global, text: &mut String, inst: Serial, op: &Op) -> Result<(), Fail> {
-    let record = Record::Act {
-        epoch: EpochId {
-            number: 0,
-            site: 0,
-            boot: 0,
-        },
-        inst,
-        n: 0,
-        op: op.copy()?,
-        result: Outcome::Done,
-    };
-    push_record(alloc, text, &record, 13, 4)
+/// A record as a trace has it.
+fn push_record(alloc: Global, text: &mut String, record: &Record) -> Result<(), Fail> {
+    let mut bytes = Bytes::new(alloc);
+    trace_text::push_record(&mut bytes, record)?;
+    push_bytes(text, &bytes)
 }
 
-/// A reply as a trace has it, behind `0 reply 0 0 c0.0.0 `.
+/// An operation as a trace has it, behind its instance and the number 0.
+pub fn push_op(alloc: Global, text: &mut String, inst: Serial, op: &Op) -> Result<(), Fail> {
+    let Serial { us, serial } = inst;
+    write!(text, "i{us}.{serial} 0 ")?;
+    let mut bytes = Bytes::new(alloc);
+    trace_text::push_op(&mut bytes, op)?;
+    push_bytes(text, &bytes)
+}
+
+/// A reply as a trace has it.
 pub fn push_reply(alloc: Global, text: &mut String, reply: Reply) -> Result<(), Fail> {
-    let record = Record::Answer {
-        site: 0,
-        process: 0,
-        call: CallId {
-            site: 0,
-            boot: 0,
-            n: 0,
-        },
-        reply,
-    };
-    push_record(alloc, text, &record, 19, 1)
+    push_answer(alloc, text, &reply)
+}
+
+fn push_answer(alloc: Global, text: &mut String, reply: &Reply) -> Result<(), Fail> {
+    let mut bytes = Bytes::new(alloc);
+    trace_text::push_reply(&mut bytes, reply)?;
+    push_bytes(text, &bytes)
 }
 
 fn push_refusal(alloc: Global, text: &mut String, why: &Refusal) -> Result<(), Fail> {
-    let why = why.copy()?;
-    push_reply(alloc, text, Reply::No { why })
+    let mut bytes = Bytes::new(alloc);
+    trace_text::push_refusal(&mut bytes, why)?;
+    push_bytes(text, &bytes)
 }
 
 pub fn push_file(text: &mut String, file: FileId) -> Result<(), Fail> {
@@ -240,21 +226,13 @@ fn push_operation(alloc: Global, text: &mut String, body: &Body) -> Result<(), F
 }
 
 fn push_outcome(alloc: Global, text: &mut String, outcome: &Outcome) -> Result<(), Fail> {
-    match outcome {
-        Outcome::Done => push_reply(alloc, text, Reply::Done),
-        Outcome::Found { ino, .. } => {
-            write!(text, "found {ino}")?;
-            Ok(())
-        }
-        Outcome::Data { bytes } => {
-            let bytes = bytes.copy()?;
-            push_reply(alloc, text, Reply::Data { bytes })
-        }
-        Outcome::Committed { stamp } => {
-            push_reply(alloc, text, Reply::Committed { stamp: *stamp })
-        }
-        Outcome::No { why } => push_refusal(alloc, text, why),
+    if let Outcome::Found { ino, .. } = outcome {
+        write!(text, "found {ino}")?;
+        return Ok(());
     }
+    let mut bytes = Bytes::new(alloc);
+    trace_text::push_outcome(&mut bytes, outcome)?;
+    push_bytes(text, &bytes)
 }
 
 fn push_closing(text: &mut String, body: &Body) -> Result<(), Fail> {
@@ -289,10 +267,13 @@ fn push_closed(alloc: Global, text: &mut String, body: &Body) -> Result<(), Fail
 
 fn push_close_answer(alloc: Global, text: &mut String, answer: &CloseAnswer) -> Result<(), Fail> {
     match answer {
-        CloseAnswer::Nothing => push_reply(alloc, text, Reply::Closed { stamp: None }),
+        CloseAnswer::Nothing => {
+            text.push_str("ok")?;
+            Ok(())
+        }
         CloseAnswer::Made { stamp } => {
-            let stamp = Some(*stamp);
-            push_reply(alloc, text, Reply::Closed { stamp })
+            text.push_str("ok")?;
+            push_stamp(text, *stamp)
         }
         CloseAnswer::No { why } => push_refusal(alloc, text, why),
     }

@@ -3,15 +3,19 @@
 #![tactic(auto)]
 
 #[cfg(test)]
-mod epoch_tests;
+mod checks;
 #[cfg(test)]
-mod given;
+mod epoch_tests;
 #[cfg(test)]
 mod merge_tests;
 #[cfg(test)]
 mod pull_tests;
 #[cfg(test)]
 mod script_tests;
+#[cfg(test)]
+mod told;
+#[cfg(test)]
+mod using;
 #[cfg(test)]
 mod using_tests;
 #[cfg(test)]

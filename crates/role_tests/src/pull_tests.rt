@@ -1,8 +1,9 @@
 // propagation: site 2 pulls versions of two pages.
-use crate::given::{given, is_text};
+use crate::checks::{given, holds, is_text};
+use crate::told::told;
 use locus_ids::{Bytes, FileId, Kind, Sites};
 use propagation::{Adopting, CopyHead, Puller};
-use role_shown::{FILE, frame, shown, site, stamp, vector};
+use role_shown::{FILE, frame, site, stamp, vector};
 use role_steps::Pull;
 use site_frame::SiteFrame;
 use std::alloc::Global;
@@ -11,11 +12,21 @@ use version_vector::Vector;
 use wire_messages::Outbox;
 
 /// The puller at work. Each call gives what it sends.
-#[derive(Drop)]
 struct Pulling {
     puller: Puller,
     frame: SiteFrame,
     alloc: Global,
+}
+
+// Taken apart in one place: where one is dropped, the prover sees one call.
+impl Drop for Pulling {
+    fn drop(self) {
+        let Pulling {
+            puller: _,
+            frame: _,
+            alloc: _,
+        } = self;
+    }
 }
 
 impl Pulling {
@@ -35,6 +46,7 @@ impl Pulling {
         vector: Vector<16>,
         own: Option<CopyHead>,
     ) -> Result<String, Fail> {
+        let from = site(1)?;
         let mut out = Outbox::new(self.alloc);
         let pull = Pull {
             file: FileId { group: 0, ino },
@@ -43,26 +55,28 @@ impl Pulling {
             size: 1_536,
             stamp: stamp(1, n),
             vector,
-            holder: site(1)?,
+            holder: from,
             content: Bytes::new(self.alloc),
         };
-        self.puller
-            .on_notify(&self.frame, site(1)?, own, pull, &mut out)?;
-        shown(self.alloc, &out)
+        let done = self
+            .puller
+            .on_notify(&self.frame, from, own, pull, &mut out);
+        told(self.alloc, out, done)
     }
 
     /// A page of version 1.n of the file has come.
     fn gets(&mut self, n: u32, page: u8, bytes: &[u8]) -> Result<String, Fail> {
         let mut out = Outbox::new(self.alloc);
-        self.puller
-            .on_page(&self.frame, FILE, stamp(1, n), page, bytes, &mut out)?;
-        shown(self.alloc, &out)
+        let done = self
+            .puller
+            .on_page(&self.frame, FILE, stamp(1, n), page, bytes, &mut out);
+        told(self.alloc, out, done)
     }
 
     fn ticks(&self) -> Result<String, Fail> {
         let mut out = Outbox::new(self.alloc);
-        self.puller.repeats(&self.frame, &mut out)?;
-        shown(self.alloc, &out)
+        let done = self.puller.repeats(&self.frame, &mut out);
+        told(self.alloc, out, done)
     }
 }
 
@@ -79,8 +93,8 @@ fn pages_are_asked_for_one_after_the_other(rt: HostRuntime) {
     is_text(&rt, pulling.gets(1, 1, &[7; 512]), "");
     is_text(&rt, pulling.ticks(), "");
     let pull = pulling.puller.take(FILE).expect(&rt, "no pull");
-    assert!(rt; pull.content.len() == 1_536);
-    assert!(rt; pulling.puller.len() == 0);
+    holds(&rt, pull.content.len() == 1_536);
+    holds(&rt, pulling.puller.len() == 0);
 }
 
 #[test]
@@ -115,7 +129,7 @@ fn only_a_version_above_the_own_one_is_pulled(rt: HostRuntime) {
     );
     is_text(&rt, pulling.notified(2, 1, vector(1, 0, 0), own()), "");
     is_text(&rt, pulling.notified(2, 3, vector(1, 0, 1), own()), "");
-    assert!(rt; pulling.puller.as_slice().len() == 0);
+    holds(&rt, pulling.puller.as_slice().len() == 0);
     is_text(
         &rt,
         pulling.notified(2, 3, vector(3, 0, 0), own()),
@@ -129,9 +143,9 @@ fn only_a_version_above_the_own_one_is_pulled(rt: HostRuntime) {
         pulling.notified(2, 5, vector(4, 0, 0), own()),
         "1 pull 0 0.2 1.5",
     );
-    assert!(rt; pulling.puller.as_slice().len() == 1);
+    holds(&rt, pulling.puller.as_slice().len() == 1);
     pulling.puller.drop_pull(FILE);
-    assert!(rt; pulling.puller.len() == 0);
+    holds(&rt, pulling.puller.len() == 0);
 }
 
 /// A site where each pull is ready, and that of inode 2 is stale.
@@ -160,8 +174,8 @@ fn a_stale_pull_is_dropped_and_the_next_one_taken(rt: HostRuntime) {
         given(&rt, pulling.notified(ino, 1, vector(1, 0, 0), None));
     }
     let taken = pulling.puller.choose(&Ready).expect(&rt, "none is chosen");
-    assert!(rt; taken.file.ino == 3);
-    assert!(rt; pulling.puller.len() == 1);
+    holds(&rt, taken.file.ino == 3);
+    holds(&rt, pulling.puller.len() == 1);
     pulling.puller.leave();
-    assert!(rt; pulling.puller.len() == 0);
+    holds(&rt, pulling.puller.len() == 0);
 }

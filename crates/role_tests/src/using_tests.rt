@@ -1,112 +1,15 @@
 // using_site: site 1, and at it process 1. Its storage site is site 2.
-use crate::given::{given, is_text};
+use crate::checks::{given, holds, is_text};
+use crate::told::told;
+use crate::using::Using;
 use locus_ids::{Kind, Members, Mode, Refusal, Stamp, Stamps};
-use role_shown::{ROOT, bytes, epoch, frame, shown, site, stamp};
-use site_frame::SiteFrame;
+use role_shown::{ROOT, bytes, epoch, site, stamp};
 use std::alloc::Global;
 use std::process::Abort;
 use std::test::Fail;
 use trace_book::{Call, OpenMode, Outcome};
-use using_site::UsingSite;
 use version_vector::Vector;
 use wire_messages::{CloseAnswer, Granted, LookAnswer, Outbox};
-
-/// The using site at work. Each call gives what it sends and tells.
-#[derive(Drop)]
-struct Using {
-    users: UsingSite,
-    frame: SiteFrame,
-    alloc: Global,
-}
-
-impl Using {
-    fn new(alloc: Global) -> Result<Using, Fail> {
-        Ok(Using {
-            users: UsingSite::new(alloc),
-            frame: frame(alloc, 1)?,
-            alloc,
-        })
-    }
-
-    fn calls(&mut self, words: Call) -> Result<String, Fail> {
-        let mut out = Outbox::new(self.alloc);
-        let now = Some(self.frame.epoch);
-        self.users.call(&self.frame, now, 1, words, &mut out)?;
-        shown(self.alloc, &out)
-    }
-
-    fn opens(&mut self, path: &str, mode: OpenMode) -> Result<String, Fail> {
-        let path = bytes(self.alloc, path)?;
-        self.calls(Call::Open { path, mode })
-    }
-
-    fn reads(&mut self, fd: u16) -> Result<String, Fail> {
-        self.calls(Call::Read { fd, at: 0, len: 3 })
-    }
-
-    fn looked(
-        &mut self,
-        call: u32,
-        request: u16,
-        take: u32,
-        answer: LookAnswer,
-    ) -> Result<String, Fail> {
-        let mut out = Outbox::new(self.alloc);
-        self.users
-            .on_look_done(&self.frame, call, request, take, answer, &mut out)?;
-        shown(self.alloc, &out)
-    }
-
-    fn opened(&mut self, serial: u32, answer: Granted) -> Result<String, Fail> {
-        let kept = Stamps::new(self.alloc);
-        self.opened_to_mend(kept, serial, answer)
-    }
-
-    fn opened_to_mend(
-        &mut self,
-        kept: Stamps,
-        serial: u32,
-        answer: Granted,
-    ) -> Result<String, Fail> {
-        let mut out = Outbox::new(self.alloc);
-        self.users
-            .on_open_done(&self.frame, kept, serial, answer, &mut out)?;
-        shown(self.alloc, &out)
-    }
-
-    fn did(&mut self, serial: u32, number: u32, outcome: Outcome) -> Result<String, Fail> {
-        let mut out = Outbox::new(self.alloc);
-        self.users
-            .on_op_done(&self.frame, serial, number, outcome, &mut out)?;
-        shown(self.alloc, &out)
-    }
-
-    fn closed(&mut self, serial: u32, answer: CloseAnswer) -> Result<String, Fail> {
-        let mut out = Outbox::new(self.alloc);
-        self.users
-            .on_close_done(&self.frame, serial, answer, &mut out)?;
-        shown(self.alloc, &out)
-    }
-
-    fn mends(&mut self) -> Result<String, Fail> {
-        let mut out = Outbox::new(self.alloc);
-        self.users.start_mend(&self.frame, ROOT, &mut out)?;
-        shown(self.alloc, &out)
-    }
-
-    fn leaves(&mut self) -> Result<String, Fail> {
-        let mut out = Outbox::new(self.alloc);
-        let (me, left) = (self.frame.me, self.frame.epoch);
-        self.users.leave(me, 1, left, &mut out)?;
-        shown(self.alloc, &out)
-    }
-
-    fn ticks(&self) -> Result<String, Fail> {
-        let mut out = Outbox::new(self.alloc);
-        self.users.repeats(&self.frame, &mut out)?;
-        shown(self.alloc, &out)
-    }
-}
 
 fn found() -> LookAnswer {
     LookAnswer::Found {
@@ -146,8 +49,8 @@ fn an_open_looks_and_takes_a_descriptor(rt: HostRuntime) {
         using.opens("/a", OpenMode::Read),
         "1 look 1.1.1 0.1; call 1 1 c1.1.1 open /a r",
     );
-    assert!(rt; using.users.is_busy(1));
-    assert!(rt; !using.users.is_busy(2));
+    holds(&rt, using.users.is_busy(1));
+    holds(&rt, !using.users.is_busy(2));
     is_text(&rt, using.ticks(), "1 look 1.1.1 0.1");
     is_text(&rt, using.looked(1, 1, 1, found()), "1 open 1 0.2");
     is_text(
@@ -155,11 +58,11 @@ fn an_open_looks_and_takes_a_descriptor(rt: HostRuntime) {
         using.opened(1, given(&rt, granted())),
         "reply 1 1 c1.1.1 ok 0",
     );
-    assert!(rt; !using.users.is_busy(1));
-    assert!(rt; using.users.lowest_free(1) == Some(1));
+    holds(&rt, !using.users.is_busy(1));
+    holds(&rt, using.users.lowest_free(1) == Some(1));
     let descriptor = using.users.descriptor(1, 0).expect(&rt, "no descriptor");
-    assert!(rt; descriptor.mode == Mode::Read);
-    assert!(rt; using.users.descriptor(2, 0).is_none());
+    holds(&rt, descriptor.mode == Mode::Read);
+    holds(&rt, using.users.descriptor(2, 0).is_none());
 }
 
 #[test]
@@ -191,7 +94,7 @@ fn an_operation_is_answered_by_its_own_outcome(rt: HostRuntime) {
         using.calls(Call::Close { fd: 0 }),
         "2 close 1; call 1 1 c1.1.3 close 0",
     );
-    assert!(rt; using.users.lowest_free(1) == Some(0));
+    holds(&rt, using.users.lowest_free(1) == Some(0));
     let made = CloseAnswer::Made { stamp: stamp(2, 2) };
     is_text(&rt, using.closed(1, made), "reply 1 1 c1.1.3 ok 2.2");
 }
@@ -208,7 +111,7 @@ fn other_answers_are_ignored(rt: HostRuntime) {
     is_text(&rt, using.looked(2, 1, 1, found()), "");
     is_text(&rt, using.opened(1, given(&rt, granted())), "");
     is_text(&rt, using.closed(1, CloseAnswer::Nothing), "");
-    assert!(rt; using.users.is_busy(1));
+    holds(&rt, using.users.is_busy(1));
     is_text(
         &rt,
         using.did(1, 1, no_space()),
@@ -266,7 +169,7 @@ fn a_refused_open_takes_no_descriptor(rt: HostRuntime) {
         using.opened(1, Granted::No { why }),
         "reply 1 1 c1.1.1 busy 3 2",
     );
-    assert!(rt; using.users.lowest_free(1) == Some(0));
+    holds(&rt, using.users.lowest_free(1) == Some(0));
 }
 
 #[test]
@@ -274,7 +177,7 @@ fn a_descriptor_is_stale_in_the_next_epoch(rt: HostRuntime) {
     let mut using = opened(&rt, rt.alloc());
     given(&rt, using.reads(0));
     is_text(&rt, using.leaves(), "reply 1 1 c1.1.2 changed e1.1.1");
-    assert!(rt; !using.users.is_busy(1));
+    holds(&rt, !using.users.is_busy(1));
     using.frame.epoch = epoch(2, 1, 1);
     is_text(
         &rt,
@@ -312,13 +215,11 @@ fn outside_of_all_epochs_a_call_is_refused(rt: HostRuntime) {
     using.frame.members = Members { boot: [0; 16] };
     let path = given(&rt, bytes(using.alloc, "/a"));
     let mut out = Outbox::new(using.alloc);
-    using
-        .users
-        .call(&using.frame, None, 1, Call::Stat { path }, &mut out)
-        .expect(&rt, "no memory");
+    let words = Call::Stat { path };
+    let done = using.users.call(&using.frame, None, 1, words, &mut out);
     is_text(
         &rt,
-        shown(using.alloc, &out),
+        told(using.alloc, out, done),
         "call 1 1 c1.1.1 stat /a; reply 1 1 c1.1.1 nopartition",
     );
 }
@@ -341,11 +242,11 @@ fn kept(alloc: Global, versions: [Stamp; 2]) -> Result<Stamps, Fail> {
 #[test]
 fn a_mend_brings_each_kept_version(rt: HostRuntime) {
     let mut using = mending(&rt, rt.alloc());
-    assert!(rt; using.users.has_mend(ROOT));
-    assert!(rt; using.users.has_mend_in(0));
-    assert!(rt; !using.users.has_mend_in(1));
-    assert!(rt; using.users.mend_opening(1) == Some(ROOT));
-    assert!(rt; using.users.mend_opening(2) == None);
+    holds(&rt, using.users.has_mend(ROOT));
+    holds(&rt, using.users.has_mend_in(0));
+    holds(&rt, !using.users.has_mend_in(1));
+    holds(&rt, using.users.mend_opening(1) == Some(ROOT));
+    holds(&rt, using.users.mend_opening(2) == None);
     let versions = given(&rt, kept(using.alloc, [stamp(1, 1), stamp(2, 1)]));
     is_text(
         &rt,
@@ -364,7 +265,7 @@ fn a_mend_brings_each_kept_version(rt: HostRuntime) {
         using.looked(1, 3, 1, LookAnswer::Content { bytes: second }),
         "2 op 1 1",
     );
-    assert!(rt; using.users.brought(0).len() == 2);
+    holds(&rt, using.users.brought(0).len() == 2);
 }
 
 #[test]
@@ -389,6 +290,6 @@ fn a_mend_without_room_is_hopeless(rt: HostRuntime) {
         using.closed(1, CloseAnswer::Nothing),
         "reply 1 0 c1.1.1 toolong",
     );
-    assert!(rt; !using.users.has_mend(ROOT));
-    assert!(rt; using.users.is_hopeless(ROOT));
+    holds(&rt, !using.users.has_mend(ROOT));
+    holds(&rt, using.users.is_hopeless(ROOT));
 }

@@ -15,7 +15,7 @@ use Rattle.role_steps.specs.Tables.{row}
 use Rattle.role_steps.specs.Views.{SiteView, Told, Shown, DiskWrite, Outcome}
 use Rattle.tree_model.specs.Folds.{Trace, last_line}
 use Rattle.tree_model.specs.Epochs.{is_up}
-use Rattle.the_run.specs.Disks.{Disk as DiskLeft, Armed as Script, Cut, Stops as Stopping, Fails as Failing, BootWrite, boot_writes, written as boot_written, Booted, Whole, CutOff, boots, boots_armed, write_calls, cut_disk, is_on_disk, has_older}
+use Rattle.the_run.specs.Disks.{Disk as DiskLeft, Armed as Script, Cut, Stops as Stopping, Fails as Failing, BootWrite, boot_writes, written as boot_written, Booted, Whole, CutOff, boots, boots_armed, blocks, writing_of, write_calls, cut_disk, is_on_disk, has_older}
 use Rattle.the_run.specs.Worlds.{World, Running, armed_site, script_of, happened, puts, arms, stops_with, cut_event, runs_on, spends, writes_of, acts_of, acts, cause_of, fresh}
 use Rattle.the_run.specs.Runs.{boots_as}
 use Rattle.the_run.proofs.Boots.{at_each}
@@ -131,8 +131,8 @@ cut_arms c lines m s r a d true w v has f =
 
 -- ---- an event of a running site ----
 
-rest_left : (left calls pages older : ℕ) → nat_lt left calls ≡ false → calls ≡ pages + (4 + older) → left - calls + 4 ≤ left
-rest_left left calls pages older e k = grind (arith, nat_tests)
+rest_left : (left calls blocks older : ℕ) → nat_lt left calls ≡ false → calls ≡ blocks + (4 + older) → left - calls + 4 ≤ left
+rest_left left calls blocks older e k = grind (arith, nat_tests)
 
 pub acts_arms : (c : Config) (lines : List ScheduleLine) (m s : ℕ) (k : Causes) (v : SiteView) (o : Outcome SiteView) (w : World) → Every (SiteTold s k) o.told → OnDisk s v.store.copies o.view.store.copies o.told o.written → ArmsInCourse c lines m w → ArmsInCourse c lines m (acts m s v o w)
 acts_arms c lines m s k v o w h (inl u) f =
@@ -163,7 +163,7 @@ acts_arms c lines m s k v o w h (inr (d, wr)) f =
         let now : Script = record a { left = a.left - write_calls v.store d } in
         let own : armed_site a ≡ s = script_site s w.armed a e in
         runs (arms now) (rises_with now w.armed f.rises)
-        (subst (λ (x : Option Script). Spent x (script_of (arms now w) s)) (sym e) (subst (λ (x : Option Script). Spent (Some a) x) (sym (ap (script_of (arms now w)) (sym own) ∙ armed_here now w)) (refl, rest_left a.left (write_calls v.store d) (length d.pages) (cond (has_older v.store d) 2 0) enough refl)))
+        (subst (λ (x : Option Script). Spent x (script_of (arms now w) s)) (sym e) (subst (λ (x : Option Script). Spent (Some a) x) (sym (ap (script_of (arms now w)) (sym own) ∙ armed_here now w)) (refl, rest_left a.left (write_calls v.store d) (blocks (writing_of v.store d)) (cond (has_older v.store d) 2 0) enough refl)))
         (λ t ne. armed_other now t w (λ g. ne (sym own ∙ g)))
 
     by_left : (a : Script) → script_of w s ≡ Some a → ArmsInCourse c lines m (elim (nat_lt a.left (write_calls v.store d)) [ true ↦ cut_event m s v d a w | false ↦ runs_on m s o (spends a (a.left - write_calls v.store d)) w ])

@@ -1,5 +1,7 @@
 -- The book of a world after an event of the run.
-use Rattle.std.proofs.Common.{◌≡◌, ℕ, ◌+◌, List, ◌++◌, length, Option, None, Some, false, refl, sym, ap, ◌∙◌, append_assoc, subst}
+use Rattle.std.proofs.Common.{◌≡◌, ℕ, ◌+◌, List, [], ◌++◌, length, Option, None, Some, false, refl, sym, ap, ◌∙◌, append_assoc, subst, arith}
+use Rattle.std.proofs.lemmas.List.{append-nil}
+use Rattle.wire_messages.specs.Outboxes.{Outgoing}
 use Rattle.wire_messages.specs.declared.packet.Packet.{Packet}
 use Rattle.role_steps.specs.Tables.{total}
 use Rattle.role_steps.specs.Views.{Told}
@@ -65,6 +67,17 @@ books_within n ps rs b c o packets bytes text e s ep eb et h =
     ∙ (ap (λ k. with_event_unless (limit_of_sizes (length ps) k (length text) b) n ps rs b) eb
     ∙ (ap (λ k. with_event_unless (limit_of_sizes (length ps) (total packet_size ps) k b) n ps rs b) (ap length et ∙ lines_size n rs)
     ∙ ap (λ l. books_of l n ps rs b) (sym (sym e ∙ none_passed o s)))))
+
+-- an event that gives nothing leaves all as it was
+pub nothing_more : (n : ℕ) (b : Ledger) (o : Option Limit) → o ≡ None → b ≡ with_event_unless o n [] [] b
+nothing_more n b (Some l) e = absurd (cc)
+nothing_more n b None e =
+    let post : posts [] b.post ≡ b.post = post_same refl (append-nil b.post.underway) refl (omega arith) (omega arith) in
+    let text : b.text + 0 ≡ b.text = omega arith in
+    sym (ap (λ (p : Post). record b { post = p; fresh = b.fresh ++ []; text = b.text + 0 }) post ∙ (ap (λ f. record b { fresh = f; text = b.text + 0 }) (append-nil b.fresh) ∙ ap (λ t. record b { text = t }) text))
+
+pub silent_books : (n : ℕ) (o : Outgoing) (b c : Ledger) (p : Option Passed) → limit_in p ≡ b.over → is_some p ≡ false → o ≡ record { packets = []; records = [] } → c ≡ with_event_unless (limit_of_sizes 0 0 0 b) n [] [] b → c ≡ books n o.packets o.records b
+silent_books n o b c p e s h k = k ∙ (ap (λ l. books_of l n [] [] b) (sym (sym e ∙ none_passed p s)) ∙ ap (λ (x : Outgoing). books n x.packets x.records b) (sym h))
 
 -- an event doesn't change what a book writes
 event_writing : (o : Option Limit) (n : ℕ) (ps : List Packet) (rs : List Record) (b : Ledger) → (with_event_unless o n ps rs b).writing ≡ b.writing

@@ -47,6 +47,13 @@ impl Model for RunBook {
     ghost invariant = { λ b. b.text ≤ 134217728 };
 }
 
+/// Nothing is sent and nothing told.
+fn is_silent(out: &Dispatch) -> bool
+    ensures { result ≡ true → out.now ≡ record { packets = []; records = [] } }
+{
+    out.parts().is_empty()
+}
+
 impl RunBook {
     ghost use Rattle.run_book.specs.Ledgers.{Ledger};
 
@@ -181,12 +188,28 @@ impl RunBook {
         }
     }
 
+    /// An event that gives nothing, which passes no limit that wasn't passed before.
+    #[tactic(auto, using(crate::proofs::Kept::nothing_more))]
+    fn enter_nothing(&mut self)
+        ensures { (n : ℕ) → self.new ≡ with_event_unless (limit_of_sizes 0 0 0 self.old) n [] [] self.old }
+    {
+        let Some(limit) = self.limit_of(0, 0, 0) else {
+            return;
+        };
+        self.passed = Some(limit);
+    }
+
     /// An event of a line sends packets and tells records: all of them where it passes no limit, and none where it does.
     pub fn happened(&mut self, line: u32, out: &Dispatch) -> Result<(), BookFault>
         ensures ok { OnOk result (self.new ≡ books line out.now.packets out.now.records self.old) }
         ensures unfit { result ≡ Err BookFault.Unfit → AllByRecursion (λ p. FitsIfCounted p) out.now.packets → ⊥ }
     {
         if self.passed().is_some() {
+            return Ok(());
+        }
+        // Most events give nothing: nothing is measured for them.
+        if is_silent(out) {
+            self.enter_nothing();
             return Ok(());
         }
         let alloc = self.allocator();

@@ -48,7 +48,9 @@ impl OpenedRun {
         ensures done { (lines : List ScheduleLine) (taken : Taken) → HasDone lines taken self.old → OnOk result (HasDone (lines ++ Event line ∷ []) taken self.new) }
         ensures complete { (lines : List ScheduleLine) (taken : Taken) → AreInOrder (lines ++ Event line ∷ []) → HasDone lines taken self.old → IfErr result (λ fault. fault ≡ WorldFault.NoMemory) }
     {
+        // A line that isn't done is dropped by a call, so that no proof here has a case for each kind of line.
         let Some(number) = self.lines.checked_add(1) else {
+            drop(line);
             return Err(WorldFault::NoMemory);
         };
         self.world.step(number, line)?;

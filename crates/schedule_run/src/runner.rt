@@ -92,7 +92,10 @@ impl ScheduleRunner {
                 world.step(number, line)?;
                 Ok(())
             }
-            None => Err(RunFault::NoMemory),
+            None => {
+                drop(line);
+                Err(RunFault::NoMemory)
+            }
         }
     }
 
@@ -103,8 +106,14 @@ impl ScheduleRunner {
         ensures good { result ≡ Err RunFault.Bad → ⊥ }
         ensures complete { (lines : List ScheduleLine) (taken : List ℕ) (fault : WorldFault) → number ≡ length lines + 1 → self.old.reader.header.config ≡ config_of lines → AreInOrder (lines ++ Event line ∷ []) → StandsAs lines taken self.old.world → result ≡ Err (RunFault.World fault) → fault ≡ WorldFault.NoMemory }
     {
-        self.begin()?;
-        self.act(number, line)
+        // A line that isn't done is dropped by a call, so that no proof here has a case for each kind of line.
+        match self.begin() {
+            Ok(()) => self.act(number, line),
+            Err(fault) => {
+                drop(line);
+                Err(fault)
+            }
+        }
     }
 
     /// The header is whole, so that the schedule may end here.

@@ -1,7 +1,6 @@
 -- The mends that start at the end of an event.
-use Rattle.std.proofs.Common.{◌≡◌, ℕ, cond, true, false, Bool, not, ◌&&◌, List, [], ◌∷◌, length, take, drop, get_or, ◌≤◌, ◌-◌, arith, Option, None, Some, refl, sym, ap, ◌∙◌, subst}
+use Rattle.std.proofs.Common.{◌≡◌, ℕ, true, false, Bool, not, ◌&&◌, List, [], ◌∷◌, length, take, drop, get_or, ◌≤◌, ◌-◌, arith, Option, None, Some, refl, sym, ap, ◌∙◌, subst}
 use Rattle.std.proofs.lemmas.List.{take_all}
-use Rattle.std.specs.List.{list_all}
 use Rattle.std.proofs.lemmas.Bool.{false≢true}
 use Rattle.std.specs.Prelude.{Result, Ok, Err, OnOk, IfErr, IsErrAnd}
 use Rattle.disk_model.specs.declared.disk.DiskFault.{DiskFault}
@@ -12,20 +11,13 @@ use Rattle.disk_model.proofs.Moments.{on_ok}
 use Rattle.disk_model.proofs.ReadRuns.{goes_same, reads_join}
 use Rattle.locus_ids.specs.declared.ids.FileId.{FileId}
 use Rattle.wire_messages.specs.Outboxes.{Outgoing}
-use Rattle.dir_format.specs.Entries.{is_live}
-use Rattle.dir_format.specs.Contents.{entries_of, entries_from, entries_where, is_dir}
-use Rattle.dir_format.specs.Grammar.{dir_bytes}
-use Rattle.dir_format.specs.declared.entry.Entry.{Entry}
-use Rattle.std.specs.Str.{bytes_eq}
-use Rattle.dir_reconcile.specs.Rescues.{rescue_wanted}
-use Rattle.dir_reconcile.specs.declared.kept.KeptVector.{KeptVector}
 use Rattle.site_frame.specs.of_role_steps.Views.{Frame, SiteView, Users, Outcome, quiet}
 use Rattle.site_frame.specs.of_role_steps.Epochs.{with_users}
 use Rattle.site_frame.specs.of_role_steps.Using.{on_call}
 use Rattle.site_frame.specs.of_role_steps.Tables.{first_that}
 use Rattle.site_frame.specs.of_role_steps.declared.synchronizing.FileRow.{FileRow}
 use Rattle.trace_book.specs.declared.call.Call.TheVariants as call
-use Rattle.site_frame.specs.of_role_steps.Mends.{has_mend_in, kept_vectors, row_file, starts_mend, starts_mend_of, starts_mends_in, wants_mend, wants_rescue_in}
+use Rattle.site_frame.specs.of_role_steps.Mends.{has_mend_in, row_file, starts_mend, starts_mend_of, starts_mends_in, wants_mend}
 use Rattle.site_frame.specs.of_role_steps.declared.synchronizing.SyncTable.{SyncTable}
 use Rattle.site_packs.specs.Copies.{copies_on}
 use Rattle.site_packs.specs.Committing.{read_answer}
@@ -169,30 +161,3 @@ pub mends_of : (f : Frame) (all : List SyncTable) (t : SyncTable) (v : SiteView)
 mends_of f [] t v u w a b c some e g h = absurd (omega arith)
 mends_of f (x ∷ ts) t v u w a b c some e g h =
     mends_then f x ts v u w a b c (subst (λ y. Gives (starts_mend f y v) (with_users v u) a b) e g) (subst (λ l. Gives (starts_mends_in f l (with_users v u)) (with_users (with_users v u) w) b c) (rest_of x ts) h)
-
--- ---- what wants a rescue ----
-
-abbrev rescue_by : List KeptVector → Bool → List Entry → Bool
-rescue_by kept all ds = elim all [
-  | true ↦ false
-  | false ↦ rescue_wanted ds kept
-]
-
--- where the entries that were read are all live, none wants a rescue
-by_read : (bytes : List ℕ) (ds : List Entry) (kept : List KeptVector) → rescue_by kept (list_all is_live (entries_where bytes ds)) (entries_where bytes ds) ≡ rescue_by kept (list_all is_live ds) (entries_where bytes ds)
-by_read bytes ds kept = elim (bytes_eq (dir_bytes ds) bytes && is_dir ds) as (λ b. rescue_by kept (list_all is_live (cond b ds [])) (cond b ds []) ≡ rescue_by kept (list_all is_live ds) (cond b ds [])) [
-  | true ↦ refl
-  | false ↦ elim (list_all is_live ds) as (λ b. false ≡ rescue_by kept b []) [
-    | true ↦ refl
-    | false ↦ refl
-  ]
-]
-
-pub wanted_in : (t : SyncTable) (content : List ℕ) → wants_rescue_in t content ≡ rescue_by (kept_vectors t) (list_all is_live (entries_of content)) (entries_of content)
-wanted_in t content = sym (by_read content (entries_from (length content) content) (kept_vectors t))
-
-pub all_live : (t : SyncTable) (content : List ℕ) → list_all is_live (entries_of content) ≡ true → false ≡ wants_rescue_in t content
-all_live t content e = sym (wanted_in t content ∙ ap (λ b. rescue_by (kept_vectors t) b (entries_of content)) e)
-
-pub some_removed : (t : SyncTable) (content : List ℕ) → list_all is_live (entries_of content) ≡ false → rescue_wanted (entries_of content) (kept_vectors t) ≡ wants_rescue_in t content
-some_removed t content e = sym (wanted_in t content ∙ ap (λ b. rescue_by (kept_vectors t) b (entries_of content)) e)

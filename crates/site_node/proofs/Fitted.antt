@@ -88,6 +88,7 @@ commit_unfit P commit.Disk k l h = absurd (disk_unfit h)
 commit_unfit P (commit.Cut size) k l h = absurd (cut_unfit size h)
 commit_unfit P commit.NoSpace k l h = l refl
 commit_unfit P commit.Unfit k l h = k refl
+commit_unfit P commit.NoMemory k l h = absurd (memory_unfit h)
 
 -- an event hands on the fault of its part, or has no memory to tell of it
 pub handed_unfit : {T S : Type 0} (P : Type 0) (e f : NodeFault) → (f ≡ e) ⊎ (f ≡ NoMemory) → (◌≡◌ {A = Result S NodeFault} (Err e) (Err Unfit) → P → ⊥) → ◌≡◌ {A = Result T NodeFault} (Err f) (Err Unfit) → P → ⊥

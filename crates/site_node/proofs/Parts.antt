@@ -1,7 +1,7 @@
 -- What one role does, in the site around it.
 use Rattle.std.proofs.Common.{◌≡◌, ◌++◌, ℕ, ◌≤◌, length, Bool, true, false, List, [], append-nil, Option, None, Some, refl, sym, ap, ◌∙◌, subst, arith}
 use Rattle.std.specs.Option.{option_map}
-use Rattle.locus_ids.specs.Sizes.{content_bytes_max}
+use Rattle.locus_ids.specs.Sizes.{file_bytes_max}
 use Rattle.locus_ids.specs.declared.ids.FileId.{FileId}
 use Rattle.locus_ids.specs.declared.ids.Stamp.{Stamp}
 use Rattle.commit_graph.specs.Versions.{same_stamp}
@@ -119,14 +119,14 @@ page_at f stamp page bytes (Some p) pulls = by_case (is_awaited p stamp page byt
 pub page_untold : (f : Frame) (file : FileId) (stamp : Stamp) (page : ℕ) (bytes : List ℕ) (pulls : List Pull) → (on_page f file stamp page bytes pulls).told ≡ []
 page_untold f file stamp page bytes pulls = page_at f stamp page bytes (pull_of pulls file) pulls
 
-sized_empty : (p : Pull) → p.content ≡ [] → p.size ≤ content_bytes_max → IsSized p
+sized_empty : (p : Pull) → p.content ≡ [] → p.size ≤ file_bytes_max → IsSized p
 sized_empty p e s = record { size = s; content = subst (λ (bytes : List ℕ). length bytes ≤ p.size) (sym e) (omega arith) }
 
 abbrev notified_pulls : Frame → ℕ → Pull → SiteView → Outcome (List Pull)
 notified_pulls f from p v = on_notify f from (copy_of v.store p.file) p v.pulls
 
 -- a notify of a version of which nothing has come yet
-pub notified_works : (from : ℕ) (own : Option CopyHead) (p : Pull) (old : SiteNode) (pulls : List Pull) (a b : Outgoing) → p.content ≡ [] → p.size ≤ content_bytes_max
+pub notified_works : (from : ℕ) (own : Option CopyHead) (p : Pull) (old : SiteNode) (pulls : List Pull) (a b : Outgoing) → p.content ≡ [] → p.size ≤ file_bytes_max
     → ((image : List ℕ) → AreShown old.packs.packs image → head_of (copy_at old.packs image p.file) ≡ own)
     → ((copy : Option FileCopy) → head_of copy ≡ own → IsSized p → pulls ≡ (on_notify old.frame from copy p old.pulls).view)
     → ((copy : Option FileCopy) → head_of copy ≡ own → IsSized p → b.packets ≡ a.packets ++ (on_notify old.frame from copy p old.pulls).sent) → b.records ≡ a.records

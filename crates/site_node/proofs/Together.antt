@@ -22,12 +22,12 @@ use Rattle.role_steps.specs.Storage.{copy_key}
 use Rattle.role_steps.specs.Views.{DiskWrite, file_key}
 use Rattle.role_steps.specs.declared.copies.FileCopy.{FileCopy}
 use Rattle.site_packs.specs.declared.faults.WriteSize.{WriteSize}
-use Rattle.site_packs.specs.Committing.{MayBeLeft, calls_of}
+use Rattle.site_packs.specs.Committing.{MayBeLeft, blocks_over, calls_of}
 use Rattle.site_packs.specs.Copies.{copies_on}
 use Rattle.site_packs.specs.Cutting.{IsCut, both_open_on}
 use Rattle.site_packs.specs.Mounting.{AreSound}
 use Rattle.site_packs.specs.Packs.{PacksState, SamePlaces, groups_of}
-use Rattle.storage_site.specs.of_store_instances.Writes.{LeavesEver, MayLeave, calls_in}
+use Rattle.storage_site.specs.of_store_instances.Writes.{LeavesEver, MayLeave, blocks_in, calls_in}
 use Rattle.site_parts.specs.declared.fault.NodeFault.{NodeFault}
 use Rattle.site_parts.specs.declared.fault.NodeFault.TheVariants.{NoMemory, Cut, NoNumber}
 use Rattle.site_node.specs.Writing.{EventWrites, IsCutIn, replaces}
@@ -47,6 +47,7 @@ module _ (p q : PacksState) (s : SamePlaces p q) where
   left_here made old new k = record {
     copies = subst (λ (gs : List ℕ). (copies_on gs new ≡ copies_on gs old) ⊎ (copies_on gs new ≡ with_row copy_key made (copies_on gs old))) s.groups k.copies;
     sound = subst (λ (n : ℕ). AreSound n (groups_of p) new) s.site (subst (λ (gs : List ℕ). AreSound q.site gs new) s.groups k.sound);
+    tables = k.tables;
     outside = subst (λ (gs : List ℕ). Torn 1024 (area_length * length gs) old new) s.groups k.outside;
   }
 
@@ -57,9 +58,13 @@ module _ (p q : PacksState) (s : SamePlaces p q) where
   replaces_here : (w : DiskWrite) (image : List ℕ) → replaces q image w ≡ replaces p image w
   replaces_here w image = ap (λ (gs : List ℕ). is_some (row copy_key (file_key w.copy.file) (copies_on gs image))) s.groups
 
+  -- the pages and tables of a write
+  blocks_here : (w : DiskWrite) (image : List ℕ) → blocks_in q image w ≡ blocks_in p image w
+  blocks_here w image = ap (λ (gs : List ℕ). blocks_over (row copy_key (file_key w.copy.file) (copies_on gs image)) w.copy.content w.pages) s.groups
+
   pub calls_here : (w : Option DiskWrite) (image : List ℕ) → calls_in q image w ≡ calls_in p image w
   calls_here None image = refl
-  calls_here (Some w) image = ap (λ (b : Bool). calls_of (length w.pages) b) (replaces_here w image)
+  calls_here (Some w) image = (λ i. calls_of (blocks_here w image i) (replaces_here w image i))
 
   is_cut_here : (made : FileCopy) (pages : ℕ) (how : HowCut) (passed : ℕ) (old new : List ℕ) → IsCut q made pages how passed old new → IsCut p made pages how passed old new
   is_cut_here made pages how passed old new k = record {
@@ -72,23 +77,26 @@ module _ (p q : PacksState) (s : SamePlaces p q) where
   pub cut_here : (w : Option DiskWrite) (size : WriteSize) (old mid new : Moment) (a b : Outgoing) → mid.seen ≡ old.seen → mid.how ≡ old.how → ((passed : ℕ) → old.passing ≡ Exactly passed → mid.passing ≡ Exactly passed) → IsCutIn w q size mid new a b → IsCutIn w p size old new a b
   cut_here None size old mid new a b e h t k = k
   cut_here (Some w) size old mid new a b e h t k = record {
-    pages = k.pages;
+    blocks = k.blocks ∙ blocks;
     older = k.older ∙ older;
     records = k.records;
     packets = k.packets;
-    early = λ passed x. subst (λ (y : Bool). passed < calls_of (length w.pages) y) older (k.early passed (t passed x));
-    left = λ passed x. is_cut_here w.copy (length w.pages) old.how passed old.seen new.left (subst (λ (y : List ℕ). IsCut q w.copy (length w.pages) old.how passed y new.left) e (subst (λ (y : HowCut). IsCut q w.copy (length w.pages) y passed mid.seen new.left) h (k.left passed (t passed x))));
+    early = λ passed x. subst (λ (y : Bool). passed < calls_of (blocks_in p old.seen w) y) older (subst (λ (n : ℕ). passed < calls_of n (replaces q mid.seen w)) blocks (k.early passed (t passed x)));
+    left = λ passed x. is_cut_here w.copy (blocks_in p old.seen w) old.how passed old.seen new.left (subst (λ (n : ℕ). IsCut q w.copy n old.how passed old.seen new.left) blocks (subst (λ (y : List ℕ). IsCut q w.copy (blocks_in q mid.seen w) old.how passed y new.left) e (subst (λ (y : HowCut). IsCut q w.copy (blocks_in q mid.seen w) y passed mid.seen new.left) h (k.left passed (t passed x)))));
   }
     where
       older : replaces q mid.seen w ≡ replaces p old.seen w
       older = ap (λ (y : List ℕ). replaces q y w) e ∙ replaces_here w old.seen
+
+      blocks : blocks_in q mid.seen w ≡ blocks_in p old.seen w
+      blocks = ap (λ (y : List ℕ). blocks_in q y w) e ∙ blocks_here w old.seen
 
 -- ---- what is told where a part was cut off ----
 
 told_in : (w : Option DiskWrite) (p : PacksState) (size : WriteSize) (m n : Moment) (a b before after : Outgoing) → a.packets ≡ [] → a.records ≡ [] → after ≡ behind before b → IsCutIn w p size m n a b → IsCutIn w p size m n before after
 told_in None p size m n a b before after d e t k = k
 told_in (Some w) p size m n a b before after d e t k = record {
-  pages = k.pages;
+  blocks = k.blocks;
   older = k.older;
   records = ap (λ (x : Outgoing). x.records) t ∙ ap (λ (rs : List Record). before.records ++ rs) (k.records ∙ ap (λ (rs : List Record). rs ++ w.says ∷ []) e);
   packets = ap (λ (x : Outgoing). x.packets) t ∙ (ap (λ (ps : List Packet). before.packets ++ ps) (k.packets ∙ d) ∙ append-nil before.packets);

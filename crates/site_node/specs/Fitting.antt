@@ -1,7 +1,7 @@
 -- What an event of a site needs so that it isn't refused as unfit.
 use Rattle.std.specs.Prelude.{◌≡◌, ◌≢◌, ℕ, ◌-◌, ◌≤◌, true, false, List, length, Option, None, Some}
 use Rattle.std.specs.List.{AllByRecursion}
-use Rattle.locus_ids.specs.Sizes.{inodes_max, content_bytes_max, pack_pages}
+use Rattle.locus_ids.specs.Sizes.{inodes_max, file_bytes_max, pack_pages}
 use Rattle.locus_ids.specs.declared.config.Config.{Config}
 use Rattle.locus_ids.specs.declared.sites.Links.{Links}
 use Rattle.file_content.specs.Pages.{pages_of}
@@ -29,7 +29,7 @@ use Rattle.site_node.specs.Taking.{IsSpent, is_tried}
 
 -- a notice is of a version that is no longer than a file may be
 abbrev pub IsShort : Body → Type 0
-IsShort (body.Notify file kind set size stamp vector holder) = size ≤ content_bytes_max
+IsShort (body.Notify file kind set size stamp vector holder) = size ≤ file_bytes_max
 IsShort _ = Unit {0}
 
 -- what a member sent may be taken in the epoch of the frame, at a site with packs of these groups on the disk of this site

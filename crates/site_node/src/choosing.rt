@@ -13,11 +13,11 @@ ghost use Rattle.site_node.specs.Adopting.{choice_at, fate_of, is_above, ShowsPu
 use crate::SiteNode;
 use file_content::pages_of;
 use locus_ids::FileId;
+use propagation::is_above_own;
 use role_steps::Pull;
-use version_vector::Ordering4;
 
 /// What becomes of a pull.
-#[derive(Clone, Copy, PartialEq, Eq)]
+#[derive(Clone, Copy)]
 pub(crate) enum Fate {
     Wait,
     Drop,
@@ -25,7 +25,7 @@ pub(crate) enum Fate {
 }
 
 /// The file of a pull, and what becomes of the pull.
-#[derive(Clone, Copy, PartialEq, Eq)]
+#[derive(Clone, Copy)]
 pub(crate) struct PullSeen {
     pub file: FileId,
     pub fate: Fate,
@@ -96,15 +96,7 @@ impl SiteNode {
     fn is_above_own(&self, pull: &Pull) -> bool
         ensures { (image : List ℕ) → AreShown self.now.packs.packs image → result ≡ is_above (view_of self.now image) pull.now }
     {
-        match self.packs.head(pull.file) {
-            None => true,
-            Some(own) => match own.vector.compare(&pull.vector) {
-                Ordering4::Below => true,
-                Ordering4::Same => false,
-                Ordering4::Above => false,
-                Ordering4::Beside => false,
-            },
-        }
+        is_above_own(pull, self.head_of(pull.file))
     }
 }
 

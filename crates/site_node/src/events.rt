@@ -56,6 +56,7 @@ impl SiteNode {
         ensures unfit { result ≡ Err Unfit → CanAct self.old.frame.config self.old.frame.me (groups_of self.old.packs) self.old.packs.site links.now (view_of self.old (D.moment disk.old).seen) (Receives packet) → ⊥ }
     {
         if self.is_dropped(&packet) {
+            drop(packet);
             return Ok(());
         }
         let tries = tries_at(&packet.body);

@@ -49,9 +49,13 @@ impl SiteNode {
             }
             Role::Epochs => {
                 self.take_report_ok(&body);
+                drop(body);
                 Ok(())
             }
-            Role::Nobody => Ok(()),
+            Role::Nobody => {
+                drop(body);
+                Ok(())
+            }
         }
     }
 

@@ -10,7 +10,7 @@ ghost use Rattle.site_parts.specs.declared.fault.NodeFault.TheVariants.{Unfit};
 ghost use Rattle.site_parts.specs.declared.roles.Role.TheVariants as role;
 
 use crate::SiteNode;
-use locus_ids::sizes::CONTENT_BYTES;
+use locus_ids::sizes::FILE_BYTES;
 use locus_ids::{Bytes, FileId, SiteId};
 use propagation::CopyHead;
 use role_steps::Pull;
@@ -30,7 +30,9 @@ impl SiteNode {
         ensures own { IfErr result IsOwn }
         ensures unfit { result ≡ Err Unfit → IsShort body → ⊥ }
     {
-        self.take_pulled(from, &body, out)
+        let taken = self.take_pulled(from, &body, out);
+        drop(body);
+        taken
     }
 
     fn take_pulled(&mut self, from: SiteId, body: &Body, out: &mut Outbox) -> Result<(), NodeFault>
@@ -48,7 +50,7 @@ impl SiteNode {
                 vector,
                 holder,
             } => {
-                if *size as usize > CONTENT_BYTES {
+                if *size as usize > FILE_BYTES {
                     return Err(NodeFault::Unfit);
                 }
                 let pull = Pull {

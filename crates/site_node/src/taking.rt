@@ -35,28 +35,36 @@ impl SiteNode {
             from_boot: packet.from_boot,
             id: packet.epoch,
         };
-        match packet.body {
+        match &packet.body {
             Body::Poll => {
+                drop(packet);
                 self.take_poll(links, header, out)?;
                 Ok(())
             }
             Body::Promise { reach } => {
+                let reach = *reach;
+                drop(packet);
                 self.take_promise(header, reach);
                 Ok(())
             }
             Body::Refuse { promised } => {
+                let promised = *promised;
+                drop(packet);
                 self.take_refuse(links, header.id, promised, out)?;
                 Ok(())
             }
             Body::Install { members } => {
+                let members = *members;
+                drop(packet);
                 self.take_install(&header, &members, out)?;
                 Ok(())
             }
             Body::Joined => {
+                drop(packet);
                 self.take_joined(from, header.id);
                 Ok(())
             }
-            body => self.take_in_epoch(disk, from, body, out),
+            _ => self.take_in_epoch(disk, from, packet.body, out),
         }
     }
 
@@ -75,6 +83,7 @@ impl SiteNode {
         ensures unfit { result ≡ Err Unfit → CanTakeIn self.old.frame.config self.old.frame.me (groups_of self.old.packs) self.old.packs.site from body (view_of self.old (D.moment disk.old).seen) self.old.epochs.epoch → ⊥ }
     {
         let Some(epoch) = self.epochs.epoch() else {
+            drop(body);
             return Ok(());
         };
         enter(&mut self.frame, self.epochs.boot(), &epoch);

@@ -85,7 +85,10 @@ impl SiteNode {
                     .on_look_done(&self.frame, call, request, take, answer, out)?;
                 Ok(())
             }
-            _ => Ok(()),
+            _ => {
+                drop(body);
+                Ok(())
+            }
         }
     }
 

@@ -130,9 +130,10 @@ causes_mend p m n mend.NoMemory k = causes_off m n NoMemory tt k.later
 causes_mend p m n mend.Unfit k = causes_off m n Unfit tt k.later
 
 -- an adoption answers no failed read
-pub causes_adopt : {T : Type 0} (pages : ℕ) (older : Bool) (m n : Moment) (e : CommitFault) → HasCause m.faults n.faults (commit_answer {T = Unit {0}} (Err e)) → TellsMany (commit_calls {T = Unit {0}} pages older (Err e)) m.passing n.passing (commit_answer {T = Unit {0}} (Err e)) → (e ≡ commit.Disk → ⊥)
+pub causes_adopt : {T : Type 0} (blocks : ℕ) (older : Bool) (m n : Moment) (e : CommitFault) → HasCause m.faults n.faults (commit_answer {T = Unit {0}} (Err e)) → TellsMany (commit_calls {T = Unit {0}} blocks older (Err e)) m.passing n.passing (commit_answer {T = Unit {0}} (Err e)) → (e ≡ commit.Disk → ⊥)
     → Causes {T = T} m n (Err (fault_of_commit e))
-causes_adopt pages older m n commit.Disk c t h = absurd (h refl)
-causes_adopt pages older m n (commit.Cut size) c t h = record { cause = c; told = λ passed e is. absurd cc; free = λ e. passes_all (calls_of pages older) m.passing n.passing (Err Failed) t e }
-causes_adopt pages older m n commit.NoSpace c t h = causes_off m n Unfit tt c.later
-causes_adopt pages older m n commit.Unfit c t h = causes_off m n Unfit tt c.later
+causes_adopt blocks older m n commit.Disk c t h = absurd (h refl)
+causes_adopt blocks older m n (commit.Cut size) c t h = record { cause = c; told = λ passed e is. absurd cc; free = λ e. passes_all (calls_of blocks older) m.passing n.passing (Err Failed) t e }
+causes_adopt blocks older m n commit.NoSpace c t h = causes_off m n Unfit tt c.later
+causes_adopt blocks older m n commit.Unfit c t h = causes_off m n Unfit tt c.later
+causes_adopt blocks older m n commit.NoMemory c t h = causes_off m n NoMemory tt c.later

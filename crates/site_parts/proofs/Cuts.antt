@@ -11,7 +11,6 @@ use Rattle.disk_model.proofs.ReadRuns.{leaves_same, reads_alone}
 use Rattle.disk_model.proofs.Tells.{tells_few, tells_none}
 use Rattle.wire_messages.specs.Outboxes.{Outgoing}
 use Rattle.file_content.specs.Pages.{pages_from, pages_of}
-use Rattle.file_content.proofs.Paging.{length_from}
 use Rattle.role_steps.specs.Adoption.{adopt_record, adopt_write, copy_adopted}
 use Rattle.role_steps.specs.Pulling.{is_complete}
 use Rattle.role_steps.specs.Views.{DiskWrite, Frame}
@@ -20,7 +19,7 @@ use Rattle.role_steps.specs.declared.pulls.Pull.{Pull}
 use Rattle.site_packs.specs.declared.faults.CommitFault.{CommitFault}
 use Rattle.site_packs.specs.declared.faults.CommitFault.TheVariants as commit
 use Rattle.site_packs.specs.declared.faults.WriteSize.{WriteSize}
-use Rattle.site_packs.specs.Committing.{MayBeLeft, calls_of, commit_answer, commit_calls}
+use Rattle.site_packs.specs.Committing.{MayBeLeft, blocks_over, calls_of, commit_answer, commit_calls}
 use Rattle.site_packs.specs.Cutting.{HasSize, IsCut}
 use Rattle.site_packs.specs.Packs.{PacksState, copy_at}
 use Rattle.merge_protocol.specs.declared.errors.EpochError.{EpochError}
@@ -32,7 +31,7 @@ use Rattle.site_mends.specs.declared.fault.MendFault.{MendFault}
 use Rattle.site_mends.specs.declared.fault.MendFault.TheVariants as mend
 use Rattle.storage_site.specs.of_store_instances.declared.fault.StoreFault.{StoreFault}
 use Rattle.storage_site.specs.of_store_instances.declared.fault.StoreFault.TheVariants as store
-use Rattle.storage_site.specs.of_store_instances.Writes.{LeavesEver, MayLeave, Reads, Writes, calls_in}
+use Rattle.storage_site.specs.of_store_instances.Writes.{LeavesEver, MayLeave, Reads, Writes, blocks_in, calls_in}
 use Rattle.storage_site.proofs.of_store_instances.Stays.{OnlyNow, leaves_ever, leaves_still}
 use Rattle.site_parts.specs.declared.fault.NodeFault.{NodeFault}
 use Rattle.site_parts.specs.declared.fault.NodeFault.TheVariants.{Disk, Cut}
@@ -115,7 +114,7 @@ handed {T = T} {S = S} w p m n a b r e h k = ill {T = T} {S = S} w p m n a b r e
 cut_in : {T : Type 0} (w : Option DiskWrite) (p : PacksState) (m n : Moment) (a b : Outgoing) (size : WriteSize) → Writes {T = T} w p m n a b (Err (store.Cut size)) → IsCutIn w p size m n a b
 cut_in None p m n a b size k = absurd k.size
 cut_in (Some w) p m n a b size k = record {
-  pages = k.size.0;
+  blocks = k.size.0;
   older = k.size.1;
   records = (k.stopped refl).records;
   packets = (k.stopped refl).packets;
@@ -138,35 +137,36 @@ store_err {T = T} {S = S} w p m n a b r e h k = ill {T = T} {S = T} w p m n a b 
 -- ---- an adoption ----
 
 abbrev Committed : ℕ → Bool → Moment → Moment → Result (Unit {0}) CommitFault → Type 0
-Committed pages older m n r = TellsMany (commit_calls pages older r) m.passing n.passing (commit_answer r)
+Committed blocks older m n r = TellsMany (commit_calls blocks older r) m.passing n.passing (commit_answer r)
 
-adopt_cut : (w : DiskWrite) (p : PacksState) (m n : Moment) (a b : Outgoing) (size : WriteSize) → Committed (length w.pages) (replaces p m.seen w) m n (Err (commit.Cut size)) → HasSize (length w.pages) (replaces p m.seen w) (commit.Cut size)
-    → ((passed : ℕ) → m.passing ≡ Exactly passed → IsCut p w.copy (length w.pages) m.how passed m.seen n.left) → b ≡ record a { records = a.records ++ w.says ∷ [] } → IsCutIn (Some w) p size m n a b
+adopt_cut : (w : DiskWrite) (p : PacksState) (m n : Moment) (a b : Outgoing) (size : WriteSize) → Committed (blocks_in p m.seen w) (replaces p m.seen w) m n (Err (commit.Cut size)) → HasSize (blocks_in p m.seen w) (replaces p m.seen w) (commit.Cut size)
+    → ((passed : ℕ) → m.passing ≡ Exactly passed → IsCut p w.copy (blocks_in p m.seen w) m.how passed m.seen n.left) → b ≡ record a { records = a.records ++ w.says ∷ [] } → IsCutIn (Some w) p size m n a b
 adopt_cut w p m n a b size tells big left told = record {
-  pages = big.0;
+  blocks = big.0;
   older = big.1;
   records = ap (λ (o : Outgoing). o.records) told;
   packets = ap (λ (o : Outgoing). o.packets) told;
-  early = λ passed e. tells_few (calls_of (length w.pages) (replaces p m.seen w)) m.passing n.passing (Err Failed) passed tells e;
+  early = λ passed e. tells_few (calls_of (blocks_in p m.seen w) (replaces p m.seen w)) m.passing n.passing (Err Failed) passed tells e;
   left = left;
 }
 
-adopt_ok : (w : DiskWrite) (p : PacksState) (m n : Moment) (a b : Outgoing) → LeavesOnly m n (MayBeLeft p w.copy m.seen) → n.how ≡ m.how → Committed (length w.pages) (replaces p m.seen w) m n (Ok tt) → m.faults ≤ n.faults → EventWrites {T = Unit {0}} (Some w) p m n a b (Ok tt)
+adopt_ok : (w : DiskWrite) (p : PacksState) (m n : Moment) (a b : Outgoing) → LeavesOnly m n (MayBeLeft p w.copy m.seen) → n.how ≡ m.how → Committed (blocks_in p m.seen w) (replaces p m.seen w) m n (Ok tt) → m.faults ≤ n.faults → EventWrites {T = Unit {0}} (Some w) p m n a b (Ok tt)
 adopt_ok w p m n a b leaves how tells later = well (Some w) p m n a b tt (leaves_ever (Some w) p m n leaves) how tells later
 
-cut_by : (w : DiskWrite) (p : PacksState) (m n : Moment) (a b : Outgoing) (e : CommitFault) → Committed (length w.pages) (replaces p m.seen w) m n (Err e) → HasSize (length w.pages) (replaces p m.seen w) e
-    → ((passed : ℕ) → m.passing ≡ Exactly passed → OnErr (commit_answer {T = Unit {0}} (Err e)) (IsCut p w.copy (length w.pages) m.how passed m.seen n.left)) → b ≡ record a { records = a.records ++ w.says ∷ [] } → (size : WriteSize) → fault_of_commit e ≡ Cut size → IsCutIn (Some w) p size m n a b
+cut_by : (w : DiskWrite) (p : PacksState) (m n : Moment) (a b : Outgoing) (e : CommitFault) → Committed (blocks_in p m.seen w) (replaces p m.seen w) m n (Err e) → HasSize (blocks_in p m.seen w) (replaces p m.seen w) e
+    → ((passed : ℕ) → m.passing ≡ Exactly passed → OnErr (commit_answer {T = Unit {0}} (Err e)) (IsCut p w.copy (blocks_in p m.seen w) m.how passed m.seen n.left)) → b ≡ record a { records = a.records ++ w.says ∷ [] } → (size : WriteSize) → fault_of_commit e ≡ Cut size → IsCutIn (Some w) p size m n a b
 cut_by w p m n a b commit.Disk tells big left told size g = absurd (disk_uncut size g)
 cut_by w p m n a b commit.NoSpace tells big left told size g = absurd (off_uncut (fault_of_commit commit.NoSpace) tt size g)
 cut_by w p m n a b commit.Unfit tells big left told size g = absurd (off_uncut (fault_of_commit commit.Unfit) tt size g)
+cut_by w p m n a b commit.NoMemory tells big left told size g = absurd (off_uncut (fault_of_commit commit.NoMemory) tt size g)
 cut_by w p m n a b (commit.Cut s) tells big left told size g = subst (λ (z : WriteSize). IsCutIn (Some w) p z m n a b) (same_size s size g) (adopt_cut w p m n a b s tells big left told)
 
 adopt_err : (w : DiskWrite) (p : PacksState) (m n : Moment) (a b : Outgoing) (r : Result (Unit {0}) NodeFault) (e : CommitFault) → IsErrAnd r (λ f. f ≡ fault_of_commit e) → LeavesOnly m n (MayBeLeft p w.copy m.seen) → n.how ≡ m.how
-    → Committed (length w.pages) (replaces p m.seen w) m n (Err e) → HasSize (length w.pages) (replaces p m.seen w) e
-    → ((passed : ℕ) → m.passing ≡ Exactly passed → OnErr (commit_answer {T = Unit {0}} (Err e)) (IsCut p w.copy (length w.pages) m.how passed m.seen n.left)) → b ≡ record a { records = a.records ++ w.says ∷ [] }
+    → Committed (blocks_in p m.seen w) (replaces p m.seen w) m n (Err e) → HasSize (blocks_in p m.seen w) (replaces p m.seen w) e
+    → ((passed : ℕ) → m.passing ≡ Exactly passed → OnErr (commit_answer {T = Unit {0}} (Err e)) (IsCut p w.copy (blocks_in p m.seen w) m.how passed m.seen n.left)) → b ≡ record a { records = a.records ++ w.says ∷ [] }
     → HasCause m.faults n.faults (commit_answer {T = Unit {0}} (Err e)) → (e ≡ commit.Disk → ⊥) → EventWrites (Some w) p m n a b r
 adopt_err w p m n a b r e h leaves how tells big left told cause read =
-    ill {T = Unit {0}} {S = Unit {0}} (Some w) p m n a b r (fault_of_commit e) h (cut_by w p m n a b e tells big left told) (leaves_ever (Some w) p m n leaves) how (causes_adopt (length w.pages) (replaces p m.seen w) m n e cause tells read)
+    ill {T = Unit {0}} {S = Unit {0}} (Some w) p m n a b r (fault_of_commit e) h (cut_by w p m n a b e tells big left told) (leaves_ever (Some w) p m n leaves) how (causes_adopt (blocks_in p m.seen w) (replaces p m.seen w) m n e cause tells read)
 
 as_refused : (e f : CommitFault) → e ≡ f → ◌≡◌ {A = Result (Unit {0}) CommitFault} (Err e) (Err f)
 as_refused e f h = cc
@@ -182,23 +182,24 @@ abbrev pub copy_with : Pull → List ℕ → FileCopy
 copy_with p xs = record { file = p.file; kind = p.kind; set = p.set; stamp = p.stamp; vector = p.vector; content = xs }
 
 module _ (f : Frame) (p : Pull) (xs : List ℕ) (is : xs ≡ p.content) (packs : PacksState) (m n : Moment) (a b : Outgoing) (full : is_complete p ≡ true) (left_so : LeavesOnly m n (MayBeLeft packs (copy_with p xs) m.seen)) (how : n.how ≡ m.how) where
-  pages : pages_of (length xs) ≡ length (pages_from 0 (pages_of p.size))
-  pages = ap (λ (ys : List ℕ). pages_of (length ys)) is ∙ (ap pages_of (size_is p full) ∙ sym (length_from 0 (pages_of p.size)))
+  -- the blocks that the pack is given are those of the adoption
+  blocks : blocks_over (copy_at packs m.seen p.file) xs (pages_from 0 (pages_of (length xs))) ≡ blocks_in packs m.seen (adopt_write f p)
+  blocks = let size : length xs ≡ p.size = ap (λ (ys : List ℕ). length ys) is ∙ size_is p full in (λ i. blocks_over (copy_at packs m.seen p.file) (is i) (pages_from 0 (pages_of (size i))))
 
   leaves : LeavesOnly m n (MayBeLeft packs (copy_adopted p) m.seen)
   leaves = subst (λ (ys : List ℕ). LeavesOnly m n (MayBeLeft packs (copy_with p ys) m.seen)) is left_so
 
-  pub pull_ok : Committed (pages_of (length xs)) (is_some (copy_at packs m.seen p.file)) m n (Ok tt) → m.faults ≤ n.faults → EventWrites {T = Unit {0}} (Some (adopt_write f p)) packs m n a b (Ok tt)
-  pull_ok tells later = adopt_ok (adopt_write f p) packs m n a b leaves how (subst (λ (k : ℕ). Committed k (is_some (copy_at packs m.seen p.file)) m n (Ok tt)) pages tells) later
+  pub pull_ok : Committed (blocks_over (copy_at packs m.seen p.file) xs (pages_from 0 (pages_of (length xs)))) (is_some (copy_at packs m.seen p.file)) m n (Ok tt) → m.faults ≤ n.faults → EventWrites {T = Unit {0}} (Some (adopt_write f p)) packs m n a b (Ok tt)
+  pull_ok tells later = adopt_ok (adopt_write f p) packs m n a b leaves how (subst (λ (k : ℕ). Committed k (is_some (copy_at packs m.seen p.file)) m n (Ok tt)) blocks tells) later
 
-  pub pull_err : (r : Result (Unit {0}) NodeFault) (e : CommitFault) → IsErrAnd r (λ f. f ≡ fault_of_commit e) → Committed (pages_of (length xs)) (is_some (copy_at packs m.seen p.file)) m n (Err e) → HasSize (pages_of (length xs)) (is_some (copy_at packs m.seen p.file)) e
-      → ((passed : ℕ) → m.passing ≡ Exactly passed → OnErr (commit_answer {T = Unit {0}} (Err e)) (IsCut packs (copy_with p xs) (pages_of (length xs)) m.how passed m.seen n.left)) → b ≡ record a { records = a.records ++ adopt_record f p ∷ [] }
+  pub pull_err : (r : Result (Unit {0}) NodeFault) (e : CommitFault) → IsErrAnd r (λ f. f ≡ fault_of_commit e) → Committed (blocks_over (copy_at packs m.seen p.file) xs (pages_from 0 (pages_of (length xs)))) (is_some (copy_at packs m.seen p.file)) m n (Err e) → HasSize (blocks_over (copy_at packs m.seen p.file) xs (pages_from 0 (pages_of (length xs)))) (is_some (copy_at packs m.seen p.file)) e
+      → ((passed : ℕ) → m.passing ≡ Exactly passed → OnErr (commit_answer {T = Unit {0}} (Err e)) (IsCut packs (copy_with p xs) (blocks_over (copy_at packs m.seen p.file) xs (pages_from 0 (pages_of (length xs)))) m.how passed m.seen n.left)) → b ≡ record a { records = a.records ++ adopt_record f p ∷ [] }
       → HasCause m.faults n.faults (commit_answer {T = Unit {0}} (Err e)) → (e ≡ commit.Disk → ⊥) → EventWrites (Some (adopt_write f p)) packs m n a b r
   pull_err r e h tells big left told cause read =
       adopt_err (adopt_write f p) packs m n a b r e h leaves how
-      (subst (λ (k : ℕ). Committed k (is_some (copy_at packs m.seen p.file)) m n (Err e)) pages tells)
-      (subst (λ (k : ℕ). HasSize k (is_some (copy_at packs m.seen p.file)) e) pages big)
-      (λ passed here. subst (λ (ys : List ℕ). OnErr (commit_answer {T = Unit {0}} (Err e)) (IsCut packs (copy_with p ys) (length (pages_from 0 (pages_of p.size))) m.how passed m.seen n.left)) is (subst (λ (k : ℕ). OnErr (commit_answer {T = Unit {0}} (Err e)) (IsCut packs (copy_with p xs) k m.how passed m.seen n.left)) pages (left passed here)))
+      (subst (λ (k : ℕ). Committed k (is_some (copy_at packs m.seen p.file)) m n (Err e)) blocks tells)
+      (subst (λ (k : ℕ). HasSize k (is_some (copy_at packs m.seen p.file)) e) blocks big)
+      (λ passed here. subst (λ (ys : List ℕ). OnErr (commit_answer {T = Unit {0}} (Err e)) (IsCut packs (copy_with p ys) (blocks_in packs m.seen (adopt_write f p)) m.how passed m.seen n.left)) is (subst (λ (k : ℕ). OnErr (commit_answer {T = Unit {0}} (Err e)) (IsCut packs (copy_with p xs) k m.how passed m.seen n.left)) blocks (left passed here)))
       told cause read
 
   -- a fault behind it

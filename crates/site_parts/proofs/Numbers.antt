@@ -65,6 +65,7 @@ commit_numbered commit.Disk h = disk_numbered h
 commit_numbered (commit.Cut size) h = cut_numbered size h
 commit_numbered commit.NoSpace h = unfit_numbered h
 commit_numbered commit.Unfit h = unfit_numbered h
+commit_numbered commit.NoMemory h = memory_numbered h
 
 pub own_off : (f : NodeFault) → IsOwn f → IsOffDisk f
 own_off NoMemory h = tt

@@ -31,6 +31,7 @@ fault_of_commit commit.Disk = Disk
 fault_of_commit (commit.Cut size) = Cut size
 fault_of_commit commit.NoSpace = Unfit
 fault_of_commit commit.Unfit = Unfit
+fault_of_commit commit.NoMemory = NoMemory
 
 abbrev pub fault_of_mend : MendFault → NodeFault
 fault_of_mend mend.NoMemory = NoMemory

@@ -10,7 +10,7 @@ use Rattle.site_packs.specs.declared.faults.WriteSize.{WriteSize}
 use Rattle.site_packs.specs.Committing.{calls_of}
 use Rattle.site_packs.specs.Cutting.{IsCut}
 use Rattle.site_packs.specs.Packs.{PacksState, copy_at}
-use Rattle.storage_site.specs.of_store_instances.Writes.{LeavesEver, calls_in}
+use Rattle.storage_site.specs.of_store_instances.Writes.{LeavesEver, blocks_in, calls_in}
 use Rattle.site_parts.specs.declared.fault.NodeFault.{NodeFault}
 use Rattle.site_parts.specs.declared.fault.NodeFault.TheVariants.{NoMemory, Disk, Cut, NoNumber, Unfit}
 
@@ -27,15 +27,15 @@ disk_answer (Err Unfit) = Ok tt
 abbrev pub replaces : PacksState → List ℕ → DiskWrite → Bool
 replaces p image w = is_some (copy_at p image w.copy.file)
 
--- The disk cut this write off: it was of so many pages, and replaced a copy or not; its record is told, and nothing else is told or
+-- The disk cut this write off: it was of so many pages and tables, and replaced a copy or not; its record is told, and nothing else is told or
 -- sent. Where the disk told how many calls pass, they were fewer than the write makes, and a crash then leaves just this.
 pub record IsCutOff (w : DiskWrite) (p : PacksState) (size : WriteSize) (old new : Moment) (before after : Outgoing) : Type 0 where
-  pub pages : size.pages ≡ length w.pages
+  pub blocks : size.blocks ≡ blocks_in p old.seen w
   pub older : size.replaces ≡ replaces p old.seen w
   pub records : after.records ≡ before.records ++ w.says ∷ []
   pub packets : after.packets ≡ before.packets
-  pub early : (passed : ℕ) → old.passing ≡ Exactly passed → passed < calls_of (length w.pages) (replaces p old.seen w)
-  pub left : (passed : ℕ) → old.passing ≡ Exactly passed → IsCut p w.copy (length w.pages) old.how passed old.seen new.left
+  pub early : (passed : ℕ) → old.passing ≡ Exactly passed → passed < calls_of (blocks_in p old.seen w) (replaces p old.seen w)
+  pub left : (passed : ℕ) → old.passing ≡ Exactly passed → IsCut p w.copy (blocks_in p old.seen w) old.how passed old.seen new.left
 
 -- nothing is cut off where nothing is written
 abbrev pub IsCutIn : Option DiskWrite → PacksState → WriteSize → Moment → Moment → Outgoing → Outgoing → Type 0

@@ -94,6 +94,7 @@ impl From<CommitFault> for NodeFault {
             CommitFault::Cut(size) => NodeFault::Cut(size),
             CommitFault::NoSpace => NodeFault::Unfit,
             CommitFault::Unfit => NodeFault::Unfit,
+            CommitFault::NoMemory => NodeFault::NoMemory,
         }
     }
 }

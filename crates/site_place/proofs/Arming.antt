@@ -9,7 +9,7 @@ use Rattle.disk_model.specs.declared.store.Span.{Span}
 use Rattle.disk_model.specs.Disk.{Moment, IsSettled}
 use Rattle.disk_model.specs.Images.{IsImage}
 use Rattle.disk_model.specs.ScriptDisk.{seen, unsynced, moment, SameBytes}
-use Rattle.site_packs.specs.Packs.{AreShown}
+use Rattle.site_packs.specs.Packs.{AreLive, AreShown}
 use Rattle.site_disk.specs.Image.{label_on, one_half}
 use Rattle.site_node.specs.declared.node.SiteNode.{SiteNode}
 use Rattle.site_place.specs.declared.script.DiskScript.{DiskScript}
@@ -26,6 +26,7 @@ runs_same config me (Some n) old new same runs = record {
   stands = record {
     settled = settled_same old new same runs.stands.settled;
     shown = subst (λ (l : List ℕ). AreShown n.packs.packs l) (sym same.read) runs.stands.shown;
+    live = subst (λ (l : List ℕ). AreLive n.packs l) (sym same.read) runs.stands.live;
   };
   groups = runs.groups;
   home = runs.home;

@@ -84,7 +84,7 @@ read_whole config me n w old now given after result runs whole writes = left_who
 -- the event that a script cuts off
 pub event_cut : {R : Type 0} (config : Config) (me : ℕ) (n : SiteNode) (links : Links) (e : Event) (old fault crashed : ScriptDisk) (x : DiskScript) (faults : ℕ) (size : WriteSize) (own after : Outgoing) → IsRunning config me n (moment old) → IsWhole config me (seen old)
     → old.script ≡ waiting (armed_by_script (Some x)) faults → EventWrites {T = R} (steps_at n links e (view_of n (seen old))).written n.packs (moment old) (moment fault) nothing_out own (Err (Cut size))
-    → (how_of fault.script ≡ as_cut (cut_by x.how) → seen crashed ≡ cut_image fault) → after ≡ record { packets = []; records = cut_records me size.pages x own.records }
+    → (how_of fault.script ≡ as_cut (cut_by x.how) → seen crashed ≡ cut_image fault) → after ≡ record { packets = []; records = cut_records me size.blocks x own.records }
     → Gives (happens_in links e (state_at config me (Running (view_of n (seen old))) (armed_in (Some x)))) (state_at config me (Running (view_of n (seen old))) (armed_in (Some x))) (state_at config me (Stopped (disk_on (groups_at config me) (seen crashed))) None) after
 event_cut {R} config me n links e old fault crashed x faults size own after runs whole script writes leaves told =
     let v = view_of n (seen old) in

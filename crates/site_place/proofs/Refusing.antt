@@ -27,7 +27,7 @@ use Rattle.site_disk.specs.declared.format_fault.FormatFault.TheVariants.{Disk a
 use Rattle.site_disk.specs.Formats.{TellsFormat}
 use Rattle.site_disk.specs.Boots.{IsCause}
 use Rattle.site_disk.specs.declared.boot_fault.BootFault.{BootFault}
-use Rattle.site_disk.specs.declared.boot_fault.BootFault.TheVariants.{Disk, NotALabel, Spent, NotAPack, BadSlot, SharedPage, NoMemory}
+use Rattle.site_disk.specs.declared.boot_fault.BootFault.TheVariants.{Disk, NotALabel, Spent, NotAPack, BadSlot, SharedTable, SharedPage, NoMemory}
 use Rattle.the_run.specs.Disks.{Armed}
 use Rattle.site_node.specs.declared.node.SiteNode.{SiteNode}
 use Rattle.site_node.specs.of_site_parts.declared.fault.NodeFault.{NodeFault}
@@ -49,6 +49,7 @@ of_whole config me image NotALabel whole cause = cause (label_number image) whol
 of_whole config me image Spent whole cause = tt
 of_whole config me image NotAPack whole cause = passing_only me (groups_at config me) image mount.NotAPack whole.sound (inr cause)
 of_whole config me image (BadSlot ino) whole cause = passing_only me (groups_at config me) image (mount.BadSlot ino) whole.sound (inr cause)
+of_whole config me image (SharedTable table) whole cause = passing_only me (groups_at config me) image (mount.SharedTable table) whole.sound (inr cause)
 of_whole config me image (SharedPage page) whole cause = passing_only me (groups_at config me) image (mount.SharedPage page) whole.sound (inr cause)
 of_whole config me image NoMemory whole cause = tt
 

@@ -14,6 +14,7 @@ use packet_order::Dispatch;
 use site_node::{NodeFault, SiteNode};
 
 /// The event happens at the node, over its disk.
+#[inline(always)]
 pub(crate) fn act(
     node: &mut SiteNode,
     disk: &mut CountedDisk,

@@ -6,7 +6,6 @@ mod acting;
 mod counted_disk;
 mod event;
 mod fault;
-mod gates;
 mod place;
 mod script;
 mod telling;

@@ -21,7 +21,6 @@ use trace_book::{Record, StopCause};
 use wire_messages::Packet;
 
 /// A site as it stands in the world.
-#[derive(Drop)]
 pub struct SitePlace {
     alloc: Global,
     config: Config,
@@ -30,6 +29,20 @@ pub struct SitePlace {
     node: Option<SiteNode>,
     disk: CountedDisk,
     armed: Option<DiskScript>,
+}
+
+/// Taken apart in one place: where one is dropped, the prover sees one call.
+impl Drop for SitePlace {
+    fn drop(self) {
+        let SitePlace {
+            alloc: _,
+            config: _,
+            me: _,
+            node: _,
+            disk: _,
+            armed: _,
+        } = self;
+    }
 }
 
 impl Model for SitePlace {
@@ -122,12 +135,14 @@ impl SitePlace {
 
     /// An event of the site, where it runs: all of it, or, where the armed script cuts its disk write off, what a stop leaves. It
     /// gives what the event sends and tells. Where the event finds what it needs, only memory may be wanting.
+    #[inline(always)]
     pub fn happen(&mut self, links: &Links, event: SiteEvent) -> Result<Dispatch, PlaceFault>
         ensures gives { IfOk result (λ out. Gives (happens_in links.now (event_of event) self.old) self.old self.new out) }
         ensures fit { IfErr result (λ fault. CanHappenIn links.now (event_of event) self.old → fault ≡ PlaceFault.NoMemory) }
     {
         let mut out = Dispatch::new(self.alloc);
         let Some(node) = &mut self.node else {
+            drop(event);
             return Ok(out);
         };
         match act(node, &mut self.disk, links, event, &mut out) {
@@ -140,6 +155,7 @@ impl SitePlace {
                 let size = match size_of(fault) {
                     Ok(size) => size,
                     Err(refusal) => {
+                        drop(out);
                         self.armed = None;
                         self.disk.disarm();
                         return Err(refusal);
@@ -151,7 +167,7 @@ impl SitePlace {
                 };
                 self.armed = None;
                 self.disk.crash(script.how);
-                let told = told_of_cut(self.alloc, self.me, size.pages, script, out)?;
+                let told = told_of_cut(self.alloc, self.me, size.blocks, script, out)?;
                 Ok(told)
             }
         }

@@ -2,6 +2,7 @@ ghost use Rattle.std.specs.Prelude.{◌≡◌};
 ghost use Rattle.std.specs.Option.{option_map};
 ghost use Rattle.the_run.specs.Worlds.{cause_of};
 ghost use Rattle.site_disk.specs.Run.{as_leave};
+ghost use Rattle.cut_gates.specs.Cuts.{cut_of};
 ghost use Rattle.site_place.specs.Places.{cut_by};
 
 use disk_model::Leave as DiskLeave;
@@ -32,6 +33,16 @@ pub(crate) fn disk_leave(leave: Leave) -> DiskLeave
         Leave::Old => DiskLeave::Old,
         Leave::New => DiskLeave::New,
         Leave::Byte { byte } => DiskLeave::Byte(byte),
+    }
+}
+
+/// What the call that is cut off so leaves, where the site stops in it.
+pub(crate) fn leave_of(how: CallCut) -> Option<Leave>
+    ensures { cut_of result ≡ cut_by how }
+{
+    match how {
+        CallCut::Stops { leave } => Some(leave),
+        CallCut::Fails => None,
     }
 }
 

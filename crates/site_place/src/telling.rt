@@ -6,8 +6,8 @@ ghost use Rattle.site_place.specs.Places.{cut_by};
 ghost use Rattle.packet_order.specs.Orders.{behind};
 
 use crate::DiskScript;
-use crate::gates::is_new_open;
-use crate::script::cause_of;
+use crate::script::{cause_of, leave_of};
+use cut_gates::is_new_open;
 use locus_ids::{NoMemory, SiteId};
 use packet_order::Dispatch;
 use std::alloc::Global;
@@ -48,6 +48,7 @@ fn told_where(alloc: Global, counts: bool, told: Dispatch) -> Dispatch
     ensures { result ≡ record { packets = []; records = cond counts told.records [] } }
 {
     if !counts {
+        drop(told);
         return Dispatch::new(alloc);
     }
     let mut kept = told;
@@ -55,18 +56,18 @@ fn told_where(alloc: Global, counts: bool, told: Dispatch) -> Dispatch
     kept
 }
 
-/// What is told of a site that stopped in the write of a version of so many pages: first what the event had told of that version,
-/// where it is on the disk. Nothing is sent.
+/// What is told of a site that stopped in the write of a version of so many pages and tables: first what the event had told of that
+/// version, where it is on the disk. Nothing is sent.
 pub(crate) fn told_of_cut(
     alloc: Global,
     me: SiteId,
-    pages: usize,
+    blocks: usize,
     script: DiskScript,
     told: Dispatch,
 ) -> Result<Dispatch, NoMemory>
-    ensures { IfOk result (λ out. out ≡ record { packets = []; records = cond (new_gate pages (cut_by script.how) script.left) told.records [] ++ Record.Stopped me (cause_of (cut_by script.how)) ∷ [] }) }
+    ensures { IfOk result (λ out. out ≡ record { packets = []; records = cond (new_gate blocks (cut_by script.how) script.left) told.records [] ++ Record.Stopped me (cause_of (cut_by script.how)) ∷ [] }) }
 {
-    let is_there = is_new_open(pages, script.how, script.left);
+    let is_there = is_new_open(blocks, leave_of(script.how), script.left);
     let mut out = told_where(alloc, is_there, told);
     tell(alloc, stopped(me, cause_of(script.how)), &mut out)?;
     Ok(out)

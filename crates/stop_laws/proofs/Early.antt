@@ -16,7 +16,7 @@ use Rattle.tree_model.specs.Epochs.{epoch_of}
 use Rattle.tree_model.specs.Folds.{Trace}
 use Rattle.tree_model.specs.Histories.{history}
 use Rattle.tree_model.specs.Tree.{tree_of}
-use Rattle.lawful_trace.specs.Disks.{Writing, calls_of_writing, writing_adoption, writer_of}
+use Rattle.lawful_trace.specs.Disks.{Writing, calls_of_writing, writing_at, writing_adoption, writer_of}
 use Rattle.lawful_trace.specs.Samples.{epoch, first_of}
 use Rattle.stop_laws.specs.Stops.{CutWhileUp, IsUnderway, Writes}
 use Rattle.stop_laws.specs.Samples.{IsExact, opened, stop_before_any_call}
@@ -53,7 +53,7 @@ no_content f stamp = either _
     either false = refl
 
 no_blocks : (f : FileId) (s : ℕ) (stamp : Stamp) → blocks (writing_adoption c before f s stamp) ≡ 0
-no_blocks f s stamp = ap (λ (xs : List ℕ). length (pages_from 0 (pages_of (length xs)))) (no_content f stamp)
+no_blocks f s stamp = ap (λ (xs : List ℕ). blocks (writing_at c before f s (pages_of (length xs)) (pages_from 0 (pages_of (length xs))))) (no_content f stamp)
 
 few_calls : (w : Writing) (passed : ℕ) → blocks w ≤ 0 → passed < calls_of_writing w → passed ≡ 1000 → ⊥
 few_calls w passed low inside e = by w.older (blocks w) low inside

@@ -1,10 +1,9 @@
 -- A version that is cut off, as the lawful trace tells of it.
-use Rattle.std.proofs.Common.{◌≡◌, ◌≤◌, ◌<◌, ℕ, ◌+◌, nat_lt, Bool, true, List, [], length, Option, Some, None, refl, sym, ◌∙◌, ap, subst, arith}
-use Rattle.std.specs.Option.{is_some, option_map}
+use Rattle.std.proofs.Common.{◌≡◌, ◌≤◌, ◌<◌, ℕ, ◌+◌, nat_lt, Bool, true, List, length, Option, Some, None, refl, sym, ◌∙◌, ap, subst, arith}
+use Rattle.std.specs.Option.{is_some}
 use Rattle.role_steps.proofs.of_plain_facts.Numbers.{less}
 use Rattle.locus_ids.specs.declared.config.Config.{Config}
 use Rattle.locus_ids.specs.declared.ids.FileId.{FileId}
-use Rattle.locus_ids.specs.Sizes.{inode_span}
 use Rattle.schedule_lines.specs.declared.line.ScheduleLine.{ScheduleLine}
 use Rattle.trace_book.specs.declared.record.Record.{Record}
 use Rattle.trace_book.specs.declared.record.Record.TheVariants as says
@@ -15,34 +14,22 @@ use Rattle.role_steps.specs.Views.{Store, DiskWrite}
 use Rattle.role_steps.specs.declared.copies.FileCopy.{FileCopy}
 use Rattle.the_run.specs.Disks.{Armed as Script, Cut, has_older, writing_of, write_calls, is_on_disk}
 use Rattle.the_run.specs.Worlds.{Line}
-use Rattle.tree_model.specs.Files.{committing, version_of}
+use Rattle.tree_model.specs.Files.{committing}
 use Rattle.tree_model.specs.Folds.{Trace}
 use Rattle.tree_model.specs.Histories.{held}
 use Rattle.lawful_trace.specs.Disks.{Armed, calls_of, calls_of_writing, pages_held, pages_now, writing_commit, writing_adoption, writer_of, armed_at}
 use Rattle.vector_laws.specs.Held.{IsOf}
-use Rattle.tree_laws.specs.Doing.{pages_written}
+use Rattle.tree_laws.specs.Doing.{pages_told, pages_written}
 use Rattle.tree_laws.specs.Printed.{entries}
-use Rattle.tree_laws.specs.Stores.{CopiesAreHeld, copy_for}
+use Rattle.tree_laws.specs.Stores.{CopiesAreHeld}
 use Rattle.whole_run_laws.specs.CutCounts.{SameArming, CountsAs}
 use Rattle.whole_run_laws.proofs.CutGates.{cut_same}
+use Rattle.whole_run_laws.proofs.CutPlaced.{before_is, older_is, same_writing}
 use Rattle.stop_laws.specs.Stops.{IsCutAt, IsArmed, IsBetween, IsVersionCut, Writes}
 use Rattle.stop_laws.proofs.Traced.{fails, fails_as}
 use Rattle.stop_laws.proofs.Writing.{CouldTell}
 
 -- ---- how it is written ----
-
-some_map : {A B : Type 0} (f : A → B) (o : Option A) → is_some (option_map f o) ≡ is_some o
-some_map f None = refl
-some_map f (Some x) = refl
-
-older_is : (c : Config) (t : List Line) (s : ℕ) (st : Store) (f : FileId) → CopiesAreHeld c t s st → f.ino < inode_span → is_some (copy_of st f) ≡ is_some (held c (entries t) s f)
-older_is c t s st f copies low =
-    ap (λ (o : Option FileCopy). is_some o) (copies.are f low)
-    ∙ (some_map (copy_for f) (option_map (version_of c (entries t) f) (held c (entries t) s f)) ∙ some_map (version_of c (entries t) f) (held c (entries t) s f))
-
--- a version that is written tells its pages alone, and whether there is an older one
-same_writing : (a b : Bool) (old new now then : ℕ) (xs ys : List ℕ) → a ≡ b → xs ≡ ys → writing a old now xs ≡ writing b new then ys
-same_writing a b old new now then xs ys e f = λ i. record { pages = f i; tables = []; older = e i }
 
 -- what is written as told is between the least and the most
 same_between : (w x : Writing) → x ≡ w → IsBetween w w x
@@ -51,17 +38,19 @@ same_between w x e = subst (IsBetween w w) (sym e) (record { least_blocks = same
     same : (n : ℕ) → n ≤ n
     same n = omega arith
 
-of_record : (c : Config) (t : Trace) (s : ℕ) (r : Record) (x : FileCopy) (older : Bool) (before now : ℕ) (ps : List ℕ) → IsOf s r x → ps ≡ pages_written c t r → older ≡ is_some (held c t s x.file) → Writes c t r (writing older before now ps)
-of_record c t s (says.Commit f site stamp parents content) x older before now ps is pages has =
+of_record : (c : Config) (t : Trace) (s : ℕ) (r : Record) (x : FileCopy) (older : Bool) (before now : ℕ) (ps : List ℕ) → IsOf s r x → ps ≡ pages_written c t r → now ≡ pages_told c t r → older ≡ is_some (held c t s x.file) → before ≡ pages_held c t x.file (held c t s x.file) → Writes c t r (writing older before now ps)
+of_record c t s (says.Commit f site stamp parents content) x older before now ps is pages many has had =
     same_writing older (is_some (held c t site f)) before (pages_held c t f (held c t site f)) now (pages_now (committing c t f site)) ps (writing_commit c t f site).pages
-    (has ∙ (ap (λ (g : FileId). is_some (held c t s g)) is.1.file_is ∙ ap (λ (u : ℕ). is_some (held c t u f)) (sym is.0))) pages
-of_record c t s (says.Adopt f site stamp) x older before now ps is pages has = same_between (writing_adoption c t f site stamp) (writing older before now ps)
+    (has ∙ (ap (λ (g : FileId). is_some (held c t s g)) is.1.file_is ∙ ap (λ (u : ℕ). is_some (held c t u f)) (sym is.0)))
+    (had ∙ (ap (λ (g : FileId). pages_held c t g (held c t s g)) is.1.file_is ∙ ap (λ (u : ℕ). pages_held c t f (held c t u f)) (sym is.0))) many pages
+of_record c t s (says.Adopt f site stamp) x older before now ps is pages many has had = same_between (writing_adoption c t f site stamp) (writing older before now ps)
     (same_writing older (is_some (held c t site f)) before (pages_held c t f (held c t site f)) now (pages_held c t f (Some stamp)) ps (writing_adoption c t f site stamp).pages
-    (has ∙ (ap (λ (g : FileId). is_some (held c t s g)) is.1 ∙ ap (λ (u : ℕ). is_some (held c t u f)) (sym is.0))) pages)
-of_record c t s _ x older before now ps is pages has = absurd is
+    (has ∙ (ap (λ (g : FileId). is_some (held c t s g)) is.1 ∙ ap (λ (u : ℕ). is_some (held c t u f)) (sym is.0)))
+    (had ∙ (ap (λ (g : FileId). pages_held c t g (held c t s g)) is.1 ∙ ap (λ (u : ℕ). pages_held c t f (held c t u f)) (sym is.0))) many pages)
+of_record c t s _ x older before now ps is pages many has had = absurd is
 
 pub writes_so : (c : Config) (t : List Line) (s : ℕ) (st : Store) (d : DiskWrite) → CouldTell c t d → CopiesAreHeld c t s st → IsOf s d.says d.copy → Writes c (entries t) d.says (writing_of st d)
-writes_so c t s st d could copies is = of_record c (entries t) s d.says d.copy (has_older st d) (pages_of (length (content_of (copy_of st d.copy.file)))) (pages_of (length d.copy.content)) d.pages is could.pages (older_is c t s st d.copy.file copies could.narrow)
+writes_so c t s st d could copies is = of_record c (entries t) s d.says d.copy (has_older st d) (pages_of (length (content_of (copy_of st d.copy.file)))) (pages_of (length d.copy.content)) d.pages is could.pages could.now (older_is c t s st d.copy.file copies could.narrow) (before_is c t s st d.copy.file copies could.narrow)
 
 -- ---- where it is cut ----
 

@@ -36,12 +36,12 @@ use Rattle.tree_model.specs.declared.instance.Instance.{Instance as Open}
 use Rattle.tree_model.specs.Epochs.{epoch_of}
 use Rattle.tree_model.specs.Files.{HeldVersion, committing}
 use Rattle.tree_model.specs.Histories.{history}
-use Rattle.lawful_trace.specs.Disks.{pages_changed}
+use Rattle.lawful_trace.specs.Disks.{pages_changed, pages_now}
 use Rattle.lawful_trace.specs.Tables.{call_of_act, call_of_release}
 use Rattle.lawful_trace.specs.TreeRows.{IsStepOf}
 use Rattle.call_rules.specs.declared.want.Want.TheVariants as asks
 use Rattle.trace_book.specs.declared.operation.What.{What}
-use Rattle.tree_laws.specs.Doing.{FrameFact, StoreHeld, PullsFact, WrittenFact, pages_written}
+use Rattle.tree_laws.specs.Doing.{FrameFact, StoreHeld, PullsFact, WrittenFact, pages_told, pages_written}
 use Rattle.tree_laws.specs.Instances.{Stands}
 use Rattle.tree_laws.specs.Packets.{CloseFact, OpFact}
 use Rattle.tree_laws.specs.Past.{WasNamed, WasShut}
@@ -67,10 +67,11 @@ use Rattle.rest_laws.proofs.StoreStepResting.{op_rests, store_rests}
 use Rattle.rest_laws.proofs.StoreStepWriting.{may_write}
 use Rattle.stop_laws.specs.Stops.{IsUnderway}
 
--- what is written is underway by the trace, and its record would tell which pages are written
+-- what is written is underway by the trace, and its record would tell which pages are written, and of how many
 pub record CouldTell (c : Config) (trace : List Line) (d : DiskWrite) : Type 0 where
   pub underway : IsUnderway c (entries trace) d.says
   pub pages : d.pages ≡ pages_written c (entries trace) d.says
+  pub now : pages_of (length d.copy.content) ≡ pages_told c (entries trace) d.says
   pub narrow : d.copy.file.ino < inode_span
 
 abbrev pub Could : Config → List Line → Option DiskWrite → Type 0
@@ -91,6 +92,7 @@ module _ (c : Config) (trace : List Line) (past : Past c trace) (f : Frame) (fra
   owed i k among x w unshut asked owes = record {
     underway = ((may_commit c 0 trace past.rest.packs past.followed stores f frame s held i k x w unshut owes writes).row, record { epoch = f.epoch; inside = frame.inside; instance = x; committing_is = is; asked = asked });
     pages = ap (λ (y : Work). ascending y.changed) (sym w.work_is) ∙ ap pages_changed (sym is);
+    now = ap (λ (y : Work). pages_of (length y.content)) (sym w.work_is) ∙ ap pages_now (sym is);
     narrow = subst (λ (y : FileId). y.ino < inode_span) w.file_is ((op_rests c trace past).numbers f.epoch i.inst x w.open_at.found (subst (λ (z : ℕ). epoch_of (entries trace) z ≡ Some f.epoch) (sym w.open_at.place) frame.inside));
   }
     where
@@ -245,10 +247,14 @@ module _ (c : Config) (trace : List Line) (past : Past c trace) (f : Frame) wher
   taken : (p : Pull) (v : SiteView) → InsideFact c f trace v → PullFact c trace f.epoch f.me p → is_ready v p ≡ true → is_above_own p (copy_of v.store p.file) ≡ true → CouldTell c trace (adopt_write f p)
   taken p v inside pull ready above = record {
     underway = (may_adopt c 0 trace past.rest.packs past.followed rests f inside.frame v.store inside.store p pull (and_first (is_complete p) _ ready) wants above).row;
-    pages = ap (λ (n : ℕ). pages_from 0 (pages_of n)) (sym pull.size_is ∙ (ap (λ (y : HeldVersion). length y.content) pull.is_version.same ∙ ap (λ (t : Stamp). length (content_of (history c (entries trace)) p.file t)) pull.stamp_is));
+    pages = ap (λ (n : ℕ). pages_from 0 (pages_of n)) size;
+    now = ap pages_of (equal (length p.content) p.size (and_first (is_complete p) _ ready) ∙ size);
     narrow = rests.narrow p.file p.stamp stands;
   }
     where
+      size : p.size ≡ length (content_of (history c (entries trace)) p.file p.stamp)
+      size = sym pull.size_is ∙ (ap (λ (y : HeldVersion). length y.content) pull.is_version.same ∙ ap (λ (t : Stamp). length (content_of (history c (entries trace)) p.file t)) pull.stamp_is)
+
       rests : StoreRests c trace
       rests = store_rests c trace past
 

@@ -125,7 +125,7 @@ adoption_underway c before l p a site ours f stamp may place q h = over (any_fin
 -- what writes as the adoption does
 between_same : (c : Config) (before : Trace) (f : FileId) (site : ℕ) (stamp : Stamp) (w : Writing) (v : FoldWriting) → WritesSame w (writing_adoption c before f site stamp) → IsBetween (writing_adoption c before f site stamp) (writing_adoption c before f site stamp) v → WritesSame w v
 between_same c before f site stamp w v s b = record {
-  pages = s.pages ∙ same (blocks (writing_adoption c before f site stamp)) (blocks v) b.least_blocks b.most_blocks;
+  blocks = s.blocks ∙ same (blocks (writing_adoption c before f site stamp)) (blocks v) b.least_blocks b.most_blocks;
   older = s.older ∙ sym b.older;
 }
   where

@@ -1,33 +1,36 @@
 -- The disk of a site, by both formulations.
-use Rattle.std.proofs.Common.{◌≡◌, ℕ, ◌+◌, ◌-◌, ◌==◌, Bool, true, false, cond, ◌&&◌, List, [], ◌∷◌, ◌++◌, length, map, filter, Option, None, Some, refl, sym, ap, subst, ◌∙◌}
-use Rattle.std.specs.Prelude.{nat_lt, fold, take, drop, replicate}
+use Rattle.std.proofs.Common.{◌≡◌, ℕ, ◌+◌, ◌-◌, ◌==◌, Bool, true, false, cond, ◌&&◌, ◌||◌, List, [], ◌∷◌, ◌++◌, length, map, filter, Option, None, Some, refl, sym, ap, subst, ◌∙◌, arith}
+use Rattle.std.specs.Prelude.{not, nat_lt, nat_le, fold, take, drop, replicate}
+use Rattle.std.specs.List.{list_any}
 use Rattle.std.specs.Option.{is_some}
 use Rattle.locus_ids.specs.declared.config.Config.{Config}
 use Rattle.locus_ids.specs.declared.ids.FileId.{FileId}
 use Rattle.locus_ids.specs.declared.ids.Stamp.{Stamp}
+use Rattle.locus_ids.specs.Sizes.{content_tables_max}
 use Rattle.commit_graph.specs.declared.history.Version.{Version}
 use Rattle.commit_graph.specs.Versions.{content_of}
-use Rattle.file_content.specs.Pages.{pages_of}
-use Rattle.file_content.proofs.Paging.{length_from, length_ascending}
+use Rattle.file_content.specs.Pages.{pages_of, pages_from, pages_under, is_under, is_table_written, tables_written, placed, ascending}
+use Rattle.file_content.proofs.Paging.{length_ascending}
 use Rattle.trace_book.specs.declared.record.Record.{Record}
 use Rattle.trace_book.specs.declared.record.Record.TheVariants as rec
 use Rattle.schedule_lines.specs.declared.line.Line.TheVariants as line
 use Rattle.schedule_lines.specs.declared.line.ScheduleLine.{ScheduleLine}
 use Rattle.schedule_lines.specs.declared.line.ScheduleLine.TheVariants.{Event}
-use Rattle.disk_calls.specs.Versions.{blocks, are_left_open, new_gate, old_gate}
+use Rattle.disk_calls.specs.Versions.{blocks, blocks_of, are_left_open, new_gate, old_gate}
 use Rattle.tree_model.specs.declared.instance.Instance.{Instance as TreeInstance}
 use Rattle.tree_model.specs.Epochs.{is_up}
 use Rattle.tree_model.specs.Folds.{Trace}
-use Rattle.tree_model.specs.Histories.{history, held as held_by}
+use Rattle.tree_model.specs.Histories.{held as held_by}
 use Rattle.tree_model.specs.Files.{committing}
-use Rattle.lawful_trace.specs.Disks.{Armed, Arming as FoldArming, Disk as FoldDisk, Writing as FoldWriting, calls_of_writing, cut_of, calls_of as calls_armed, written_with, booted_with, stopped_with, writing_commit, writing_adoption, pages_changed, disk_after}
+use Rattle.lawful_trace.specs.Disks.{Armed, Arming as FoldArming, Disk as FoldDisk, Writing as FoldWriting, calls_of_writing, cut_of, calls_of as calls_armed, written_with, booted_with, stopped_with, writing_commit, writing_adoption, pages_changed, pages_held, pages_now, disk_after}
 use Rattle.lawful_trace.specs.Disks as folds
 use Rattle.lawful_trace.specs.Lawful.{MayCome}
 use Rattle.promises.specs.Past.{Past, Copy, Instance, site_at, held}
 use Rattle.promises.specs.After.{writers_of}
 use Rattle.promises.specs.Rows.{is_there}
-use Rattle.promises.specs.Stops.{Plain, Closes, switch, label_calls, Arming, Disk, Writing, armed_by, through_lines, calls_of, boot_calls, are_two_open, written, stopped, disk_by, writing_by, writing_of}
+use Rattle.promises.specs.Stops.{Plain, Closes, switch, label_calls, Arming, Disk, Writing, armed_by, through_lines, calls_of, boot_calls, are_two_open, written, stopped, disk_by, pages_in, writing_by, writing_of}
 use Rattle.past_laws.specs.Agreement.{Agrees, instance_of, is_of_cluster, speaks_of_sites}
+use Rattle.past_laws.proofs.Changing.{filter_same}
 use Rattle.past_laws.proofs.FilesFirst.{Committer, committer}
 use Rattle.past_laws.proofs.Names.{number_eq}
 use Rattle.past_laws.proofs.Sites.{of_cluster_there}
@@ -56,17 +59,17 @@ lines_same lines site first last d = all_same site (take (last - first) (drop fi
 
 -- both write so many blocks, over an older version or over none
 pub record WritesSame (w : Writing) (v : FoldWriting) : Type 0 where
-  pub pages : w.pages ≡ blocks v
+  pub blocks : w.blocks ≡ blocks v
   pub older : w.older ≡ v.older
 
 pub calls_same : (w : Writing) (v : FoldWriting) → WritesSame w v → length (calls_of w) ≡ calls_of_writing v
-calls_same w v s = version_calls w.pages w.older ∙ (ap (λ (n : ℕ). n + (4 + cond w.older 2 0)) s.pages ∙ ap (λ (b : Bool). blocks v + (4 + cond b 2 0)) s.older)
+calls_same w v s = version_calls w.blocks w.older ∙ (ap (λ (n : ℕ). n + (4 + cond w.older 2 0)) s.blocks ∙ ap (λ (b : Bool). blocks v + (4 + cond b 2 0)) s.older)
 
 and_false : (b : Bool) → (b && false) ≡ false
 and_false true = refl
 and_false false = refl
 
-older_same : (a : FoldArming) (n : ℕ) (older : Bool) (k : ℕ) → (older && are_two_open (leaves_of a) false k (calls_of (record { pages = n; older = older }))) ≡ (nat_lt k (n + (4 + cond older 2 0)) && (older && (new_gate n (cut_of a) k && old_gate n (cut_of a) k)))
+older_same : (a : FoldArming) (n : ℕ) (older : Bool) (k : ℕ) → (older && are_two_open (leaves_of a) false k (calls_of (record { blocks = n; older = older }))) ≡ (nat_lt k (n + (4 + cond older 2 0)) && (older && (new_gate n (cut_of a) k && old_gate n (cut_of a) k)))
 older_same a n true k = both_same a n k
 older_same a n false k = sym (and_false (nat_lt k (n + 4)))
 
@@ -78,8 +81,8 @@ written_same w v s d = at d.armed
 
     slots : (a : FoldArming) (k : ℕ) → (w.older && are_two_open (leaves_of a) false k (calls_of w)) ≡ are_left_open v (cut_of a) k
     slots a k =
-        ap (λ (n : ℕ). w.older && are_two_open (leaves_of a) false k (calls_of (record { pages = n; older = w.older }))) s.pages
-        ∙ (ap (λ (b : Bool). b && are_two_open (leaves_of a) false k (calls_of (record { pages = blocks v; older = b }))) s.older
+        ap (λ (n : ℕ). w.older && are_two_open (leaves_of a) false k (calls_of (record { blocks = n; older = w.older }))) s.blocks
+        ∙ (ap (λ (b : Bool). b && are_two_open (leaves_of a) false k (calls_of (record { blocks = blocks v; older = b }))) s.older
         ∙ older_same a (blocks v) v.older k)
 
     joined : (a : Armed) (m n : ℕ) (x y : Bool) → m ≡ n → x ≡ y → ◌≡◌ {A = Disk} (record { armed = record { calls = calls_armed a.arming; leaves = leaves_of a.arming; used = m } ∷ []; halves = d.halves; slots = x }) (record { armed = record { calls = calls_armed a.arming; leaves = leaves_of a.arming; used = n } ∷ []; halves = d.halves; slots = y })
@@ -127,21 +130,78 @@ stopped_same false d = at d.armed
 pub held_same : (c : Config) (before : Trace) (p : Past) → Agrees c before p → (site : ℕ) → is_there p site ≡ true → (f g : FileId) → f ≡ g → is_some (held p site f) ≡ is_some (held_by c before site g)
 held_same c before p a site there f g e = ap (λ (h : FileId). is_some (held p site h)) e ∙ ap is_some (a.sites.held site there g)
 
+-- so many pages has what the site holds, by both
+held_pages : (c : Config) (before : Trace) (p : Past) → Agrees c before p → (f : FileId) (o : Option Stamp) → pages_in p f o ≡ pages_held c before f o
+held_pages c before p a f None = refl
+held_pages c before p a f (Some stamp) = ap (λ (h : List Version). pages_of (length (content_of h f stamp))) a.epochs.history
+
+before_same : (c : Config) (before : Trace) (p : Past) → Agrees c before p → (site : ℕ) → is_there p site ≡ true → (f g : FileId) → f ≡ g → pages_in p f (held p site f) ≡ pages_held c before g (held_by c before site g)
+before_same c before p a site there f g e = ap (λ (h : FileId). pages_in p h (held p site h)) e ∙ (ap (pages_in p g) (a.sites.held site there g) ∙ held_pages c before p a g (held_by c before site g))
+
+-- a table has other pages, or hasn't, in whatever order they stand
+any_placed : (q : ℕ → Bool) (page : ℕ) (ps : List ℕ) → list_any q (placed page ps) ≡ (q page || list_any q ps)
+any_placed q page [] = refl
+any_placed q page (x ∷ xs) = at (nat_le page x) (any_placed q page xs)
+  where
+    turned : (a b d : Bool) → (a || (b || d)) ≡ (b || (a || d))
+    turned true true d = refl
+    turned true false d = refl
+    turned false b d = refl
+
+    at : (b : Bool) → list_any q (placed page xs) ≡ (q page || list_any q xs) → list_any q (elim b as (λ (y : Bool). List ℕ) [ true ↦ page ∷ x ∷ xs | false ↦ x ∷ placed page xs ]) ≡ (q page || (q x || list_any q xs))
+    at true e = refl
+    at false e = ap (λ (b : Bool). q x || b) e ∙ turned (q x) (q page) (list_any q xs)
+
+any_ascending : (q : ℕ → Bool) (pages : List ℕ) → list_any q (ascending pages) ≡ list_any q pages
+any_ascending q [] = refl
+any_ascending q (page ∷ pages) = any_placed q page (ascending pages) ∙ ap (λ (b : Bool). q page || b) (any_ascending q pages)
+
+tables_ascending : (old now : ℕ) (pages : List ℕ) → tables_written old now (ascending pages) ≡ tables_written old now pages
+tables_ascending old now pages = filter_same (is_table_written old now (ascending pages)) (is_table_written old now pages)
+    (λ table. ap (λ (b : Bool). nat_lt 0 (pages_under table now) && (not (pages_under table old == pages_under table now) || b)) (any_ascending (is_under table) pages)) (pages_from 0 content_tables_max)
+
+-- each page and each table is a block
+blocks_are : (pages tables : List ℕ) → blocks_of pages tables ≡ length pages + length tables
+blocks_are pages [] = omega arith
+blocks_are pages (table ∷ tables) = omega (arith, blocks_are pages tables)
+
 -- a commit writes the same by both
 pub commit_same : (c : Config) (before : Trace) (p : Past) → Agrees c before p → (f : FileId) (site : ℕ) → is_there p site ≡ true → (one : Instance) (y : TreeInstance) → instance_of one ≡ y → one.grant.file ≡ f → committing c before f site ≡ Some y → WritesSame (writing_by p site one) (writing_commit c before f site)
 commit_same c before p a f site there one y is of by = record {
-  pages = sym (ap (λ (o : Option TreeInstance). length (pages_changed o)) by ∙ (length_ascending y.work.changed ∙ ap (λ (x : TreeInstance). length x.work.changed) (sym is)));
+  blocks = sym (ap (λ (o : Option TreeInstance). blocks_over (pages_now o) (pages_changed o)) by
+      ∙ (ap (λ (x : TreeInstance). blocks_over (pages_of (length x.work.content)) (ascending x.work.changed)) (sym is)
+      ∙ (ap (λ (n : ℕ). blocks_of (ascending one.work.changed) (tables_written n many (ascending one.work.changed))) (sym (before_same c before p a site there one.grant.file f of))
+      ∙ (blocks_are (ascending one.work.changed) (tables_written held_now many (ascending one.work.changed))
+      ∙ (ap (λ (n : ℕ). n + length (tables_written held_now many (ascending one.work.changed))) (length_ascending one.work.changed)
+      ∙ ap (λ (ts : List ℕ). length one.work.changed + length ts) (tables_ascending held_now many one.work.changed))))));
   older = held_same c before p a site there one.grant.file f of;
 }
+  where
+    many : ℕ
+    many = pages_of (length one.work.content)
+
+    held_now : ℕ
+    held_now = pages_in p one.grant.file (held p site one.grant.file)
+
+    blocks_over : ℕ → List ℕ → ℕ
+    blocks_over now pages = blocks_of pages (tables_written (pages_held c before f (held_by c before site f)) now pages)
 
 pub adoption_same : (c : Config) (before : Trace) (p : Past) → Agrees c before p → (f : FileId) (site : ℕ) (stamp : Stamp) → is_there p site ≡ true → (v : Copy) → v.file ≡ f → v.stamp ≡ stamp → WritesSame (writing_of p site v) (writing_adoption c before f site stamp)
 adoption_same c before p a f site stamp there v file at = record {
-  pages = ap (λ (g : FileId). pages_of (length (content_of p.history g v.stamp))) file
-      ∙ (ap (λ (s : Stamp). pages_of (length (content_of p.history f s))) at
-      ∙ (ap (λ (h : List Version). pages_of (length (content_of h f stamp))) a.epochs.history
-      ∙ sym (length_from 0 (pages_of (length (content_of (history c before) f stamp))))));
+  blocks = ap (λ (n : ℕ). blocks_over (pages_in p v.file (held p site v.file)) n) now
+      ∙ (ap (λ (n : ℕ). blocks_over n many) (before_same c before p a site there v.file f file)
+      ∙ sym (blocks_are (pages_from 0 many) (tables_written (pages_held c before f (held_by c before site f)) many (pages_from 0 many))));
   older = held_same c before p a site there v.file f file;
 }
+  where
+    many : ℕ
+    many = pages_held c before f (Some stamp)
+
+    now : pages_in p v.file (Some v.stamp) ≡ many
+    now = ap (λ (g : FileId). pages_in p g (Some v.stamp)) file ∙ (ap (λ (s : Stamp). pages_in p f (Some s)) at ∙ held_pages c before p a f (Some stamp))
+
+    blocks_over : ℕ → ℕ → ℕ
+    blocks_over old now = length (pages_from 0 now) + length (tables_written old now (pages_from 0 now))
 
 -- ---- each record ----
 

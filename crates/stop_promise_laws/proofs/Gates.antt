@@ -66,11 +66,11 @@ plain_length (suc n) rest = same n (length rest) (length (replicate n Plain ++ r
 
 -- ---- a version ----
 
-calls_joined : (n : ℕ) (older : Bool) → calls_of (record { pages = n; older = older }) ≡ replicate (n + 2) Plain ++ (switch Opens ++ cond older (switch Closes) [])
+calls_joined : (n : ℕ) (older : Bool) → calls_of (record { blocks = n; older = older }) ≡ replicate (n + 2) Plain ++ (switch Opens ++ cond older (switch Closes) [])
 calls_joined n older = append_assoc (replicate (n + 2) Plain) (switch Opens) (cond older (switch Closes) [])
 
 -- the new gate is open, or isn't yet, after so many calls of a version over none
-pub new_same : (a : Arming) (blocks k : ℕ) → are_two_open (leaves_of a) false k (calls_of (record { pages = blocks; older = false })) ≡ new_gate blocks (cut_of a) k
+pub new_same : (a : Arming) (blocks k : ℕ) → are_two_open (leaves_of a) false k (calls_of (record { blocks = blocks; older = false })) ≡ new_gate blocks (cut_of a) k
 new_same a blocks k = ap (are_two_open (leaves_of a) false k) (calls_joined blocks false) ∙ plain_before (leaves_of a) false (blocks + 2) k (switch Opens) ∙ over (nat_lt k (blocks + 2)) refl
   where
     at : (j : ℕ) → k ≡ blocks + 2 + j → are_two_open (leaves_of a) false j (switch Opens) ≡ cond (nat_lt k (blocks + 4)) (gate_left (cut_of a) (k == blocks + 2) false true) true
@@ -83,7 +83,7 @@ new_same a blocks k = ap (are_two_open (leaves_of a) false k) (calls_joined bloc
     over false e = at (k - (blocks + 2)) (from_less k (blocks + 2) e)
 
 -- both gates are open after so many calls of a version over an older one
-pub both_same : (a : Arming) (blocks k : ℕ) → are_two_open (leaves_of a) false k (calls_of (record { pages = blocks; older = true })) ≡ nat_lt k (blocks + 6) && (new_gate blocks (cut_of a) k && old_gate blocks (cut_of a) k)
+pub both_same : (a : Arming) (blocks k : ℕ) → are_two_open (leaves_of a) false k (calls_of (record { blocks = blocks; older = true })) ≡ nat_lt k (blocks + 6) && (new_gate blocks (cut_of a) k && old_gate blocks (cut_of a) k)
 both_same a blocks k = ap (are_two_open (leaves_of a) false k) (calls_joined blocks true) ∙ plain_before (leaves_of a) false (blocks + 2) k (switch Opens ++ switch Closes) ∙ over (nat_lt k (blocks + 2)) refl
   where
     at : (j : ℕ) → k ≡ blocks + 2 + j → are_two_open (leaves_of a) false j (switch Opens ++ switch Closes) ≡ nat_lt k (blocks + 6) && (cond (nat_lt k (blocks + 4)) (gate_left (cut_of a) (k == blocks + 2) false true) true && cond (nat_lt k (blocks + 4)) true (gate_left (cut_of a) (k == blocks + 4) true false))
@@ -98,7 +98,7 @@ both_same a blocks k = ap (are_two_open (leaves_of a) false k) (calls_joined blo
     over false e = at (k - (blocks + 2)) (from_less k (blocks + 2) e)
 
 -- how many calls a version makes
-pub version_calls : (blocks : ℕ) (older : Bool) → length (calls_of (record { pages = blocks; older = older })) ≡ blocks + (4 + cond older 2 0)
+pub version_calls : (blocks : ℕ) (older : Bool) → length (calls_of (record { blocks = blocks; older = older })) ≡ blocks + (4 + cond older 2 0)
 version_calls blocks true = ap length (calls_joined blocks true) ∙ plain_length (blocks + 2) (switch Opens ++ switch Closes) ∙ same blocks
   where
     same : (n : ℕ) → n + 2 + 4 ≡ n + (4 + 2)

@@ -53,7 +53,7 @@ inside_same a calls passed many k e = over a.used (calls_armed a.arming) calls p
 
 stays_same : (a : Armed) (w : Writing) (v : FoldWriting) → WritesSame w v → (passed : ℕ) → IsCutAt a (calls_of_writing v) passed → stays w (arming_as a) ≡ is_written v (cut_of a.arming) passed
 stays_same a w v s passed k =
-    ap (λ (n : ℕ). are_two_open (leaves_of a.arming) false (calls_armed a.arming - a.used) (calls_of (record { pages = n; older = false }))) s.pages
+    ap (λ (n : ℕ). are_two_open (leaves_of a.arming) false (calls_armed a.arming - a.used) (calls_of (record { blocks = n; older = false }))) s.blocks
     ∙ (new_same a.arming (blocks v) (calls_armed a.arming - a.used)
     ∙ ap (new_gate (blocks v) (cut_of a.arming)) (rest a.used passed (calls_armed a.arming) (one_number a (calls_of_writing v) passed k)))
   where

@@ -1,5 +1,5 @@
 -- A store whose instance has just been committed: the instance is the tree's but for its stage, and the others are.
-use Rattle.std.proofs.Common.{◌≡◌, ℕ, true, false, List, [], ◌∷◌, Option, Some, None, refl, sym, ◌∙◌, ap, inl, inr}
+use Rattle.std.proofs.Common.{◌≡◌, ℕ, true, false, List, [], ◌∷◌, length, Option, Some, None, refl, sym, ◌∙◌, ap, inl, inr}
 use Rattle.locus_ids.specs.declared.config.Config.{Config}
 use Rattle.locus_ids.specs.declared.ids.FileId.{FileId}
 use Rattle.locus_ids.specs.declared.ids.Mode.{Mode}
@@ -15,8 +15,8 @@ use Rattle.the_run.specs.Worlds.{Line}
 use Rattle.tree_model.specs.declared.instance.Instance.{Instance as Open}
 use Rattle.file_effects.specs.declared.work.Work.{Work}
 use Rattle.tree_model.specs.Files.{committing}
-use Rattle.lawful_trace.specs.Disks.{pages_changed}
-use Rattle.file_content.specs.Pages.{ascending}
+use Rattle.lawful_trace.specs.Disks.{pages_changed, pages_now}
+use Rattle.file_content.specs.Pages.{ascending, pages_of}
 use Rattle.tree_laws.specs.Printed.{entries}
 use Rattle.tree_laws.specs.Doing.{FrameFact, StoreHeld, WriteFact}
 use Rattle.tree_laws.specs.Following.{MayTell, IsFollowed}
@@ -101,7 +101,10 @@ module _ (c : Config) (n : ℕ) (trace : List Line) (few : PacksAreOfSites c) (h
     unshut_after (inr p) = unshut p
 
     pub written_so : WriteFact c n trace f.me s (commit_write f i vector stamp)
-    written_so = record { own = refl; may = may; held = copies_now c n trace few h rests f frame s kept i k x w unshut owes writes stay; pages = changed_pages }
+    written_so = record { own = refl; may = may; held = copies_now c n trace few h rests f frame s kept i k x w unshut owes writes stay; pages = changed_pages; now = all_pages }
       where
         changed_pages : ascending i.work.changed ≡ pages_changed (committing c (entries trace) i.file f.me)
         changed_pages = ap (λ (y : Work). ascending y.changed) (sym w.work_is) ∙ ap pages_changed (sym (committing_is c n trace few h rests f frame s kept i k x w unshut owes writes))
+
+        all_pages : pages_of (length i.work.content) ≡ pages_now (committing c (entries trace) i.file f.me)
+        all_pages = ap (λ (y : Work). pages_of (length y.content)) (sym w.work_is) ∙ ap pages_now (sym (committing_is c n trace few h rests f frame s kept i k x w unshut owes writes))

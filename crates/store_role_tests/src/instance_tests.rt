@@ -1,5 +1,5 @@
 // store_instances: one instance, as site 2 has asked for it at site 1.
-use crate::given::{given, is_text};
+use crate::checks::{given, holds, is_text};
 use locus_ids::{Kind, Mode, Serial, Sites, Stamps};
 use operation_effects::WorkingContent;
 use role_shown::{FILE, frame, inst, shown, site, stamp, vector};
@@ -12,6 +12,7 @@ use wire_messages::Outbox;
 /// Instance 2.1 of the file, as it begins.
 fn begun(alloc: Global, mode: Mode) -> Result<StoreInstance, Fail> {
     let us = site(2)?;
+    let content = WorkingContent::from_slice(alloc, b"old")?;
     let asked = StoreRequest {
         inst: Serial {
             us: us.get(),
@@ -25,7 +26,6 @@ fn begun(alloc: Global, mode: Mode) -> Result<StoreInstance, Fail> {
         vector: vector(0, 0, 1),
         parents: Stamps::new(alloc),
     };
-    let content = WorkingContent::from_slice(alloc, b"old")?;
     Ok(StoreInstance::begun(alloc, us, asked, FILE, Some(stamp(3, 1)), content))
 }
 
@@ -33,20 +33,25 @@ fn begun(alloc: Global, mode: Mode) -> Result<StoreInstance, Fail> {
 fn an_instance_begins_open(rt: HostRuntime) {
     let alloc = rt.alloc();
     let instance = given(&rt, begun(alloc, Mode::Read));
-    assert!(rt; instance.inst() == inst(2, 1));
-    assert!(rt; instance.file() == FILE);
-    assert!(rt; instance.mode() == Mode::Read);
-    assert!(rt; instance.changed() == 0);
-    assert!(rt; instance.is_open());
+    holds(&rt, instance.inst() == inst(2, 1));
+    holds(&rt, instance.file() == FILE);
+    holds(&rt, instance.mode() == Mode::Read);
+    holds(&rt, instance.changed() == 0);
+    holds(&rt, instance.is_open());
 }
 
 /// What an instance sends when it is opened, opened again, and at a tick.
 fn sent(instance: &StoreInstance, frame: &SiteFrame, alloc: Global) -> Result<String, Fail> {
     let mut out = Outbox::new(alloc);
-    instance.send_opened(frame, &mut out)?;
-    instance.open_again(frame, &mut out)?;
-    instance.repeat(frame, &mut out)?;
+    send(instance, frame, &mut out)?;
     shown(alloc, &out)
+}
+
+fn send(instance: &StoreInstance, frame: &SiteFrame, out: &mut Outbox) -> Result<(), Fail> {
+    instance.send_opened(frame, out)?;
+    instance.open_again(frame, out)?;
+    instance.repeat(frame, out)?;
+    Ok(())
 }
 
 #[test]
@@ -65,5 +70,5 @@ fn an_open_instance_is_answered_again(rt: HostRuntime) {
         .on_closed_ok(&frame, &mut out)
         .expect(&rt, "no memory");
     is_text(&rt, shown(alloc, &out), "");
-    assert!(rt; instance.is_open());
+    holds(&rt, instance.is_open());
 }

@@ -3,7 +3,7 @@
 #![tactic(auto)]
 
 #[cfg(test)]
-mod given;
+mod checks;
 #[cfg(test)]
 mod instance_tests;
 #[cfg(test)]

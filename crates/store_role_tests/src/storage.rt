@@ -1,8 +1,9 @@
 // The storage site at site 1, which stores group 0 alone and is its synchronization site, for its tests.
-ghost use Rattle.std.specs.Prelude.{◌≡◌, IfOk, OnOk};
+ghost use Rattle.std.specs.Prelude.{◌≡◌};
 ghost use Rattle.disk_model.specs.ScriptDisk.{moment};
 ghost use Rattle.site_packs.specs.Packs.{Stand};
 
+use crate::checks::given;
 use dir_reconcile::KeptVectors;
 use disk_model::{Disk, ScriptDisk};
 use locus_ids::{FileId, ItemList, Kind, Mode, Serial, Sites, Stamp, Stamps};
@@ -12,7 +13,7 @@ use site_disk::SiteDisk;
 use site_frame::SiteFrame;
 use site_packs::{NewVersion, SitePacks};
 use std::alloc::Global;
-use std::test::Fail;
+use std::process::Abort;
 use storage_site::{LookRequest, Store};
 use store_instances::StoreRequest;
 use trace_book::{Op, What};
@@ -20,7 +21,6 @@ use version_vector::Vector;
 use wire_messages::Outbox;
 
 /// The storage site at work. Each call gives what it sends and tells.
-#[derive(Drop)]
 pub struct Storage {
     pub store: Store,
     pub packs: SitePacks,
@@ -29,9 +29,22 @@ pub struct Storage {
     pub alloc: Global,
 }
 
+// Taken apart in one place: where one is dropped, the prover sees one call.
+impl Drop for Storage {
+    fn drop(self) {
+        let Storage {
+            store: _,
+            packs: _,
+            disk: _,
+            frame: _,
+            alloc: _,
+        } = self;
+    }
+}
+
 /// The length of the disk. It has no contract, so that no proof spells out so many zeros.
 fn length() -> u32 {
-    4_196_352
+    5_310_464
 }
 
 fn no_mending(alloc: Global) -> MendingWork {
@@ -42,108 +55,120 @@ fn no_mending(alloc: Global) -> MendingWork {
 }
 
 /// Makes the disk that of site 1.
-fn formatted(alloc: Global, disk: &mut ScriptDisk) -> Result<SitePacks, Fail>
-    ensures { IfOk result (λ packs. Stand packs (moment disk.new)) }
+fn formatted<R: Abort + Eprint>(rt: &R, alloc: Global, disk: &mut ScriptDisk) -> SitePacks
+    ensures { Stand result (moment disk.new) }
 {
-    let config = config(alloc)?;
-    let site = site(1)?;
-    if disk.len() < SiteDisk::length(&config, site) {
-        return Err(Fail::from("a short disk"));
-    }
-    let packs = SiteDisk::format(alloc, disk, &config, site)?;
-    Ok(packs)
+    let config = given(rt, config(alloc));
+    let site = given(rt, site(1));
+    assert!(rt; disk.len() >= SiteDisk::length(&config, site));
+    SiteDisk::format(alloc, disk, &config, site).expect(rt, "a fault")
 }
 
 impl Storage {
-    pub fn new(alloc: Global) -> Result<Storage, Fail>
-        ensures { IfOk result (λ s. Stand s.packs (moment s.disk)) }
+    pub fn new<R: Abort + Eprint>(rt: &R, alloc: Global) -> Storage
+        ensures { Stand result.packs (moment result.disk) }
     {
-        let mut disk = ScriptDisk::new(alloc, length())?;
-        let packs = formatted(alloc, &mut disk)?;
-        Ok(Storage {
+        let mut disk = ScriptDisk::new(alloc, length()).expect(rt, "no memory");
+        let packs = formatted(rt, alloc, &mut disk);
+        Storage {
             store: Store::new(alloc),
             packs,
             disk,
-            frame: frame(alloc, 1)?,
+            frame: given(rt, frame(alloc, 1)),
             alloc,
-        })
+        }
     }
 
     /// The copy of a file, as another site has made it.
-    pub fn adopts(&mut self, ino: u16, content: &[u8]) -> Result<(), Fail>
+    pub fn adopts<R: Abort>(&mut self, rt: &R, ino: u16, content: &[u8])
         requires { Stand self.old.packs (moment self.old.disk) }
-        ensures { OnOk result (Stand self.new.packs (moment self.new.disk)) }
+        ensures { Stand self.new.packs (moment self.new.disk) }
     {
         let file = FileId { group: 0, ino };
         self.packs
-            .adopt(&mut self.disk, file, &first_version(), content)?;
-        Ok(())
+            .adopt(&mut self.disk, file, &first_version(), content)
+            .expect(rt, "not adopted");
     }
 
-    pub fn opens(&mut self, us: u8, serial: u32, ino: u16, mode: Mode) -> Result<String, Fail>
+    /// Site `us` opens a file as the instance of this serial.
+    pub fn opens<R: Abort + Eprint>(
+        &mut self,
+        rt: &R,
+        who: (u8, u32),
+        ino: u16,
+        mode: Mode,
+    ) -> String
         requires { Stand self.old.packs (moment self.old.disk) }
-        ensures { OnOk result (Stand self.new.packs (moment self.new.disk)) }
+        ensures { Stand self.new.packs (moment self.new.disk) }
     {
+        let (us, serial) = who;
+        let asked = request(rt, self.alloc, inst(us, serial), ino, mode);
         let mut out = Outbox::new(self.alloc);
-        let asked = request(self.alloc, inst(us, serial), ino, mode)?;
         self.store
-            .on_open_ss(&self.frame, &self.packs, &mut self.disk, asked, &mut out)?;
-        shown(self.alloc, &out)
+            .on_open_ss(&self.frame, &self.packs, &mut self.disk, asked, &mut out)
+            .expect(rt, "a fault");
+        given(rt, shown(self.alloc, &out))
     }
 
-    pub fn does(&mut self, serial: u32, n: u32, op: &Op) -> Result<String, Fail>
+    pub fn does<R: Abort + Eprint>(&mut self, rt: &R, serial: u32, n: u32, op: Op) -> String
         requires { Stand self.old.packs (moment self.old.disk) }
-        ensures { OnOk result (Stand self.new.packs (moment self.new.disk)) }
+        ensures { Stand self.new.packs (moment self.new.disk) }
     {
         let mut out = Outbox::new(self.alloc);
         let mending = no_mending(self.alloc);
         let inst = inst(2, serial);
         let seen = Vector::zero();
-        self.store.on_op(
-            &self.frame,
-            &mut self.packs,
-            &mut self.disk,
-            inst,
-            n,
-            op,
-            &seen,
-            &mending,
-            &mut out,
-        )?;
-        shown(self.alloc, &out)
+        self.store
+            .on_op(
+                &self.frame,
+                &mut self.packs,
+                &mut self.disk,
+                inst,
+                n,
+                &op,
+                &seen,
+                &mending,
+                &mut out,
+            )
+            .expect(rt, "a fault");
+        drop(op);
+        given(rt, shown(self.alloc, &out))
     }
 
-    pub fn writes(&mut self, serial: u32, n: u32, at: u32) -> Result<String, Fail>
+    pub fn writes<R: Abort + Eprint>(&mut self, rt: &R, serial: u32, n: u32, at: u32) -> String
         requires { Stand self.old.packs (moment self.old.disk) }
-        ensures { OnOk result (Stand self.new.packs (moment self.new.disk)) }
+        ensures { Stand self.new.packs (moment self.new.disk) }
     {
-        let bytes = bytes(self.alloc, "a")?;
-        self.does(serial, n, &Op::Write { at, bytes })
+        let bytes = given(rt, bytes(self.alloc, "a"));
+        self.does(rt, serial, n, Op::Write { at, bytes })
     }
 
-    pub fn closes(&mut self, serial: u32) -> Result<String, Fail>
+    pub fn closes<R: Abort + Eprint>(&mut self, rt: &R, serial: u32) -> String
         requires { Stand self.old.packs (moment self.old.disk) }
-        ensures { OnOk result (Stand self.new.packs (moment self.new.disk)) }
+        ensures { Stand self.new.packs (moment self.new.disk) }
     {
         let mut out = Outbox::new(self.alloc);
         let inst = inst(2, serial);
-        self.store.on_close(&self.frame, &mut self.packs, &mut self.disk, inst, &mut out)?;
-        shown(self.alloc, &out)
+        self.store
+            .on_close(&self.frame, &mut self.packs, &mut self.disk, inst, &mut out)
+            .expect(rt, "a fault");
+        given(rt, shown(self.alloc, &out))
     }
 
-    pub fn closed(&mut self, serial: u32) -> Result<String, Fail>
+    pub fn closed<R: Abort + Eprint>(&mut self, rt: &R, serial: u32) -> String
         ensures packs { self.new.packs ≡ self.old.packs }
         ensures disk { self.new.disk ≡ self.old.disk }
     {
         let mut out = Outbox::new(self.alloc);
         self.store
-            .on_closed_ok(&self.frame, inst(2, serial), &mut out)?;
-        shown(self.alloc, &out)
+            .on_closed_ok(&self.frame, inst(2, serial), &mut out)
+            .expect(rt, "no memory");
+        given(rt, shown(self.alloc, &out))
     }
 
-    pub fn looks(&mut self, ino: u16, what: What, serve: Stamp) -> Result<String, Fail>
+    pub fn looks<R: Abort + Eprint>(&mut self, rt: &R, ino: u16, what: What, serve: Stamp) -> String
         requires { Stand self.old.packs (moment self.old.disk) }
-        ensures { OnOk result (Stand self.new.packs (moment self.new.disk)) }
+        ensures { Stand self.new.packs (moment self.new.disk) }
     {
         let mut out = Outbox::new(self.alloc);
         let look = LookRequest {
@@ -154,49 +179,63 @@ impl Storage {
             file: FileId { group: 0, ino },
             what,
         };
-        let us = site(3)?;
-        self.store.on_look_ss(
-            &self.frame,
-            &self.packs,
-            &mut self.disk,
-            us,
-            &look,
-            serve,
-            &mut out,
-        )?;
-        shown(self.alloc, &out)
+        let us = given(rt, site(3));
+        self.store
+            .on_look_ss(
+                &self.frame,
+                &self.packs,
+                &mut self.disk,
+                us,
+                &look,
+                serve,
+                &mut out,
+            )
+            .expect(rt, "a fault");
+        given(rt, shown(self.alloc, &out))
     }
 
-    pub fn pulled(&mut self, ino: u16, version: Stamp, page: u8) -> Result<String, Fail>
+    pub fn pulled<R: Abort + Eprint>(
+        &mut self,
+        rt: &R,
+        ino: u16,
+        version: Stamp,
+        page: u8,
+    ) -> String
         requires { Stand self.old.packs (moment self.old.disk) }
-        ensures { OnOk result (Stand self.new.packs (moment self.new.disk)) }
+        ensures { Stand self.new.packs (moment self.new.disk) }
     {
         let mut out = Outbox::new(self.alloc);
         let file = FileId { group: 0, ino };
-        let from = site(3)?;
-        self.store.on_pull(
-            &self.frame,
-            &self.packs,
-            &mut self.disk,
-            from,
-            file,
-            version,
-            page,
-            &mut out,
-        )?;
-        shown(self.alloc, &out)
+        let from = given(rt, site(3));
+        self.store
+            .on_pull(
+                &self.frame,
+                &self.packs,
+                &mut self.disk,
+                from,
+                file,
+                version,
+                page,
+                &mut out,
+            )
+            .expect(rt, "a fault");
+        given(rt, shown(self.alloc, &out))
     }
 
-    pub fn ticks(&self) -> Result<String, Fail> {
+    pub fn ticks<R: Abort + Eprint>(&self, rt: &R) -> String {
         let mut out = Outbox::new(self.alloc);
-        self.store.repeats(&self.frame, &mut out)?;
-        shown(self.alloc, &out)
+        self.store
+            .repeats(&self.frame, &mut out)
+            .expect(rt, "no memory");
+        given(rt, shown(self.alloc, &out))
     }
 
-    pub fn reports(&self) -> Result<String, Fail> {
+    pub fn reports<R: Abort + Eprint>(&self, rt: &R) -> String {
         let mut out = Outbox::new(self.alloc);
-        self.store.report(&self.frame, &self.packs, 0, &mut out)?;
-        shown(self.alloc, &out)
+        self.store
+            .report(&self.frame, &self.packs, 0, &mut out)
+            .expect(rt, "no memory");
+        given(rt, shown(self.alloc, &out))
     }
 }
 
@@ -211,12 +250,18 @@ fn first_version() -> NewVersion {
 }
 
 /// What the synchronization site asks of an open: it begins from version 3.1 of the file, and a file that is made has none.
-pub fn request(alloc: Global, inst: Serial, ino: u16, mode: Mode) -> Result<StoreRequest, Fail> {
+pub fn request<R: Abort>(
+    rt: &R,
+    alloc: Global,
+    inst: Serial,
+    ino: u16,
+    mode: Mode,
+) -> StoreRequest {
     let mut parents = Stamps::new(alloc);
     if ino != 0 {
-        parents.push(stamp(3, 1))?;
+        parents.push(stamp(3, 1)).expect(rt, "no memory");
     }
-    Ok(StoreRequest {
+    StoreRequest {
         inst,
         file: FileId { group: 0, ino },
         mode,
@@ -225,5 +270,5 @@ pub fn request(alloc: Global, inst: Serial, ino: u16, mode: Mode) -> Result<Stor
         base: stamp(3, 1),
         vector: vector(0, 0, 1),
         parents,
-    })
+    }
 }

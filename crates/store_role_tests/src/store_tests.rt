@@ -2,13 +2,12 @@
 ghost use Rattle.disk_model.specs.ScriptDisk.{moment};
 ghost use Rattle.site_packs.specs.Packs.{Stand};
 
-use crate::given::{given, is_same};
+use crate::checks::{given, holds, is_same};
 use crate::storage::{Storage, request};
 use locus_ids::{Bytes, Mode};
 use role_shown::{FILE, bytes, inst, stamp};
 use std::alloc::Global;
 use std::process::Abort;
-use std::test::Fail;
 use store_instances::StoreFault;
 use trace_book::{Op, What};
 use wire_messages::Outbox;
@@ -17,9 +16,9 @@ use wire_messages::Outbox;
 fn written<R: Abort + Eprint>(rt: &R, alloc: Global) -> Storage
     ensures { Stand result.packs (moment result.disk) }
 {
-    let mut storage = given(rt, Storage::new(alloc));
-    given(rt, storage.adopts(2, b"old"));
-    given(rt, storage.opens(2, 1, 2, Mode::Write));
+    let mut storage = Storage::new(rt, alloc);
+    storage.adopts(rt, 2, b"old");
+    storage.opens(rt, (2, 1), 2, Mode::Write);
     storage
 }
 
@@ -28,34 +27,34 @@ fn an_operation_is_done_once_and_answered_again(rt: HostRuntime) {
     let mut storage = written(&rt, rt.alloc());
     is_same(
         &rt,
-        &given(&rt, storage.writes(1, 1, 0)),
+        &storage.writes(&rt, 1, 1, 0),
         "2 opdone 1 1 ok; act e1.1.1 i2.1 1 write 0 61 ok",
     );
-    is_same(&rt, &given(&rt, storage.writes(1, 1, 0)), "2 opdone 1 1 ok");
-    is_same(&rt, &given(&rt, storage.writes(1, 1, 0)), "2 opdone 1 1 ok");
+    is_same(&rt, &storage.writes(&rt, 1, 1, 0), "2 opdone 1 1 ok");
+    is_same(&rt, &storage.writes(&rt, 1, 1, 0), "2 opdone 1 1 ok");
     is_same(
         &rt,
-        &given(&rt, storage.closes(1)),
+        &storage.closes(&rt, 1),
         "1 closed 2.1 1.1; commit 0.2 1 1.1 3.1 616c64",
     );
-    is_same(&rt, &given(&rt, storage.writes(1, 1, 0)), "");
+    is_same(&rt, &storage.writes(&rt, 1, 1, 0), "");
 }
 
 #[test]
 fn a_close_commits_and_is_answered_as_far_as_it_came(rt: HostRuntime) {
     let mut storage = written(&rt, rt.alloc());
-    given(&rt, storage.writes(1, 1, 0));
+    storage.writes(&rt, 1, 1, 0);
     is_same(
         &rt,
-        &given(&rt, storage.closes(1)),
+        &storage.closes(&rt, 1),
         "1 closed 2.1 1.1; commit 0.2 1 1.1 3.1 616c64",
     );
-    is_same(&rt, &given(&rt, storage.closes(1)), "1 closed 2.1 1.1");
-    is_same(&rt, &given(&rt, storage.ticks()), "1 closed 2.1 1.1");
-    is_same(&rt, &given(&rt, storage.closed(1)), "2 closedone 1 ok 1.1");
-    is_same(&rt, &given(&rt, storage.closed(1)), "");
-    is_same(&rt, &given(&rt, storage.closes(1)), "2 closedone 1 ok 1.1");
-    is_same(&rt, &given(&rt, storage.ticks()), "");
+    is_same(&rt, &storage.closes(&rt, 1), "1 closed 2.1 1.1");
+    is_same(&rt, &storage.ticks(&rt), "1 closed 2.1 1.1");
+    is_same(&rt, &storage.closed(&rt, 1), "2 closedone 1 ok 1.1");
+    is_same(&rt, &storage.closed(&rt, 1), "");
+    is_same(&rt, &storage.closes(&rt, 1), "2 closedone 1 ok 1.1");
+    is_same(&rt, &storage.ticks(&rt), "");
 }
 
 #[test]
@@ -63,28 +62,28 @@ fn a_commit_raises_the_counter_of_the_site(rt: HostRuntime) {
     let mut storage = written(&rt, rt.alloc());
     is_same(
         &rt,
-        &given(&rt, storage.does(1, 1, &Op::Commit)),
+        &storage.does(&rt, 1, 1, Op::Commit),
         "2 opdone 1 1 ok 3.1; act e1.1.1 i2.1 1 commit ok 3.1",
     );
-    given(&rt, storage.writes(1, 2, 0));
+    storage.writes(&rt, 1, 2, 0);
     is_same(
         &rt,
-        &given(&rt, storage.does(1, 3, &Op::Commit)),
+        &storage.does(&rt, 1, 3, Op::Commit),
         "2 opdone 1 3 ok 1.1; commit 0.2 1 1.1 3.1 616c64; act e1.1.1 i2.1 3 commit ok 1.1",
     );
-    given(&rt, storage.writes(1, 4, 1));
+    storage.writes(&rt, 1, 4, 1);
     is_same(
         &rt,
-        &given(&rt, storage.does(1, 5, &Op::Abort)),
+        &storage.does(&rt, 1, 5, Op::Abort),
         "2 opdone 1 5 ok; act e1.1.1 i2.1 5 abort ok",
     );
     let read = Op::Read { at: 0, len: 9 };
     is_same(
         &rt,
-        &given(&rt, storage.does(1, 6, &read)),
+        &storage.does(&rt, 1, 6, read),
         "2 opdone 1 6 ok 616c64; act e1.1.1 i2.1 6 read 0 9 ok 616c64",
     );
-    is_same(&rt, &given(&rt, storage.closes(1)), "1 closed 2.1 1.1");
+    is_same(&rt, &storage.closes(&rt, 1), "1 closed 2.1 1.1");
 }
 
 #[test]
@@ -92,22 +91,22 @@ fn a_make_takes_the_least_number_that_is_free(rt: HostRuntime) {
     let mut storage = written(&rt, rt.alloc());
     is_same(
         &rt,
-        &given(&rt, storage.opens(2, 2, 0, Mode::Make)),
+        &storage.opens(&rt, (2, 2), 0, Mode::Make),
         "1 opened 2.2 3 of 0",
     );
     is_same(
         &rt,
-        &given(&rt, storage.opens(3, 1, 0, Mode::Make)),
+        &storage.opens(&rt, (3, 1), 0, Mode::Make),
         "1 opened 3.1 4 of 0",
     );
     is_same(
         &rt,
-        &given(&rt, storage.closes(2)),
+        &storage.closes(&rt, 2),
         "1 closed 2.2 1.1; commit 0.3 1 1.1 - -",
     );
-    assert!(rt; storage.store.instance_group(inst(2, 2)) == Some(0));
-    assert!(rt; storage.store.instance_group(inst(2, 3)) == None);
-    is_same(&rt, &given(&rt, storage.reports()), "1 report 0 of 3");
+    holds(&rt, storage.store.instance_group(inst(2, 2)) == Some(0));
+    holds(&rt, storage.store.instance_group(inst(2, 3)) == None);
+    is_same(&rt, &storage.reports(&rt), "1 report 0 of 3");
 }
 
 #[test]
@@ -115,24 +114,24 @@ fn what_is_late_or_unknown_is_ignored(rt: HostRuntime) {
     let mut storage = written(&rt, rt.alloc());
     is_same(
         &rt,
-        &given(&rt, storage.opens(2, 1, 2, Mode::Write)),
+        &storage.opens(&rt, (2, 1), 2, Mode::Write),
         "1 opened 2.1 2 of 3",
     );
-    is_same(&rt, &given(&rt, storage.writes(7, 1, 0)), "");
-    is_same(&rt, &given(&rt, storage.writes(1, 2, 0)), "");
-    given(&rt, storage.writes(1, 1, 0));
-    is_same(&rt, &given(&rt, storage.writes(1, 0, 0)), "");
-    is_same(&rt, &given(&rt, storage.closes(7)), "");
-    is_same(&rt, &given(&rt, storage.closed(7)), "");
-    is_same(&rt, &given(&rt, storage.closed(1)), "");
+    is_same(&rt, &storage.writes(&rt, 7, 1, 0), "");
+    is_same(&rt, &storage.writes(&rt, 1, 2, 0), "");
+    storage.writes(&rt, 1, 1, 0);
+    is_same(&rt, &storage.writes(&rt, 1, 0, 0), "");
+    is_same(&rt, &storage.closes(&rt, 7), "");
+    is_same(&rt, &storage.closed(&rt, 7), "");
+    is_same(&rt, &storage.closed(&rt, 1), "");
     // The removal of what isn't there, and an open of a site that is none.
     let name = given(&rt, bytes(storage.alloc, "x"));
     is_same(
         &rt,
-        &given(&rt, storage.does(1, 2, &Op::Remove { name, ino: 9 })),
+        &storage.does(&rt, 1, 2, Op::Remove { name, ino: 9 }),
         "",
     );
-    let asked = given(&rt, request(storage.alloc, inst(0, 1), 2, Mode::Read));
+    let asked = request(&rt, storage.alloc, inst(0, 1), 2, Mode::Read);
     let mut out = Outbox::new(storage.alloc);
     let fault = storage.store.on_open_ss(
         &storage.frame,
@@ -141,108 +140,108 @@ fn what_is_late_or_unknown_is_ignored(rt: HostRuntime) {
         asked,
         &mut out,
     );
-    assert!(rt; fault == Err(StoreFault::Unfit));
+    holds(&rt, fault == Err(StoreFault::Unfit));
 }
 
 #[test]
 fn looks_and_pulls_are_of_one_version(rt: HostRuntime) {
-    let mut storage = given(&rt, Storage::new(rt.alloc()));
-    given(&rt, storage.adopts(2, &[7; 1_536]));
+    let mut storage = Storage::new(&rt, rt.alloc());
+    storage.adopts(&rt, 2, &[7; 1_536]);
     is_same(
         &rt,
-        &given(&rt, storage.looks(2, What::Stat, stamp(3, 1))),
+        &storage.looks(&rt, 2, What::Stat, stamp(3, 1)),
         "3 lookdone 4.1.1 content of 1536",
     );
     is_same(
         &rt,
-        &given(&rt, storage.looks(2, What::Stat, stamp(3, 2))),
+        &storage.looks(&rt, 2, What::Stat, stamp(3, 2)),
         "3 lookdone 4.1.1 moved",
     );
     is_same(
         &rt,
-        &given(&rt, storage.looks(9, What::List, stamp(3, 1))),
+        &storage.looks(&rt, 9, What::List, stamp(3, 1)),
         "3 lookdone 4.1.1 moved",
     );
     let component = given(&rt, bytes(storage.alloc, "a"));
     is_same(
         &rt,
-        &given(&rt, storage.looks(1, What::Name { component }, stamp(0, 0))),
+        &storage.looks(&rt, 1, What::Name { component }, stamp(0, 0)),
         "3 lookdone 4.1.1 absent a",
     );
     is_same(
         &rt,
-        &given(&rt, storage.pulled(2, stamp(3, 1), 0)),
+        &storage.pulled(&rt, 2, stamp(3, 1), 0),
         "3 page 0 of 1024 0.2 3.1",
     );
     is_same(
         &rt,
-        &given(&rt, storage.pulled(2, stamp(3, 1), 1)),
+        &storage.pulled(&rt, 2, stamp(3, 1), 1),
         "3 page 1 of 512 0.2 3.1",
     );
-    is_same(&rt, &given(&rt, storage.pulled(2, stamp(3, 1), 2)), "");
-    is_same(&rt, &given(&rt, storage.pulled(2, stamp(1, 1), 0)), "");
-    is_same(&rt, &given(&rt, storage.pulled(9, stamp(3, 1), 0)), "");
+    is_same(&rt, &storage.pulled(&rt, 2, stamp(3, 1), 2), "");
+    is_same(&rt, &storage.pulled(&rt, 2, stamp(1, 1), 0), "");
+    is_same(&rt, &storage.pulled(&rt, 9, stamp(3, 1), 0), "");
 }
 
 #[test]
 fn a_left_epoch_has_no_instances(rt: HostRuntime) {
     let mut storage = written(&rt, rt.alloc());
-    given(&rt, storage.writes(1, 1, 0));
-    assert!(rt; storage.store.has_open(FILE));
-    assert!(rt; storage.store.free_pages(&storage.packs, 0) == 3_070);
+    storage.writes(&rt, 1, 1, 0);
+    holds(&rt, storage.store.has_open(FILE));
+    holds(&rt, storage.store.free_pages(&storage.packs, 0) == 3_070);
     storage.store.leave();
-    assert!(rt; !storage.store.has_open(FILE));
-    assert!(rt; storage.store.free_pages(&storage.packs, 0) == 3_071);
-    is_same(&rt, &given(&rt, storage.writes(1, 2, 0)), "");
+    holds(&rt, !storage.store.has_open(FILE));
+    holds(&rt, storage.store.free_pages(&storage.packs, 0) == 3_071);
+    is_same(&rt, &storage.writes(&rt, 1, 2, 0), "");
 }
 
 /// The pack has copies of 3,071 pages: 47 files of 64 pages, and one of 63.
 fn nearly_full<R: Abort + Eprint>(rt: &R, alloc: Global) -> Storage
     ensures { Stand result.packs (moment result.disk) }
 {
-    let mut storage = given(rt, Storage::new(alloc));
-    let content = given(rt, pages(alloc));
+    let mut storage = Storage::new(rt, alloc);
+    let content = pages(rt, alloc);
     for ino in 2..49 {
-        given(rt, storage.adopts(ino, content.as_slice()));
+        storage.adopts(rt, ino, content.as_slice());
     }
     let last = content.as_slice().get(1_024..).unwrap_or(&[]);
-    given(rt, storage.adopts(49, last));
+    storage.adopts(rt, 49, last);
     storage
 }
 
 /// 64 pages of bytes.
-fn pages(alloc: Global) -> Result<Bytes, Fail> {
+fn pages<R: Abort>(rt: &R, alloc: Global) -> Bytes {
     let mut content = Bytes::new(alloc);
     for _ in 0..64 {
-        content.append(&[7; 1_024])?;
+        content.append(&[7; 1_024]).expect(rt, "no memory");
     }
-    Ok(content)
+    content
 }
 
 #[test]
 fn a_changed_page_needs_room_until_its_instance_aborts(rt: HostRuntime) {
     let mut storage = nearly_full(&rt, rt.alloc());
-    assert!(rt; storage.store.free_pages(&storage.packs, 0) == 1);
-    given(&rt, storage.opens(2, 1, 2, Mode::Write));
-    given(&rt, storage.opens(2, 2, 3, Mode::Write));
+    holds(&rt, storage.store.free_pages(&storage.packs, 0) == 1);
+    storage.opens(&rt, (2, 1), 2, Mode::Write);
+    storage.opens(&rt, (2, 2), 3, Mode::Write);
     is_same(
         &rt,
-        &given(&rt, storage.writes(1, 1, 0)),
+        &storage.writes(&rt, 1, 1, 0),
         "2 opdone 1 1 ok; act e1.1.1 i2.1 1 write 0 61 ok",
     );
     is_same(
         &rt,
-        &given(&rt, storage.writes(2, 1, 0)),
+        &storage.writes(&rt, 2, 1, 0),
         "2 opdone 2 1 nospace 1 0; act e1.1.1 i2.2 1 write 0 61 nospace 1 0",
     );
     is_same(
         &rt,
-        &given(&rt, storage.does(1, 2, &Op::Abort)),
+        &storage.does(&rt, 1, 2, Op::Abort),
         "2 opdone 1 2 ok; act e1.1.1 i2.1 2 abort ok",
     );
     is_same(
         &rt,
-        &given(&rt, storage.writes(2, 2, 0)),
+        &storage.writes(&rt, 2, 2, 0),
         "2 opdone 2 2 ok; act e1.1.1 i2.2 2 write 0 61 ok",
     );
 }

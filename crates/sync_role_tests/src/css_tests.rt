@@ -1,5 +1,5 @@
 // css_core: site 1 is the synchronization site of group 0, which the sites 1, 2 and 3 store.
-use crate::given::{given, is_text};
+use crate::checks::{given, holds, is_text};
 use crate::group::Group;
 use locus_ids::{FileId, Kind, Refusal, Sites, Stamp};
 use role_shown::{FILE, ROOT, inst, site, stamp, vector};
@@ -81,13 +81,13 @@ fn a_group_starts_once_all_have_reported(rt: HostRuntime) {
 #[test]
 fn a_started_group_shows_its_files(rt: HostRuntime) {
     let group = started(&rt, rt.alloc());
-    assert!(rt; group.css.started());
-    assert!(rt; group.css.group() == 0);
-    assert!(rt; group.css.files().len() == 1);
-    assert!(rt; group.css.file(2).is_some());
-    assert!(rt; group.css.file(3).is_none());
-    assert!(rt; group.css.kept(2).expect(&rt, "no memory").len() == 1);
-    assert!(rt; group.css.kept(3).expect(&rt, "no memory").len() == 0);
+    holds(&rt, group.css.started());
+    holds(&rt, group.css.group() == 0);
+    holds(&rt, group.css.files().len() == 1);
+    holds(&rt, group.css.file(2).is_some());
+    holds(&rt, group.css.file(3).is_none());
+    holds(&rt, group.css.kept(2).expect(&rt, "no memory").len() == 1);
+    holds(&rt, group.css.kept(3).expect(&rt, "no memory").len() == 0);
 }
 
 #[test]
@@ -131,14 +131,14 @@ fn a_writer_excludes_others_until_it_has_closed(rt: HostRuntime) {
 #[test]
 fn an_instance_is_known_by_its_name(rt: HostRuntime) {
     let mut group = written(&rt, rt.alloc());
-    assert!(rt; group.css.has_open(inst(2, 1)));
-    assert!(rt; group.css.is_opened(inst(2, 1)));
-    assert!(rt; !group.css.has_open(inst(1, 1)));
-    assert!(rt; !group.css.is_opened(inst(2, 2)));
-    assert!(rt; group.css.is_open(FILE));
-    assert!(rt; !group.css.is_open(ROOT));
+    holds(&rt, group.css.has_open(inst(2, 1)));
+    holds(&rt, group.css.is_opened(inst(2, 1)));
+    holds(&rt, !group.css.has_open(inst(1, 1)));
+    holds(&rt, !group.css.is_opened(inst(2, 2)));
+    holds(&rt, group.css.is_open(FILE));
+    holds(&rt, !group.css.is_open(ROOT));
     given(&rt, group.closed(2, inst(2, 1), None));
-    assert!(rt; !group.css.is_open(FILE));
+    holds(&rt, !group.css.is_open(FILE));
 }
 
 #[test]
@@ -202,7 +202,7 @@ fn a_look_is_answered_again_where_it_repeats(rt: HostRuntime) {
 #[test]
 fn versions_that_meet_are_a_conflict(rt: HostRuntime) {
     let mut group = flagged(&rt, rt.alloc());
-    assert!(rt; group.css.kept(2).expect(&rt, "no memory").len() == 2);
+    holds(&rt, group.css.kept(2).expect(&rt, "no memory").len() == 2);
     is_text(&rt, group.ticks(), "");
     is_text(
         &rt,

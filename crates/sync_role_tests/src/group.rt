@@ -4,16 +4,27 @@ use locus_ids::{FileId, Serial, Stamp};
 use role_shown::{FILE, frame, shown, site};
 use site_frame::SiteFrame;
 use std::alloc::Global;
+use std::fmt::Debug;
 use std::test::Fail;
 use trace_book::What;
 use wire_messages::{MadeVersion, OpenedAs, Opening, Outbox, ReportedCopy};
 
 /// The synchronization site at work. Each call gives what it sends and tells.
-#[derive(Drop)]
 pub struct Group {
     pub css: Css,
     frame: SiteFrame,
     alloc: Global,
+}
+
+// Taken apart in one place: where one is dropped, the prover sees one call.
+impl Drop for Group {
+    fn drop(self) {
+        let Group {
+            css: _,
+            frame: _,
+            alloc: _,
+        } = self;
+    }
 }
 
 impl Group {
@@ -26,10 +37,10 @@ impl Group {
     }
 
     pub fn reports(&mut self, from: u8, copies: &[ReportedCopy]) -> Result<String, Fail> {
+        let from = site(from)?;
         let mut out = Outbox::new(self.alloc);
-        self.css
-            .on_report(&self.frame, site(from)?, copies, &mut out)?;
-        shown(self.alloc, &out)
+        let done = self.css.on_report(&self.frame, from, copies, &mut out);
+        told(self.alloc, out, done)
     }
 
     pub fn opens(
@@ -39,6 +50,7 @@ impl Group {
         file: FileId,
         how: Opening,
     ) -> Result<String, Fail> {
+        let us = site(us)?;
         let mut out = Outbox::new(self.alloc);
         let asked = OpenRequest {
             serial,
@@ -48,14 +60,14 @@ impl Group {
             file,
             how,
         };
-        self.css.on_open(&self.frame, site(us)?, &asked, &mut out)?;
-        shown(self.alloc, &out)
+        let done = self.css.on_open(&self.frame, us, &asked, &mut out);
+        told(self.alloc, out, done)
     }
 
     pub fn opened(&mut self, inst: Serial, answer: OpenedAs) -> Result<String, Fail> {
         let mut out = Outbox::new(self.alloc);
-        self.css.on_opened(&self.frame, inst, answer, &mut out)?;
-        shown(self.alloc, &out)
+        let done = self.css.on_opened(&self.frame, inst, answer, &mut out);
+        told(self.alloc, out, done)
     }
 
     pub fn closed(
@@ -64,14 +76,15 @@ impl Group {
         inst: Serial,
         made: Option<MadeVersion>,
     ) -> Result<String, Fail> {
+        let ss = site(ss)?;
         let mut out = Outbox::new(self.alloc);
-        self.css
-            .on_closed(&self.frame, site(ss)?, inst, made, &mut out)?;
-        shown(self.alloc, &out)
+        let done = self.css.on_closed(&self.frame, ss, inst, made, &mut out);
+        told(self.alloc, out, done)
     }
 
     /// A look by process 2 of site 3.
     pub fn looks(&mut self, call: u32, take: u32, ino: u16, what: What) -> Result<String, Fail> {
+        let us = site(3)?;
         let mut out = Outbox::new(self.alloc);
         let look = LookRequest {
             call,
@@ -81,8 +94,8 @@ impl Group {
             file: FileId { group: 0, ino },
             what,
         };
-        self.css.on_look(&self.frame, site(3)?, &look, &mut out)?;
-        shown(self.alloc, &out)
+        let done = self.css.on_look(&self.frame, us, &look, &mut out);
+        told(self.alloc, out, done)
     }
 
     pub fn has(&mut self, from: u8, stamp: Stamp) -> Result<(), Fail> {
@@ -92,7 +105,17 @@ impl Group {
 
     pub fn ticks(&self) -> Result<String, Fail> {
         let mut out = Outbox::new(self.alloc);
-        self.css.repeats(&self.frame, &mut out)?;
-        shown(self.alloc, &out)
+        let done = self.css.repeats(&self.frame, &mut out);
+        told(self.alloc, out, done)
     }
+}
+
+/// What a call sends and tells; the outbox ends here, so that no caller has an exit while it has one.
+pub fn told<T: Drop, E: Debug + Drop>(
+    alloc: Global,
+    out: Outbox,
+    done: Result<T, E>,
+) -> Result<String, Fail> {
+    done?;
+    shown(alloc, &out)
 }

@@ -3,9 +3,9 @@
 #![tactic(auto)]
 
 #[cfg(test)]
-mod css_tests;
+mod checks;
 #[cfg(test)]
-mod given;
+mod css_tests;
 #[cfg(test)]
 mod group;
 #[cfg(test)]

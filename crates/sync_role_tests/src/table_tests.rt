@@ -1,12 +1,12 @@
 // css_opens and css_decision: the opens of a synchronization site, and what it decides of them.
-use crate::given::{given, is_text};
+use crate::checks::{given, holds, is_text};
 use crate::known::{known, made};
 use css_decision::{
     Decision, OpenRequest, asked_entry, denied_entry, grant_on, kept_refusal, make_decision,
     mode_of,
 };
 use css_opens::{Closing, OpenEntry, Opens, Settling};
-use locus_ids::{Kind, Mode, Refusal, Sites, Stamp};
+use locus_ids::{FileId, Kind, Mode, Refusal, Sites, Stamp};
 use role_shown::{FILE, ROOT, frame, inst, push_reply, shown, site, stamp, vector};
 use role_steps::VersionRow;
 use site_frame::SiteFrame;
@@ -29,22 +29,33 @@ fn request(serial: u32, how: Opening) -> OpenRequest {
 }
 
 /// Why an open is refused, or where it is granted and from which version.
-fn decided(alloc: Global, decision: &Decision) -> Result<String, Fail> {
+fn decided(alloc: Global, decision: Decision) -> Result<String, Fail> {
     let mut text = String::new(alloc);
+    let done = push_decision(alloc, &mut text, &decision);
+    drop(decision);
+    done?;
+    Ok(text)
+}
+
+fn push_decision(alloc: Global, text: &mut String, decision: &Decision) -> Result<(), Fail> {
     match decision {
         Decision::Denied { why } => {
             let why = why.copy()?;
-            push_reply(alloc, &mut text, Reply::No { why })?;
+            push_reply(alloc, text, Reply::No { why })
         }
         Decision::Granted { grant } => {
             let (ss, parents) = (grant.ss.get(), grant.parents.len());
             write!(text, "at {ss} with {parents}")?;
-            if let Some(Stamp { site, n }) = grant.stamp {
-                write!(text, " from {site}.{n}")?;
-            }
+            push_from(text, grant.stamp)
         }
     }
-    Ok(text)
+}
+
+fn push_from(text: &mut String, from: Option<Stamp>) -> Result<(), Fail> {
+    if let Some(Stamp { site, n }) = from {
+        write!(text, " from {site}.{n}")?;
+    }
+    Ok(())
 }
 
 #[test]
@@ -54,7 +65,7 @@ fn an_open_begins_from_a_kept_version(rt: HostRuntime) {
     let mut file = given(&rt, known(alloc));
     let three = given(&rt, site(3));
     let plain = grant_on(alloc, &frame, three, &file, Opening::Read).expect(&rt, "no memory");
-    is_text(&rt, decided(alloc, &plain), "at 1 with 1 from 1.1");
+    is_text(&rt, decided(alloc, plain), "at 1 with 1 from 1.1");
     file.publish(three, &made(stamp(3, 1), vector(0, 0, 1)))
         .expect(&rt, "no memory");
     for (how, wanted) in [
@@ -64,7 +75,7 @@ fn an_open_begins_from_a_kept_version(rt: HostRuntime) {
         (Opening::Mend, "at 1 with 2 from 1.1"),
     ] {
         let decision = grant_on(alloc, &frame, three, &file, how).expect(&rt, "no memory");
-        is_text(&rt, decided(alloc, &decision), wanted);
+        is_text(&rt, decided(alloc, decision), wanted);
     }
 }
 
@@ -84,7 +95,7 @@ fn a_make_is_at_a_member_with_a_pack(rt: HostRuntime) {
             &rt,
             "no memory",
         );
-        is_text(&rt, decided(alloc, &made), wanted);
+        is_text(&rt, decided(alloc, made), wanted);
     }
 }
 
@@ -98,13 +109,17 @@ fn refusals(alloc: Global, kept: &[VersionRow]) -> Result<String, Fail> {
         Mode::Mend,
         Mode::Make,
     ] {
-        match kept_refusal(mode, kept) {
-            Some(why) => push_reply(alloc, &mut text, Reply::No { why })?,
-            None => text.push_str("-")?,
-        }
-        text.push_str(",")?;
+        push_refusal(alloc, &mut text, kept_refusal(mode, kept))?;
     }
     Ok(text)
+}
+
+fn push_refusal(alloc: Global, text: &mut String, refused: Option<Refusal>) -> Result<(), Fail> {
+    match refused {
+        Some(why) => push_reply(alloc, text, Reply::No { why })?,
+        None => text.push_str("-")?,
+    }
+    Ok(text.push_str(",")?)
 }
 
 fn version(stamp: Stamp, vector: Vector<16>) -> VersionRow {
@@ -133,14 +148,16 @@ fn kept_versions_refuse_some_modes(rt: HostRuntime) {
         refusals(alloc, &kept),
         "conflict 1.1 2.1,conflict 1.1 2.1,-,-,-,",
     );
-    assert!(rt; mode_of(Opening::Resolve { site: 1 }) == Mode::Resolve);
-    assert!(rt; mode_of(Opening::Mend) == Mode::Mend);
+    holds(&rt, mode_of(Opening::Resolve { site: 1 }) == Mode::Resolve);
+    holds(&rt, mode_of(Opening::Mend) == Mode::Mend);
 }
 
 /// An open of site 3 of this serial, whose storage site is asked.
 fn asked(alloc: Global, frame: &SiteFrame, serial: u32, how: Opening) -> Result<OpenEntry, Fail> {
-    let us = site(3)?;
-    match grant_on(alloc, frame, us, &known(alloc)?, how)? {
+    let (us, file) = (site(3)?, known(alloc)?);
+    let decision = grant_on(alloc, frame, us, &file, how);
+    drop(file);
+    match decision? {
         Decision::Granted { grant } => Ok(asked_entry(us, &request(serial, how), grant)),
         Decision::Denied { .. } => Err(Fail::from("denied")),
     }
@@ -148,10 +165,23 @@ fn asked(alloc: Global, frame: &SiteFrame, serial: u32, how: Opening) -> Result<
 
 fn pushed(opens: &mut Opens, entry: OpenEntry) -> Result<(), Fail> {
     if opens.find(entry.inst()).is_some() {
+        drop(entry);
         return Err(Fail::from("known"));
     }
     opens.push(entry)?;
     Ok(())
+}
+
+/// The site whose open excludes one by this mode.
+fn excluding(opens: &Opens, mode: Mode, file: FileId) -> Option<u8> {
+    let why = opens.exclusion(mode, file);
+    let by = match &why {
+        Some(Refusal::Busy { site, .. }) => Some(*site),
+        Some(_) => Some(0),
+        None => None,
+    };
+    drop(why);
+    by
 }
 
 #[test]
@@ -166,7 +196,7 @@ fn an_open_excludes_while_it_is_open(rt: HostRuntime) {
         Refusal::NoStorage,
     );
     given(&rt, pushed(&mut opens, denied));
-    assert!(rt; !opens.is_open(FILE));
+    holds(&rt, !opens.is_open(FILE));
     given(
         &rt,
         pushed(
@@ -174,18 +204,13 @@ fn an_open_excludes_while_it_is_open(rt: HostRuntime) {
             given(&rt, asked(alloc, &frame, 1, Opening::Read)),
         ),
     );
-    assert!(rt; opens.is_open(FILE));
-    assert!(rt; !opens.is_open(ROOT));
-    assert!(rt; opens.is_asked(inst(3, 1)));
-    assert!(rt; !opens.is_asked(inst(3, 7)));
-    assert!(rt; opens.exclusion(Mode::Read, FILE).is_none());
-    assert!(rt; opens.exclusion(Mode::Write, ROOT).is_none());
-    assert!(rt;
-        matches!(
-            opens.exclusion(Mode::Write, FILE),
-            Some(Refusal::Busy { site: 3, .. })
-        )
-    );
+    holds(&rt, opens.is_open(FILE));
+    holds(&rt, !opens.is_open(ROOT));
+    holds(&rt, opens.is_asked(inst(3, 1)));
+    holds(&rt, !opens.is_asked(inst(3, 7)));
+    holds(&rt, excluding(&opens, Mode::Read, FILE) == None);
+    holds(&rt, excluding(&opens, Mode::Write, ROOT) == None);
+    holds(&rt, excluding(&opens, Mode::Write, FILE) == Some(3));
 }
 
 /// An open that is asked is settled.
@@ -222,16 +247,22 @@ fn an_open_is_settled_in_its_row(rt: HostRuntime) {
             given(&rt, asked(alloc, &frame, 1, Opening::Write)),
         ),
     );
-    assert!(rt; opens.closing(inst(3, 1)) == Closing::Unknown);
+    holds(&rt, opens.closing(inst(3, 1)) == Closing::Unknown);
     given(
         &rt,
         settled(&mut opens, 1, Settling::Grant { ino: 2, size: 3 }),
     );
-    assert!(rt; matches!(opens.closing(inst(3, 1)), Closing::Released { .. }));
+    holds(
+        &rt,
+        matches!(opens.closing(inst(3, 1)), Closing::Released { .. }),
+    );
     given(&rt, ended(&mut opens, 1));
-    assert!(rt; matches!(opens.closing(inst(3, 1)), Closing::Again { .. }));
-    assert!(rt; !opens.is_open(FILE));
-    assert!(rt; opens.closing(inst(3, 2)) == Closing::Unknown);
+    holds(
+        &rt,
+        matches!(opens.closing(inst(3, 1)), Closing::Again { .. }),
+    );
+    holds(&rt, !opens.is_open(FILE));
+    holds(&rt, opens.closing(inst(3, 2)) == Closing::Unknown);
 }
 
 /// What an open sends and tells as it is asked, granted and repeated.
@@ -242,12 +273,14 @@ fn an_open_tells_how_far_it_is(rt: HostRuntime) {
     let entry = given(&rt, asked(alloc, &frame, 1, Opening::Write));
     let mut out = Outbox::new(alloc);
     entry.repeat(&frame, &mut out).expect(&rt, "no memory");
+    let why = Refusal::NoInode;
     entry
-        .refuses_user(&frame, &Refusal::NoInode, &mut out)
+        .refuses_user(&frame, &why, &mut out)
         .expect(&rt, "no memory");
     entry
-        .notes_refusal(&frame, &Refusal::NoInode, &mut out)
+        .notes_refusal(&frame, &why, &mut out)
         .expect(&rt, "no memory");
+    drop(why);
     entry
         .tells_answer(&frame, &mut out)
         .expect(&rt, "no memory");
@@ -256,6 +289,6 @@ fn an_open_tells_how_far_it_is(rt: HostRuntime) {
         shown(alloc, &out),
         "1 openss 3.1 w 0.2 1.1; 3 opendone 1 noinode; refuse e1.1.1 c3.1.1 1 i3.1 w 0.2 noinode",
     );
-    assert!(rt; entry.closing() == Closing::Unknown);
-    assert!(rt; entry.open_now(4).is_some());
+    holds(&rt, entry.closing() == Closing::Unknown);
+    holds(&rt, entry.open_now(4).is_some());
 }

@@ -1,5 +1,5 @@
 // css_versions and css_notices: which versions of a file are kept, who holds them, and who is notified.
-use crate::given::{given, is_text};
+use crate::checks::{given, holds, is_text};
 use crate::known::{copy, known, made};
 use css_notices::{members_of, notify_all, notify_lagging};
 use css_versions::{Files, KnownFile, choose, has_stamp, is_among, joined_vectors, stamps_of};
@@ -44,11 +44,14 @@ fn a_file_keeps_what_is_below_no_other(rt: HostRuntime) {
     file.publish(given(&rt, site(1)), &made(stamp(1, 1), vector(1, 0, 0)))
         .expect(&rt, "no memory");
     is_text(&rt, stamps(alloc, file.kept()), "2.1 3.1 ");
-    assert!(rt; has_stamp(file.kept(), stamp(3, 1)));
-    assert!(rt; !has_stamp(file.kept(), stamp(1, 1)));
-    assert!(rt; joined_vectors(file.kept()) == vector(1, 1, 1));
-    assert!(rt; joined_vectors(&[]) == Vector::zero());
-    assert!(rt; stamps_of(alloc, file.kept()).expect(&rt, "no memory").len() == 2);
+    holds(&rt, has_stamp(file.kept(), stamp(3, 1)));
+    holds(&rt, !has_stamp(file.kept(), stamp(1, 1)));
+    holds(&rt, joined_vectors(file.kept()) == vector(1, 1, 1));
+    holds(&rt, joined_vectors(&[]) == Vector::zero());
+    holds(
+        &rt,
+        stamps_of(alloc, file.kept()).expect(&rt, "no memory").len() == 2,
+    );
 }
 
 #[test]
@@ -64,13 +67,13 @@ fn what_a_site_holds_only_rises(rt: HostRuntime) {
     file.note(given(&rt, site(1)), stamp(9, 9))
         .expect(&rt, "no memory");
     let holding = file.holding(1).expect(&rt, "none");
-    assert!(rt; holding.stamp == stamp(2, 1));
-    assert!(rt; file.holding(3).is_none());
+    holds(&rt, holding.stamp == stamp(2, 1));
+    holds(&rt, file.holding(3).is_none());
     let holders = file.holders(stamp(2, 1)).expect(&rt, "no memory");
     let holders = given(&rt, numbers(alloc, holders.as_slice()));
-    assert!(rt; holders.as_slice() == [1, 2].as_slice());
-    assert!(rt; file.version(stamp(2, 1)).expect(&rt, "none").size == 5);
-    assert!(rt; file.version(stamp(9, 9)).is_none());
+    holds(&rt, holders.as_slice() == [1, 2].as_slice());
+    holds(&rt, file.version(stamp(2, 1)).expect(&rt, "none").size == 5);
+    holds(&rt, file.version(stamp(9, 9)).is_none());
 }
 
 #[test]
@@ -80,7 +83,7 @@ fn a_file_is_what_was_reported_first(rt: HostRuntime) {
     files
         .note(given(&rt, site(1)), 2, stamp(1, 1))
         .expect(&rt, "no memory");
-    assert!(rt; files.find(2).is_none());
+    holds(&rt, files.find(2).is_none());
     files
         .report(given(&rt, site(1)), &first)
         .expect(&rt, "no memory");
@@ -105,12 +108,15 @@ fn a_file_is_what_was_reported_first(rt: HostRuntime) {
     files
         .note(given(&rt, site(1)), 2, stamp(2, 1))
         .expect(&rt, "no memory");
-    assert!(rt; files.as_slice().len() == 2);
+    holds(&rt, files.as_slice().len() == 2);
     let file = files.find(2).expect(&rt, "not known");
-    assert!(rt; file.ino() == 2);
-    assert!(rt; file.kind() == Kind::File);
-    assert!(rt; file.set() == Sites(0b111));
-    assert!(rt; file.holding(1).expect(&rt, "none").stamp == stamp(2, 1));
+    holds(&rt, file.ino() == 2);
+    holds(&rt, file.kind() == Kind::File);
+    holds(&rt, file.set() == Sites(0b111));
+    holds(
+        &rt,
+        file.holding(1).expect(&rt, "none").stamp == stamp(2, 1),
+    );
 }
 
 /// Who serves site `us`, where site `css` is the synchronization site and sites 2 and 3 hold the version.
@@ -123,20 +129,25 @@ fn chosen(us: u8, css: u8) -> Result<Option<u8>, Fail> {
 #[test]
 fn a_holder_is_chosen_near_the_using_site(rt: HostRuntime) {
     for (us, css, wanted) in [(3, 2, 3), (2, 3, 2), (4, 3, 3), (4, 2, 2), (4, 1, 2)] {
-        assert!(rt; given(&rt, chosen(us, css)) == Some(wanted));
+        holds(&rt, given(&rt, chosen(us, css)) == Some(wanted));
     }
-    assert!(rt; choose(given(&rt, site(1)), given(&rt, site(1)), &[]) == None);
-    assert!(rt;
+    holds(
+        &rt,
+        choose(given(&rt, site(1)), given(&rt, site(1)), &[]) == None,
+    );
+    holds(
+        &rt,
         is_among(
             given(&rt, site(3)),
-            &[given(&rt, site(2)), given(&rt, site(3))]
-        )
+            &[given(&rt, site(2)), given(&rt, site(3))],
+        ),
     );
-    assert!(rt;
+    holds(
+        &rt,
         !is_among(
             given(&rt, site(1)),
-            &[given(&rt, site(2)), given(&rt, site(3))]
-        )
+            &[given(&rt, site(2)), given(&rt, site(3))],
+        ),
     );
 }
 
@@ -146,7 +157,7 @@ fn members_of_the_set_that_lag_are_notified(rt: HostRuntime) {
     let frame = given(&rt, frame(alloc, 1));
     let members = members_of(alloc, &frame, Sites(0b1110)).expect(&rt, "no memory");
     let members = given(&rt, numbers(alloc, members.as_slice()));
-    assert!(rt; members.as_slice() == [2, 3].as_slice());
+    holds(&rt, members.as_slice() == [2, 3].as_slice());
     let mut out = Outbox::new(alloc);
     notify_lagging(alloc, &frame, 0, &given(&rt, known(alloc)), &mut out).expect(&rt, "no memory");
     is_text(&rt, shown(alloc, &out), "3 notify from 1 0.2 1.1");

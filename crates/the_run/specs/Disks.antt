@@ -9,7 +9,7 @@ use Rattle.role_steps.specs.Views.{Store, DiskWrite, file_key}
 use Rattle.role_steps.specs.Storage.{copy_key, copy_of, content_of}
 use Rattle.role_steps.specs.declared.copies.FileCopy.{FileCopy}
 pub use Rattle.disk_calls.specs.Gates.{Cut, Stops, Fails, gate_left}
-pub use Rattle.disk_calls.specs.Versions.{new_gate, old_gate}
+pub use Rattle.disk_calls.specs.Versions.{new_gate, old_gate, blocks, blocks_of}
 
 -- the label: the boot number that counts, and whether both halves have an open gate
 pub record Label : Type 0 where

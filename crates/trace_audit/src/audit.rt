@@ -2,21 +2,31 @@ ghost use Rattle.std.specs.Prelude.{◌≡◌, ◌≤◌, true, IfOk, OnOk};
 ghost use Rattle.audit_rules.specs.Consistent.{audited, nothing_audited};
 ghost use Rattle.trace_audit.specs.Audits.{verdict_of};
 
-use crate::Verdict;
 use crate::judging::judge;
+use crate::verdict::{Verdict, said_where};
 use audit_rows::Told;
+use audit_tally::Standing;
 use locus_ids::{Config, NoMemory};
 use std::alloc::Global;
 use std::marker::Model;
 use trace_book::Record;
 
 /// An audit of a trace. Contracts see the cluster, and what is known of the records so far.
-#[derive(Drop)]
 pub struct Audit {
     config: Config,
     told: Told,
-    last: u32,
-    sound: bool,
+    standing: Standing,
+}
+
+// Taken apart in one place: where an audit is dropped, the prover sees one call.
+impl Drop for Audit {
+    fn drop(self) {
+        let Audit {
+            config: _,
+            told: _,
+            standing: _,
+        } = self;
+    }
 }
 
 impl Model for Audit {
@@ -24,9 +34,9 @@ impl Model for Audit {
 
     ghost Value = { Auditing };
 
-    ghost view = { λ a. record { config = a.config; state = known_so a.sound a.last a.told } };
+    ghost view = { λ a. record { config = a.config; state = known_so a.standing.sound a.standing.last a.told } };
 
-    ghost invariant = { λ a. IsKept a.sound a.config a.told };
+    ghost invariant = { λ a. IsKept a.standing.sound a.config a.told };
 }
 
 impl Audit {
@@ -38,8 +48,7 @@ impl Audit {
         Ok(Audit {
             config,
             told,
-            last: 0,
-            sound: true,
+            standing: Standing::new(),
         })
     }
 
@@ -48,18 +57,11 @@ impl Audit {
         ensures state { OnOk result (self.new ≡ record { config = self.old.config; state = audited self.old.config self.old.state line r }) }
         ensures verdict { IfOk result (λ says. says ≡ verdict_of self.new.state) }
     {
-        if !self.sound {
+        if !self.standing.take(line) {
+            drop(r);
             return Ok(Verdict::Broken);
         }
-        self.sound = false;
-        if line < self.last {
-            return Ok(Verdict::Broken);
-        }
-        if !judge(&self.config, &mut self.told, r)? {
-            return Ok(Verdict::Broken);
-        }
-        self.last = line;
-        self.sound = true;
-        Ok(Verdict::Good)
+        let may_come = judge(&self.config, &mut self.told, r)?;
+        Ok(said_where(self.standing.judged(line, may_come)))
     }
 }

@@ -1,44 +1,41 @@
-ghost use Rattle.std.specs.Prelude.{◌≡◌, IfOk};
+ghost use Rattle.std.specs.Prelude.{◌≡◌, OnOk};
 ghost use Rattle.tidy_laws.specs.Tidy.{IsTidy};
 ghost use Rattle.audit_rules.specs.Meant.{meant};
 
 use audit_rows::{Told, look_meant, reply_meant};
 use locus_ids::{Config, NoMemory};
-use trace_book::Record;
+use std::mem::replace;
+use trace_book::{Record, Reply, What};
 
-/// The record that is meant by this one as it was read: a look at a whole content and a reply are the ones that the script of their
-/// call makes, where these are read so.
-pub(crate) fn meant(config: &Config, told: &Told, r: Record) -> Result<Record, NoMemory>
+/// Makes the record as it was read the one that is meant by it: a look at a whole content and a reply are the ones that the script of
+/// their call makes, where these are read so.
+pub(crate) fn make_meant(config: &Config, told: &Told, r: &mut Record) -> Result<(), NoMemory>
     requires { IsTidy config.now told.now }
-    ensures { IfOk result (λ says. says ≡ meant config.now told.now r) }
+    ensures { OnOk result (r.new ≡ meant config.now told.now r.old) }
 {
     match r {
         Record::Look {
-            epoch,
+            epoch: _,
             call,
             request,
-            file,
+            file: _,
             what,
-            result: served,
-        } => Ok(Record::Look {
-            epoch,
-            call,
-            request,
-            file,
-            what: look_meant(config, told, call, request, what)?,
-            result: served,
-        }),
+            result: _,
+        } => {
+            let read = replace(what, What::List);
+            *what = look_meant(config, told, *call, *request, read)?;
+            Ok(())
+        }
         Record::Answer {
-            site,
-            process,
+            site: _,
+            process: _,
             call,
             reply,
-        } => Ok(Record::Answer {
-            site,
-            process,
-            call,
-            reply: reply_meant(config.mounts.allocator(), config, told, call, reply)?,
-        }),
-        other => Ok(other),
+        } => {
+            let read = replace(reply, Reply::Done);
+            *reply = reply_meant(config.mounts.allocator(), config, told, *call, read)?;
+            Ok(())
+        }
+        _ => Ok(()),
     }
 }

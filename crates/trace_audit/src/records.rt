@@ -1,4 +1,4 @@
-// A record is judged by what is known of its kind: each of these takes a record apart.
+// A record is judged by what is known of its kind. What is kept of it is taken out of it.
 ghost use Rattle.std.specs.Prelude.{◌≡◌, IfOk};
 ghost use Rattle.locus_ids.specs.declared.config.Config.{Config};
 ghost use Rattle.tidy_laws.specs.Tidy.{IsTidy};
@@ -11,39 +11,44 @@ use crate::site_steps::{adopt, boot, join, leave, pass, start, stop};
 use crate::tree_steps::{act, commit, grant, refuse, release};
 use audit_rows::{ActTold, CallTold, EndTold, GrantTold, LookTold, OpenTold, Replied, Told};
 use commit_graph::Version;
-use locus_ids::{Config, NoMemory};
-use trace_book::Record;
+use locus_ids::{Bytes, Config, NoMemory, Refusal, Stamps};
+use std::mem::replace;
+use trace_book::{Call, Record};
 
 /// A site boots or stops, leaves or joins an epoch, starts a group or adopts a version.
-pub(crate) fn site_record(config: &Config, told: &mut Told, r: Record) -> Result<bool, NoMemory>
+pub(crate) fn site_record(config: &Config, told: &mut Told, r: &Record) -> Result<bool, NoMemory>
     requires tidy { IsTidy config.now told.old }
-    requires kind { kind_of r ≡ OfSite }
-    ensures { IfOk result (Judges config.now told.old r told.new) }
+    requires kind { kind_of r.now ≡ OfSite }
+    ensures { IfOk result (Judges config.now told.old r.now told.new) }
 {
     match r {
-        Record::Up { site, boot: n } => boot(config, told, site, n),
-        Record::Stopped { site, cause } => stop(config, told, site, cause),
-        Record::Leave { site, epoch } => leave(config, told, site, epoch),
+        Record::Up { site, boot: n } => boot(config, told, *site, *n),
+        Record::Stopped { site, cause } => stop(config, told, *site, *cause),
+        Record::Leave { site, epoch } => leave(config, told, *site, *epoch),
         Record::Join {
             site,
             epoch,
             members,
-        } => join(config, told, site, epoch, &members),
+        } => join(config, told, *site, *epoch, members),
         Record::Start {
             epoch,
             group,
             copies,
-        } => start(config, told, epoch, group, &copies),
-        Record::Adopt { file, site, stamp } => adopt(config, told, file, site, stamp),
+        } => start(config, told, *epoch, *group, copies),
+        Record::Adopt { file, site, stamp } => adopt(config, told, *file, *site, *stamp),
         _ => unreachable!(),
     }
 }
 
 /// A call is accepted or has its reply.
-pub(crate) fn call_record(config: &Config, told: &mut Told, r: Record) -> Result<bool, NoMemory>
+pub(crate) fn call_record(
+    config: &Config,
+    told: &mut Told,
+    r: &mut Record,
+) -> Result<bool, NoMemory>
     requires tidy { IsTidy config.now told.old }
-    requires kind { kind_of r ≡ OfCall }
-    ensures { IfOk result (Judges config.now told.old r told.new) }
+    requires kind { kind_of r.old ≡ OfCall }
+    ensures { IfOk result (Judges config.now told.old r.old told.new) }
 {
     match r {
         Record::Accept {
@@ -51,16 +56,15 @@ pub(crate) fn call_record(config: &Config, told: &mut Told, r: Record) -> Result
             process,
             call,
             words,
-        } => accept(
-            config,
-            told,
-            CallTold {
-                site,
-                process,
-                call,
-            },
-            words,
-        ),
+        } => {
+            let by = CallTold {
+                site: *site,
+                process: *process,
+                call: *call,
+            };
+            let kept = replace(words, Call::Abort { fd: 0 });
+            accept(config, told, by, kept)
+        }
         Record::Answer {
             site,
             process,
@@ -70,21 +74,21 @@ pub(crate) fn call_record(config: &Config, told: &mut Told, r: Record) -> Result
             config,
             told,
             Replied {
-                site,
-                process,
-                call,
+                site: *site,
+                process: *process,
+                call: *call,
             },
-            &reply,
+            reply,
         ),
         _ => unreachable!(),
     }
 }
 
 /// A look of a call is answered.
-pub(crate) fn look_record(config: &Config, told: &mut Told, r: Record) -> Result<bool, NoMemory>
+pub(crate) fn look_record(config: &Config, told: &mut Told, r: &Record) -> Result<bool, NoMemory>
     requires tidy { IsTidy config.now told.old }
-    requires kind { kind_of r ≡ OfLook }
-    ensures { IfOk result (Judges config.now told.old r told.new) }
+    requires kind { kind_of r.now ≡ OfLook }
+    ensures { IfOk result (Judges config.now told.old r.now told.new) }
 {
     match r {
         Record::Look {
@@ -97,24 +101,24 @@ pub(crate) fn look_record(config: &Config, told: &mut Told, r: Record) -> Result
         } => look(
             config,
             told,
-            epoch,
+            *epoch,
             LookTold {
-                call,
-                request,
-                file,
-                what: &what,
+                call: *call,
+                request: *request,
+                file: *file,
+                what,
             },
-            &served,
+            served,
         ),
         _ => unreachable!(),
     }
 }
 
 /// An instance is granted to a call.
-pub(crate) fn grant_record(config: &Config, told: &mut Told, r: Record) -> Result<bool, NoMemory>
+pub(crate) fn grant_record(config: &Config, told: &mut Told, r: &Record) -> Result<bool, NoMemory>
     requires tidy { IsTidy config.now told.old }
-    requires kind { kind_of r ≡ OfGrant }
-    ensures { IfOk result (Judges config.now told.old r told.new) }
+    requires kind { kind_of r.now ≡ OfGrant }
+    ensures { IfOk result (Judges config.now told.old r.now told.new) }
 {
     match r {
         Record::Grant {
@@ -129,17 +133,17 @@ pub(crate) fn grant_record(config: &Config, told: &mut Told, r: Record) -> Resul
         } => grant(
             config,
             told,
-            epoch,
+            *epoch,
             OpenTold {
-                call,
-                request,
-                mode,
-                file,
+                call: *call,
+                request: *request,
+                mode: *mode,
+                file: *file,
             },
             GrantTold {
-                instance: inst,
-                stamp,
-                ss,
+                instance: *inst,
+                stamp: *stamp,
+                ss: *ss,
             },
         ),
         _ => unreachable!(),
@@ -147,10 +151,14 @@ pub(crate) fn grant_record(config: &Config, told: &mut Told, r: Record) -> Resul
 }
 
 /// An open of a call is refused.
-pub(crate) fn refusal_record(config: &Config, told: &mut Told, r: Record) -> Result<bool, NoMemory>
+pub(crate) fn refusal_record(
+    config: &Config,
+    told: &mut Told,
+    r: &mut Record,
+) -> Result<bool, NoMemory>
     requires tidy { IsTidy config.now told.old }
-    requires kind { kind_of r ≡ OfRefusal }
-    ensures { IfOk result (Judges config.now told.old r told.new) }
+    requires kind { kind_of r.old ≡ OfRefusal }
+    ensures { IfOk result (Judges config.now told.old r.old told.new) }
 {
     match r {
         Record::Refuse {
@@ -161,18 +169,16 @@ pub(crate) fn refusal_record(config: &Config, told: &mut Told, r: Record) -> Res
             mode,
             file,
             why,
-        } => refuse(
-            config,
-            told,
-            epoch,
-            OpenTold {
-                call,
-                request,
-                mode,
-                file,
-            },
-            why,
-        ),
+        } => {
+            let open = OpenTold {
+                call: *call,
+                request: *request,
+                mode: *mode,
+                file: *file,
+            };
+            let kept = replace(why, Refusal::IsDir);
+            refuse(config, told, *epoch, open, kept)
+        }
         _ => unreachable!(),
     }
 }
@@ -181,11 +187,11 @@ pub(crate) fn refusal_record(config: &Config, told: &mut Told, r: Record) -> Res
 pub(crate) fn operation_record(
     config: &Config,
     told: &mut Told,
-    r: Record,
+    r: &Record,
 ) -> Result<bool, NoMemory>
     requires tidy { IsTidy config.now told.old }
-    requires kind { kind_of r ≡ OfOperation }
-    ensures { IfOk result (Judges config.now told.old r told.new) }
+    requires kind { kind_of r.now ≡ OfOperation }
+    ensures { IfOk result (Judges config.now told.old r.now told.new) }
 {
     match r {
         Record::Act {
@@ -198,22 +204,26 @@ pub(crate) fn operation_record(
             config,
             told,
             ActTold {
-                epoch,
-                instance: inst,
-                n,
+                epoch: *epoch,
+                instance: *inst,
+                n: *n,
             },
-            &op,
-            &outcome,
+            op,
+            outcome,
         ),
         _ => unreachable!(),
     }
 }
 
 /// A version is committed.
-pub(crate) fn commit_record(config: &Config, told: &mut Told, r: Record) -> Result<bool, NoMemory>
+pub(crate) fn commit_record(
+    config: &Config,
+    told: &mut Told,
+    r: &mut Record,
+) -> Result<bool, NoMemory>
     requires tidy { IsTidy config.now told.old }
-    requires kind { kind_of r ≡ OfCommit }
-    ensures { IfOk result (Judges config.now told.old r told.new) }
+    requires kind { kind_of r.old ≡ OfCommit }
+    ensures { IfOk result (Judges config.now told.old r.old told.new) }
 {
     match r {
         Record::Commit {
@@ -222,26 +232,27 @@ pub(crate) fn commit_record(config: &Config, told: &mut Told, r: Record) -> Resu
             stamp,
             parents,
             content,
-        } => commit(
-            config,
-            told,
-            Version {
-                file,
-                site,
-                stamp,
-                parents,
-                content,
-            },
-        ),
+        } => {
+            let none = Stamps::new(parents.allocator());
+            let empty = Bytes::new(content.allocator());
+            let version = Version {
+                file: *file,
+                site: *site,
+                stamp: *stamp,
+                parents: replace(parents, none),
+                content: replace(content, empty),
+            };
+            commit(config, told, version)
+        }
         _ => unreachable!(),
     }
 }
 
 /// An open instance is released.
-pub(crate) fn release_record(config: &Config, told: &mut Told, r: Record) -> Result<bool, NoMemory>
+pub(crate) fn release_record(config: &Config, told: &mut Told, r: &Record) -> Result<bool, NoMemory>
     requires tidy { IsTidy config.now told.old }
-    requires kind { kind_of r ≡ OfRelease }
-    ensures { IfOk result (Judges config.now told.old r told.new) }
+    requires kind { kind_of r.now ≡ OfRelease }
+    ensures { IfOk result (Judges config.now told.old r.now told.new) }
 {
     match r {
         Record::Release {
@@ -252,11 +263,11 @@ pub(crate) fn release_record(config: &Config, told: &mut Told, r: Record) -> Res
         } => release(
             config,
             told,
-            epoch,
+            *epoch,
             EndTold {
-                instance: inst,
-                file,
-                stamp,
+                instance: *inst,
+                file: *file,
+                stamp: *stamp,
             },
         ),
         _ => unreachable!(),
@@ -264,9 +275,9 @@ pub(crate) fn release_record(config: &Config, told: &mut Told, r: Record) -> Res
 }
 
 /// A record that changes nothing may always come next.
-pub(crate) fn silent_record(told: &mut Told, r: Record) -> bool
-    requires { kind_of r ≡ OfNothing }
-    ensures { (c : Config) → Judges c told.old r told.new result }
+pub(crate) fn silent_record(told: &mut Told, r: &Record) -> bool
+    requires { kind_of r.now ≡ OfNothing }
+    ensures { (c : Config) → Judges c told.old r.now told.new result }
 {
     match r {
         Record::Packet {

@@ -1,68 +1,44 @@
 // What a call or an operation is answered, as text at the end.
-ghost use Rattle.std.specs.Prelude.{◌≡◌, ℕ, List, ◌++◌, OnOk};
-ghost use Rattle.trace_book.specs.Text.{outcome_text, refusal_text, reply_text, served_text};
+ghost use Rattle.std.specs.Prelude.{◌≡◌, ℕ, List, ◌++◌, codes, OnOk};
+ghost use Rattle.locus_ids.specs.declared.refusal.Refusal.TheVariants.{Conflict};
+ghost use Rattle.trace_book.specs.declared.operation.Outcome.TheVariants.{Found};
+ghost use Rattle.trace_book.specs.declared.reply.Reply.TheVariants.{Stat};
+ghost use Rattle.trace_book.specs.Text.{names_text, outcome_text, refusal_text, reply_text, served_text};
 
 use crate::lists::push_names;
-use crate::pieces::{push_epoch, push_file, push_hex, push_kind, push_number, push_stamp};
-use locus_ids::{Bytes, NoMemory, Refusal};
+use crate::phrases::{
+    push_next_file, push_next_number, push_next_stamp, push_word_epoch, push_word_hex,
+    push_word_number, push_word_numbers, push_word_stamp, push_word_text,
+};
+use crate::pieces::{push_kind, push_stamp};
+use locus_ids::{Bytes, FileId, Kind, Names, NoMemory, Refusal, Stamp};
 use trace_book::{Outcome, Reply, Served};
 
+/// Adds the text of a refusal.
 pub fn push_refusal(out: &mut Bytes, why: &Refusal) -> Result<(), NoMemory>
     ensures { OnOk result (out.new ≡ out.old ++ refusal_text why.now) }
 {
     match why {
         Refusal::Busy { site, process } => {
-            out.append(b"busy ")?;
-            push_number(out, u32::from(*site))?;
-            out.push(b' ')?;
-            push_number(out, u32::from(*process))
+            push_word_numbers(out, b"busy ", *site as u32, *process as u32)
         }
-        Refusal::Absent { name } => {
-            out.append(b"absent ")?;
-            out.append(name.as_slice())
-        }
-        Refusal::NotDir { name } => {
-            out.append(b"notdir ")?;
-            out.append(name.as_slice())
-        }
+        Refusal::Absent { name } => push_word_text(out, b"absent ", name),
+        Refusal::NotDir { name } => push_word_text(out, b"notdir ", name),
         Refusal::IsDir => out.append(b"isdir"),
-        Refusal::Exists { ino } => {
-            out.append(b"exists ")?;
-            push_number(out, u32::from(*ino))
-        }
-        Refusal::NotEmpty { name } => {
-            out.append(b"notempty ")?;
-            out.append(name.as_slice())
-        }
-        Refusal::Conflict { a, b } => {
-            out.append(b"conflict ")?;
-            push_stamp(out, *a)?;
-            out.push(b' ')?;
-            push_stamp(out, *b)
-        }
+        Refusal::Exists { ino } => push_word_number(out, b"exists ", *ino as u32),
+        Refusal::NotEmpty { name } => push_word_text(out, b"notempty ", name),
+        Refusal::Conflict { a, b } => push_conflict(out, *a, *b),
         Refusal::Ambiguous { a, b } => {
-            out.append(b"ambiguous ")?;
-            push_number(out, u32::from(*a))?;
-            out.push(b' ')?;
-            push_number(out, u32::from(*b))
+            push_word_numbers(out, b"ambiguous ", *a as u32, *b as u32)
         }
         Refusal::NoStorage => out.append(b"nostorage"),
         Refusal::NoPartition => out.append(b"nopartition"),
-        Refusal::Changed { epoch } => {
-            out.append(b"changed ")?;
-            push_epoch(out, *epoch)
-        }
+        Refusal::Changed { epoch } => push_word_epoch(out, b"changed ", *epoch),
         Refusal::BadDescriptor => out.append(b"baddescriptor"),
-        Refusal::Stale { epoch } => {
-            out.append(b"stale ")?;
-            push_epoch(out, *epoch)
-        }
+        Refusal::Stale { epoch } => push_word_epoch(out, b"stale ", *epoch),
         Refusal::TooLong => out.append(b"toolong"),
         Refusal::NoSpace { needed, free } => {
-            out.append(b"nospace ")?;
-            push_number(out, u32::from(*needed))?;
-            out.push(b' ')?;
-            push_number(out, u32::from(*free))
+            push_word_numbers(out, b"nospace ", *needed as u32, *free as u32)
         }
         Refusal::NoInode => out.append(b"noinode"),
         Refusal::BadName => out.append(b"badname"),
@@ -73,27 +49,32 @@ pub fn push_refusal(out: &mut Bytes, why: &Refusal) -> Result<(), NoMemory>
     }
 }
 
+fn push_conflict(out: &mut Bytes, a: Stamp, b: Stamp) -> Result<(), NoMemory>
+    ensures { OnOk result (out.new ≡ out.old ++ refusal_text (Conflict a b)) }
+{
+    push_word_stamp(out, b"conflict ", a)?;
+    push_next_stamp(out, b)
+}
+
+/// Adds the text of an outcome.
 pub fn push_outcome(out: &mut Bytes, outcome: &Outcome) -> Result<(), NoMemory>
     ensures { OnOk result (out.new ≡ out.old ++ outcome_text outcome.now) }
 {
     match outcome {
         Outcome::Done => out.append(b"ok"),
-        Outcome::Found { ino, kind } => {
-            out.append(b"ok ")?;
-            push_number(out, u32::from(*ino))?;
-            out.push(b' ')?;
-            push_kind(out, *kind)
-        }
-        Outcome::Data { bytes } => {
-            out.append(b"ok ")?;
-            push_hex(out, bytes.as_slice())
-        }
-        Outcome::Committed { stamp } => {
-            out.append(b"ok ")?;
-            push_stamp(out, *stamp)
-        }
+        Outcome::Found { ino, kind } => push_found(out, *ino, *kind),
+        Outcome::Data { bytes } => push_word_hex(out, b"ok ", bytes),
+        Outcome::Committed { stamp } => push_word_stamp(out, b"ok ", *stamp),
         Outcome::No { why } => push_refusal(out, why),
     }
+}
+
+fn push_found(out: &mut Bytes, ino: u16, kind: Kind) -> Result<(), NoMemory>
+    ensures { OnOk result (out.new ≡ out.old ++ outcome_text (Found ino kind)) }
+{
+    push_word_number(out, b"ok ", ino as u32)?;
+    out.push(b' ')?;
+    push_kind(out, kind)
 }
 
 pub fn push_served(out: &mut Bytes, served: &Served) -> Result<(), NoMemory>
@@ -105,51 +86,48 @@ pub fn push_served(out: &mut Bytes, served: &Served) -> Result<(), NoMemory>
     }
 }
 
+/// Adds the text of a reply.
 pub fn push_reply(out: &mut Bytes, reply: &Reply) -> Result<(), NoMemory>
     ensures { OnOk result (out.new ≡ out.old ++ reply_text reply.now) }
 {
     match reply {
-        Reply::Made { ino } => {
-            out.append(b"ok ")?;
-            push_number(out, u32::from(*ino))
-        }
+        Reply::Made { ino } => push_word_number(out, b"ok ", *ino as u32),
         Reply::Done => out.append(b"ok"),
-        Reply::Names { names } => {
-            out.append(b"ok")?;
-            push_names(out, names.as_slice())
-        }
+        Reply::Names { names } => push_name_list(out, names),
         Reply::Stat {
             kind,
             file,
             size,
             stamp,
-        } => {
-            out.append(b"ok ")?;
-            push_kind(out, *kind)?;
-            out.push(b' ')?;
-            push_file(out, *file)?;
-            out.push(b' ')?;
-            push_number(out, *size)?;
-            out.push(b' ')?;
-            push_stamp(out, *stamp)
-        }
-        Reply::Opened { fd } => {
-            out.append(b"ok ")?;
-            push_number(out, u32::from(*fd))
-        }
-        Reply::Data { bytes } => {
-            out.append(b"ok ")?;
-            push_hex(out, bytes.as_slice())
-        }
-        Reply::Committed { stamp } => {
-            out.append(b"ok ")?;
-            push_stamp(out, *stamp)
-        }
+        } => push_stat(out, *kind, *file, *size, *stamp),
+        Reply::Opened { fd } => push_word_number(out, b"ok ", *fd as u32),
+        Reply::Data { bytes } => push_word_hex(out, b"ok ", bytes),
+        Reply::Committed { stamp } => push_word_stamp(out, b"ok ", *stamp),
         Reply::Closed { stamp: None } => out.append(b"ok"),
-        Reply::Closed { stamp: Some(stamp) } => {
-            out.append(b"ok ")?;
-            push_stamp(out, *stamp)
-        }
+        Reply::Closed { stamp: Some(stamp) } => push_word_stamp(out, b"ok ", *stamp),
         Reply::No { why } => push_refusal(out, why),
     }
+}
+
+fn push_name_list(out: &mut Bytes, names: &Names) -> Result<(), NoMemory>
+    ensures { OnOk result (out.new ≡ out.old ++ (codes "ok" ++ names_text names.now)) }
+{
+    out.append(b"ok")?;
+    push_names(out, names.as_slice())
+}
+
+fn push_stat(
+    out: &mut Bytes,
+    kind: Kind,
+    file: FileId,
+    size: u32,
+    stamp: Stamp,
+) -> Result<(), NoMemory>
+    ensures { OnOk result (out.new ≡ out.old ++ reply_text (Stat kind file size stamp)) }
+{
+    out.append(b"ok ")?;
+    push_kind(out, kind)?;
+    push_next_file(out, file)?;
+    push_next_number(out, size)?;
+    push_next_stamp(out, stamp)
 }

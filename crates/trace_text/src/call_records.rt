@@ -4,9 +4,11 @@ ghost use Rattle.trace_book.specs.Text.{call_id_text, epoch_text, file_text, gap
 ghost use Rattle.trace_book.specs.declared.record.Record.TheVariants.{Accept, Look, Grant, Refuse, Act, Answer};
 
 use crate::answers::{push_outcome, push_refusal, push_reply, push_served};
-use crate::pieces::{
-    push_call_id, push_epoch, push_file, push_mode, push_number, push_optional_stamp, push_serial,
+use crate::phrases::{
+    push_next_call, push_next_file, push_next_number, push_next_serial, push_word_epoch,
+    push_word_numbers,
 };
+use crate::pieces::{push_epoch, push_mode, push_optional_stamp, push_serial};
 use crate::requests::{push_call_words, push_op, push_what};
 use locus_ids::{Bytes, CallId, EpochId, FileId, Mode, NoMemory, Refusal, Serial, Stamp};
 use trace_book::{Call, Op, Outcome, Reply, Served, What};
@@ -20,12 +22,8 @@ pub fn push_accept(
 ) -> Result<(), NoMemory>
     ensures { OnOk result (out.new ≡ out.old ++ record_text (Accept site process call words.now)) }
 {
-    out.append(b"call ")?;
-    push_number(out, u32::from(site))?;
-    out.push(b' ')?;
-    push_number(out, u32::from(process))?;
-    out.push(b' ')?;
-    push_call_id(out, call)?;
+    push_word_numbers(out, b"call ", site as u32, process as u32)?;
+    push_next_call(out, call)?;
     out.push(b' ')?;
     push_call_words(out, words)
 }
@@ -43,8 +41,7 @@ pub fn push_look(
 {
     out.append(b"look ")?;
     push_asked(out, epoch, call, request)?;
-    out.push(b' ')?;
-    push_file(out, file)?;
+    push_next_file(out, file)?;
     out.push(b' ')?;
     push_what(out, what)?;
     out.push(b' ')?;
@@ -56,10 +53,8 @@ fn push_asked(out: &mut Bytes, epoch: EpochId, call: CallId, request: u16) -> Re
     ensures { OnOk result (out.new ≡ out.old ++ (epoch_text epoch ++ gap ++ call_id_text call ++ gap ++ number request)) }
 {
     push_epoch(out, epoch)?;
-    out.push(b' ')?;
-    push_call_id(out, call)?;
-    out.push(b' ')?;
-    push_number(out, u32::from(request))
+    push_next_call(out, call)?;
+    push_next_number(out, request as u32)
 }
 
 /// What is opened: the instance, its mode and its file.
@@ -69,8 +64,7 @@ fn push_opened(out: &mut Bytes, inst: Serial, mode: Mode, file: FileId) -> Resul
     push_serial(out, inst)?;
     out.push(b' ')?;
     push_mode(out, mode)?;
-    out.push(b' ')?;
-    push_file(out, file)
+    push_next_file(out, file)
 }
 
 pub fn push_grant(
@@ -92,8 +86,7 @@ pub fn push_grant(
     push_opened(out, inst, mode, file)?;
     out.push(b' ')?;
     push_optional_stamp(out, stamp)?;
-    out.push(b' ')?;
-    push_number(out, u32::from(ss))
+    push_next_number(out, ss as u32)
 }
 
 pub fn push_refuse(
@@ -126,12 +119,9 @@ pub fn push_act(
 ) -> Result<(), NoMemory>
     ensures { OnOk result (out.new ≡ out.old ++ record_text (Act epoch inst n op.now outcome.now)) }
 {
-    out.append(b"act ")?;
-    push_epoch(out, epoch)?;
-    out.push(b' ')?;
-    push_serial(out, inst)?;
-    out.push(b' ')?;
-    push_number(out, n)?;
+    push_word_epoch(out, b"act ", epoch)?;
+    push_next_serial(out, inst)?;
+    push_next_number(out, n)?;
     out.push(b' ')?;
     push_op(out, op)?;
     out.push(b' ')?;
@@ -147,12 +137,8 @@ pub fn push_answer(
 ) -> Result<(), NoMemory>
     ensures { OnOk result (out.new ≡ out.old ++ record_text (Answer site process call reply.now)) }
 {
-    out.append(b"reply ")?;
-    push_number(out, u32::from(site))?;
-    out.push(b' ')?;
-    push_number(out, u32::from(process))?;
-    out.push(b' ')?;
-    push_call_id(out, call)?;
+    push_word_numbers(out, b"reply ", site as u32, process as u32)?;
+    push_next_call(out, call)?;
     out.push(b' ')?;
     push_reply(out, reply)
 }

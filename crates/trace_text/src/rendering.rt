@@ -28,7 +28,8 @@ pub fn render_onto(what: &Record, line: u32, out: &mut Bytes) -> Result<(), NoMe
     out.push(b'\n')
 }
 
-fn push_record(out: &mut Bytes, what: &Record) -> Result<(), NoMemory>
+/// Adds the text of a record.
+pub fn push_record(out: &mut Bytes, what: &Record) -> Result<(), NoMemory>
     ensures { OnOk result (out.new ≡ out.old ++ record_text what.now) }
 {
     match what {

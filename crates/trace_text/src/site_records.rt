@@ -4,6 +4,9 @@ ghost use Rattle.trace_book.specs.Text.{record_text};
 ghost use Rattle.trace_book.specs.declared.record.Record.TheVariants.{Up, Stopped, Leave, Join, Start, Packet};
 
 use crate::lists::{push_copies, push_members};
+use crate::phrases::{
+    push_next_epoch, push_next_number, push_word_epoch, push_word_number, push_word_numbers,
+};
 use crate::pieces::{push_cause, push_epoch, push_number};
 use crate::requests::push_packet_kind;
 use locus_ids::{Bytes, EpochId, Members, NoMemory};
@@ -12,28 +15,22 @@ use trace_book::{BroughtList, PacketKind, StopCause};
 pub fn push_up(out: &mut Bytes, site: u8, boot: u32) -> Result<(), NoMemory>
     ensures { OnOk result (out.new ≡ out.old ++ record_text (Up site boot)) }
 {
-    out.append(b"up ")?;
-    push_number(out, u32::from(site))?;
-    out.append(b" ")?;
-    push_number(out, boot)
+    push_word_numbers(out, b"up ", site as u32, boot)
 }
 
 pub fn push_stopped(out: &mut Bytes, site: u8, cause: StopCause) -> Result<(), NoMemory>
     ensures { OnOk result (out.new ≡ out.old ++ record_text (Stopped site cause)) }
 {
-    out.append(b"stopped ")?;
-    push_number(out, u32::from(site))?;
-    out.append(b" ")?;
+    push_word_number(out, b"stopped ", site as u32)?;
+    out.push(b' ')?;
     push_cause(out, cause)
 }
 
 pub fn push_leave(out: &mut Bytes, site: u8, epoch: EpochId) -> Result<(), NoMemory>
     ensures { OnOk result (out.new ≡ out.old ++ record_text (Leave site epoch)) }
 {
-    out.append(b"leave ")?;
-    push_number(out, u32::from(site))?;
-    out.append(b" ")?;
-    push_epoch(out, epoch)
+    push_word_number(out, b"leave ", site as u32)?;
+    push_next_epoch(out, epoch)
 }
 
 pub fn push_join(
@@ -60,10 +57,8 @@ pub fn push_start(
 ) -> Result<(), NoMemory>
     ensures { OnOk result (out.new ≡ out.old ++ record_text (Start epoch group copies.now)) }
 {
-    out.append(b"start ")?;
-    push_epoch(out, epoch)?;
-    out.append(b" ")?;
-    push_number(out, u32::from(group))?;
+    push_word_epoch(out, b"start ", epoch)?;
+    push_next_number(out, group as u32)?;
     push_copies(out, copies.as_slice())
 }
 
@@ -76,12 +71,8 @@ pub fn push_packet(
 ) -> Result<(), NoMemory>
     ensures { OnOk result (out.new ≡ out.old ++ record_text (Packet number from to kind)) }
 {
-    out.append(b"packet ")?;
-    push_number(out, number)?;
-    out.append(b" ")?;
-    push_number(out, u32::from(from))?;
-    out.append(b" ")?;
-    push_number(out, u32::from(to))?;
-    out.append(b" ")?;
+    push_word_numbers(out, b"packet ", number, from as u32)?;
+    push_next_number(out, to as u32)?;
+    out.push(b' ')?;
     push_packet_kind(out, kind)
 }

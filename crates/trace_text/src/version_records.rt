@@ -4,9 +4,11 @@ ghost use Rattle.trace_book.specs.Text.{record_text};
 ghost use Rattle.trace_book.specs.declared.record.Record.TheVariants.{Commit, Release, Adopt};
 
 use crate::lists::push_stamps;
-use crate::pieces::{
-    push_epoch, push_file, push_hex, push_number, push_optional_stamp, push_serial, push_stamp,
+use crate::phrases::{
+    push_next_file, push_next_hex, push_next_number, push_next_serial, push_next_stamp,
+    push_word_epoch, push_word_file,
 };
+use crate::pieces::push_optional_stamp;
 use locus_ids::{Bytes, EpochId, FileId, NoMemory, Serial, Stamp, Stamps};
 
 pub fn push_commit(
@@ -19,16 +21,12 @@ pub fn push_commit(
 ) -> Result<(), NoMemory>
     ensures { OnOk result (out.new ≡ out.old ++ record_text (Commit file site stamp parents.now content.now)) }
 {
-    out.append(b"commit ")?;
-    push_file(out, file)?;
-    out.push(b' ')?;
-    push_number(out, u32::from(site))?;
-    out.push(b' ')?;
-    push_stamp(out, stamp)?;
+    push_word_file(out, b"commit ", file)?;
+    push_next_number(out, site as u32)?;
+    push_next_stamp(out, stamp)?;
     out.push(b' ')?;
     push_stamps(out, parents.as_slice())?;
-    out.push(b' ')?;
-    push_hex(out, content.as_slice())
+    push_next_hex(out, content)
 }
 
 pub fn push_release(
@@ -40,12 +38,9 @@ pub fn push_release(
 ) -> Result<(), NoMemory>
     ensures { OnOk result (out.new ≡ out.old ++ record_text (Release epoch inst file stamp)) }
 {
-    out.append(b"release ")?;
-    push_epoch(out, epoch)?;
-    out.push(b' ')?;
-    push_serial(out, inst)?;
-    out.push(b' ')?;
-    push_file(out, file)?;
+    push_word_epoch(out, b"release ", epoch)?;
+    push_next_serial(out, inst)?;
+    push_next_file(out, file)?;
     out.push(b' ')?;
     push_optional_stamp(out, stamp)
 }
@@ -53,10 +48,7 @@ pub fn push_release(
 pub fn push_adopt(out: &mut Bytes, file: FileId, site: u8, stamp: Stamp) -> Result<(), NoMemory>
     ensures { OnOk result (out.new ≡ out.old ++ record_text (Adopt file site stamp)) }
 {
-    out.append(b"adopt ")?;
-    push_file(out, file)?;
-    out.push(b' ')?;
-    push_number(out, u32::from(site))?;
-    out.push(b' ')?;
-    push_stamp(out, stamp)
+    push_word_file(out, b"adopt ", file)?;
+    push_next_number(out, site as u32)?;
+    push_next_stamp(out, stamp)
 }

@@ -1,6 +1,6 @@
 -- What the tree carries no act out on, however much memory is left. No lawful trace has it.
 use Rattle.std.specs.Prelude.{◌<◌, ◌⊎◌, List, Option, None, Some, length, map}
-use Rattle.locus_ids.specs.Sizes.{content_bytes_max}
+use Rattle.locus_ids.specs.Sizes.{file_bytes_max}
 use Rattle.locus_ids.specs.declared.ids.FileId.{FileId}
 use Rattle.commit_graph.specs.declared.history.Version.{Version}
 use Rattle.commit_graph.specs.Versions.{content_of}
@@ -17,7 +17,7 @@ use Rattle.tree_acts.specs.declared.fault.ActFault.TheVariants as fault
 
 -- the working content is longer than that of a file may be
 abbrev pub IsTooLong : Work → Type 0
-IsTooLong w = content_bytes_max < length w.content
+IsTooLong w = file_bytes_max < length w.content
 
 -- the kept versions of the file can't be joined: an inode has one kind in one of them and the other in another, or one of
 -- them is longer than a number of four bytes tells

@@ -7,7 +7,7 @@ ghost use Rattle.tree_acts.specs.Unfit.{IsTooLong};
 
 use crate::ActFault;
 use file_effects::Work;
-use locus_ids::sizes::{CONTENT_BYTES, SITES};
+use locus_ids::sizes::{FILE_BYTES, SITES};
 use locus_ids::{Bytes, ItemList, NoMemory};
 use operation_effects::{MendingWork, OpenWork, WorkingContent, operate};
 use trace_book::{Op, Outcome};
@@ -47,7 +47,7 @@ fn opened(work: &Work) -> Result<OpenWork, ActFault>
     ensures unfit { result ≡ Err ActFault.Unfit → IsTooLong work.now }
 {
     let alloc = work.changed.allocator();
-    if work.content.len() > CONTENT_BYTES {
+    if work.content.len() > FILE_BYTES {
         return Err(ActFault::Unfit);
     }
     let content = WorkingContent::from_slice(alloc, work.content.as_slice())?;

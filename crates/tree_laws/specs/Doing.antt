@@ -1,6 +1,6 @@
 -- The shape of a role's step: what an event tells comes as it may, line after line; what the role then has and what it sends is
 -- so by the trace after all that it told; and whose line is which.
-use Rattle.std.specs.Prelude.{ℕ, ◌≡◌, true, List, [], ◌∷◌, Option, None, Some}
+use Rattle.std.specs.Prelude.{ℕ, ◌≡◌, true, List, [], ◌∷◌, length, Option, None, Some}
 use Rattle.locus_ids.specs.declared.config.Config.{Config}
 use Rattle.locus_ids.specs.declared.ids.EpochId.{EpochId}
 use Rattle.locus_ids.specs.declared.ids.FileId.{FileId}
@@ -15,7 +15,9 @@ use Rattle.the_run.specs.of_role_steps.declared.synchronizing.SyncTable.{SyncTab
 use Rattle.the_run.specs.Worlds.{Line, told_onto}
 use Rattle.tree_model.specs.Epochs.{boot_of, epoch_of, is_up, members_of}
 use Rattle.tree_model.specs.Folds.{Trace}
-use Rattle.lawful_trace.specs.Disks.{writing_adoption, writing_commit}
+use Rattle.tree_model.specs.Files.{committing}
+use Rattle.tree_model.specs.of_file_content.Pages.{pages_of}
+use Rattle.lawful_trace.specs.Disks.{pages_held, pages_now, writing_adoption, writing_commit}
 use Rattle.tree_laws.specs.Printed.{entries}
 use Rattle.tree_laws.specs.Past.{WasBegun}
 use Rattle.tree_laws.specs.Following.{MayTell}
@@ -142,13 +144,20 @@ pages_written c before (says.Commit file site stamp parents content) = (writing_
 pages_written c before (says.Adopt file site stamp) = (writing_adoption c before file site stamp).pages
 pages_written c before _ = []
 
+-- how many pages the version of the record has, by the records before it
+abbrev pub pages_told : Config → Trace → Record → ℕ
+pages_told c before (says.Commit file site stamp parents content) = pages_now (committing c before file site)
+pages_told c before (says.Adopt file site stamp) = pages_held c before file (Some stamp)
+pages_told c before _ = 0
+
 -- what is written may be told first of all in the event, and the copy on the disk is then what the site holds by the trace:
--- so it is left where the event is cut off after it. Its pages are those that the record writes.
+-- so it is left where the event is cut off after it. Its pages are those that the record writes, of so many as it tells.
 pub record WriteFact (c : Config) (n : ℕ) (trace : List Line) (me : ℕ) (s : Store) (d : DiskWrite) : Type 0 where
   pub own : IsWriteOf me d.says
   pub may : MayTell c trace (Shown d.says)
   pub held : CopiesAreHeld c (record { number = n; told = Shown d.says } ∷ trace) me (with_copy d.copy s)
   pub pages : d.pages ≡ pages_written c (entries trace) d.says
+  pub now : pages_of (length d.copy.content) ≡ pages_told c (entries trace) d.says
 
 -- ---- an outcome ----
 

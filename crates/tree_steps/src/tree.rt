@@ -11,7 +11,6 @@ use tree_tables::{Copies, Instances, group_granted};
 
 /// The one tree of an epoch and a group, as the records so far lead to it: what later steps ask of these records, and
 /// not the records.
-#[derive(Drop)]
 pub struct TreeTables {
     pub(crate) config: Config,
     pub(crate) epoch: EpochId,
@@ -25,6 +24,26 @@ pub struct TreeTables {
     pub(crate) grants: ItemList<Granted>,
     pub(crate) instances: Instances,
     pub(crate) makes: ItemList<CallId>,
+}
+
+// Taken apart in one place: where a tree is dropped, the prover sees one call.
+impl Drop for TreeTables {
+    fn drop(self) {
+        let TreeTables {
+            config: _,
+            epoch: _,
+            group: _,
+            members: _,
+            inside: _,
+            copies: _,
+            known: _,
+            started: _,
+            calls: _,
+            grants: _,
+            instances: _,
+            makes: _,
+        } = self;
+    }
 }
 
 impl Model for TreeTables {

@@ -2,7 +2,7 @@
 use Rattle.std.proofs.Common.{◌≡◌, ◌≤◌, ℕ, zero, suc, ◌+◌, ◌&&◌, Bool, true, false, cond, List, length, Option, Some, None, refl, subst, arith}
 use Rattle.std.proofs.lemmas.Bool.Decides.{nat_tests}
 use Rattle.std.specs.List.{list_all}
-use Rattle.locus_ids.specs.Sizes.{content_bytes_max, descriptors_max, file_bytes_max}
+use Rattle.locus_ids.specs.Sizes.{file_bytes_max, descriptor_span, descriptors_max}
 use Rattle.locus_ids.specs.declared.ids.CallId.{CallId}
 use Rattle.locus_ids.specs.declared.ids.EpochId.{EpochId}
 use Rattle.locus_ids.specs.declared.ids.FileId.{FileId}
@@ -99,12 +99,12 @@ entered_text component (found.Found ino kind) k h = h
 entered_text component found.Absent k h = k
 entered_text component (found.Ambiguous a b) k h = h
 
-served_text : (kind : Kind) (stamp : Stamp) (w : What) (content : List ℕ) → range.is_look w (served.At stamp) ≡ true → range.is_data content_bytes_max content ≡ true → is_answer (found_in kind stamp w content) ≡ true
+served_text : (kind : Kind) (stamp : Stamp) (w : What) (content : List ℕ) → range.is_look w (served.At stamp) ≡ true → range.is_data file_bytes_max content ≡ true → is_answer (found_in kind stamp w content) ≡ true
 served_text kind stamp (what.Name component) content k h = entered_text component (lookup (entries_of content) component) (both_parts (is_component component) (range.is_stamp stamp) k).0 (lookup_text (entries_of content) component (entries_are content))
 served_text kind stamp what.List content k h = shown_text content
-served_text kind stamp what.Stat content k h = both (is_between 0 range.number_max (length content)) (range.is_stamp stamp) (test (length content) (data_is content_bytes_max content h).few) k
+served_text kind stamp what.Stat content k h = both (is_between 0 range.number_max (length content)) (range.is_stamp stamp) (test (length content) (data_is file_bytes_max content h).few) k
   where
-    test : (n : ℕ) → n ≤ content_bytes_max → is_between 0 range.number_max n ≡ true
+    test : (n : ℕ) → n ≤ file_bytes_max → is_between 0 range.number_max n ≡ true
     test n le = grind (arith, nat_tests)
 served_text kind stamp (what.Whole asked) content k h = refl
 
@@ -197,11 +197,11 @@ beginning_text table now id (call.Abort fd) n h = change_begun now (table fd) (h
 beginning_text table now id (call.Close fd) n h = close_begun now (table fd) (h fd)
 beginning_text table now id _ n h = walk_text now id n
 
-free_from : (table : ℕ → Option Descriptor) (n left : ℕ) → n + left ≤ 65536 → is_free (lowest_free_from table n left) ≡ true
+free_from : (table : ℕ → Option Descriptor) (n left : ℕ) → n + left ≤ descriptor_span → is_free (lowest_free_from table n left) ≡ true
 free_from table n zero few = refl
 free_from table n (suc left) few = over (table n) refl (free_from table (n + 1) left (omega (arith, few)))
   where
-    low : (m k : ℕ) → m + suc k ≤ 65536 → range.is_short m ≡ true
+    low : (m k : ℕ) → m + suc k ≤ descriptor_span → range.is_short m ≡ true
     low m k le = let f : m ≤ 65535 = omega (arith, le) in grind (arith, nat_tests)
 
     over : (d : Option Descriptor) → table n ≡ d → is_free (lowest_free_from table (n + 1) left) ≡ true → is_free (lowest_free_from table n (suc left)) ≡ true

@@ -5,7 +5,7 @@ use Rattle.std.proofs.lemmas.Bool.Decides.{nat_tests}
 use Rattle.std.proofs.lemmas.List.{length-drop, length-replicate, length-take, length-take-le}
 use Rattle.std.specs.List.{find, list_all}
 use Rattle.std.specs.Prelude.{nat_le}
-use Rattle.locus_ids.specs.Sizes.{content_bytes_max, directory_bytes_max, file_bytes_max, page_bytes}
+use Rattle.locus_ids.specs.Sizes.{file_bytes_max, directory_bytes_max, page_bytes}
 use Rattle.locus_ids.specs.declared.ids.Kind.{Kind}
 use Rattle.locus_ids.specs.declared.refusal.Refusal.TheVariants as refusal
 use Rattle.schedule_lines.specs.Ranges.{is_byte}
@@ -42,7 +42,7 @@ may_give _ o = is_done o
 
 pub record EffectText (o : Op) (e : Effect) : Type 0 where
   pub result : may_give o e.result ≡ true
-  pub content : is_data content_bytes_max e.content ≡ true
+  pub content : is_data file_bytes_max e.content ≡ true
   pub pages : length e.pages ≤ 65535
 
 abbrev pub EffectIfAny : Op → Option Effect → Type 0
@@ -66,19 +66,19 @@ filter_most test (x ∷ xs) = over (test x) (filter_most test xs)
 pub needed_few : (pages changed : List ℕ) → length pages ≤ 65535 → pages_needed pages changed ≤ 65535
 needed_few pages changed few = let a : pages_needed pages changed ≤ length pages = filter_most (λ (page : ℕ). not (has_page changed page)) pages in omega (arith, a, few)
 
-replaced_few : (old new : List ℕ) → length new ≤ content_bytes_max → length (pages_replaced old new) ≤ 65535
+replaced_few : (old new : List ℕ) → length new ≤ file_bytes_max → length (pages_replaced old new) ≤ 65535
 replaced_few old new small =
     let a : length (pages_replaced old new) ≤ length (pages_from 0 (pages_of (length new))) = filter_most (is_replaced old new) (pages_from 0 (pages_of (length new))) in
     let b : length (pages_from 0 (pages_of (length new))) ≡ pages_of (length new) = from_length 0 (pages_of (length new)) in
     few (length new) (length (pages_from 0 (pages_of (length new)))) (length (pages_replaced old new)) small b a
   where
-    few : (n p q : ℕ) → n ≤ content_bytes_max → p ≡ (n + (page_bytes - 1)) / page_bytes → q ≤ p → q ≤ 65535
+    few : (n p q : ℕ) → n ≤ file_bytes_max → p ≡ (n + (page_bytes - 1)) / page_bytes → q ≤ p → q ≤ 65535
     few n p q s e le = omega (arith, s, e, le)
 
-between_few : (from end : ℕ) → end ≤ content_bytes_max → length (pages_between from end) ≤ 65535
+between_few : (from end : ℕ) → end ≤ file_bytes_max → length (pages_between from end) ≤ 65535
 between_few from end small = over (nat_lt from end)
   where
-    few : (n p : ℕ) → n ≤ content_bytes_max → (n + (page_bytes - 1)) / page_bytes - p ≤ 65535
+    few : (n p : ℕ) → n ≤ file_bytes_max → (n + (page_bytes - 1)) / page_bytes - p ≤ 65535
     few n p s = omega (arith, s)
 
     over : (b : Bool) → length (cond b (pages_from (from / page_bytes) (pages_of end - from / page_bytes)) []) ≤ 65535
@@ -122,7 +122,7 @@ zeros_bytes (suc n) = zeros_bytes n
 -- what it gives, and what it leaves where it counts as a change
 record DirText (o : Op) (d : DirEffect) : Type 0 where
   outcome : may_give o d.outcome ≡ true
-  few : d.counts ≡ true → length (dir_bytes d.entries) ≤ content_bytes_max
+  few : d.counts ≡ true → length (dir_bytes d.entries) ≤ file_bytes_max
 
 abbrev DirIfAny : Op → Option DirEffect → Type 0
 DirIfAny o None = Unit {0}
@@ -134,7 +134,7 @@ answers_text o r ds h = record { outcome = h; few = λ e. absurd (cc) }
 becomes_text : (o : Op) (ds after : List Entry) (spent : Bool) → may_give o (outcome.No refusal.TooLong) ≡ true → may_give o outcome.Done ≡ true → DirText o (becomes ds after spent)
 becomes_text o ds after spent long done = over (nat_lt directory_bytes_max (size_of after)) refl
   where
-    short : nat_lt directory_bytes_max (size_of after) ≡ false → length (dir_bytes after) ≤ content_bytes_max
+    short : nat_lt directory_bytes_max (size_of after) ≡ false → length (dir_bytes after) ≤ file_bytes_max
     short e = grind (arith, nat_tests)
 
     over : (b : Bool) → nat_lt directory_bytes_max (size_of after) ≡ b → DirText o (cond b (refuses refusal.TooLong ds) (record { outcome = outcome.Done; entries = after; counts = true; spent = spent }))
@@ -187,24 +187,24 @@ DeedText o (As a) = (a ≡ o) × (is_asked_op o ≡ true)
 DeedText o (Removes name ino seen) = o ≡ op.Remove name ino
 DeedText o (Mends several joined) = (o ≡ op.Mend) × (are_bytes joined ≡ true)
 
-module _ (content : List ℕ) (data_here : DataIs content_bytes_max content) where
+module _ (content : List ℕ) (data_here : DataIs file_bytes_max content) where
   tells_text : (o : Op) (r : Outcome) → may_give o r ≡ true → EffectText o (tells content r)
-  tells_text o r h = record { result = h; content = data_of content_bytes_max content data_here.few data_here.bytes; pages = omega arith }
+  tells_text o r h = record { result = h; content = data_of file_bytes_max content data_here.few data_here.bytes; pages = omega arith }
 
   puts_text : (new : List ℕ) (counts : Bool) → are_bytes new ≡ true → EffectText op.Mend (puts content new counts)
   puts_text new counts k = over (nat_lt directory_bytes_max (length new)) refl
     where
-      short : nat_lt directory_bytes_max (length new) ≡ false → length new ≤ content_bytes_max
+      short : nat_lt directory_bytes_max (length new) ≡ false → length new ≤ file_bytes_max
       short e = grind (arith, nat_tests)
 
       over : (b : Bool) → nat_lt directory_bytes_max (length new) ≡ b → EffectText op.Mend (cond b (tells content (outcome.No refusal.TooLong)) (record { result = outcome.Done; content = new; pages = pages_replaced content new; counts = counts; spent = false }))
       over true e = tells_text op.Mend (outcome.No refusal.TooLong) refl
-      over false e = record { result = refl; content = data_of content_bytes_max new (short e) k; pages = replaced_few content new (short e) }
+      over false e = record { result = refl; content = data_of file_bytes_max new (short e) k; pages = replaced_few content new (short e) }
 
   directory_text : (o : Op) (d : DirEffect) → is_dir d.entries ≡ true → DirText o d → EffectText o (on_directory content d)
-  directory_text o d dir h = record { result = h.outcome; content = data_of content_bytes_max (directory_left content d) (left d.counts refl) (bytes d.counts); pages = replaced_few content (directory_left content d) (left d.counts refl) }
+  directory_text o d dir h = record { result = h.outcome; content = data_of file_bytes_max (directory_left content d) (left d.counts refl) (bytes d.counts); pages = replaced_few content (directory_left content d) (left d.counts refl) }
     where
-      left : (b : Bool) → d.counts ≡ b → length (cond b (dir_bytes d.entries) content) ≤ content_bytes_max
+      left : (b : Bool) → d.counts ≡ b → length (cond b (dir_bytes d.entries) content) ≤ file_bytes_max
       left true e = h.few e
       left false e = data_here.few
 
@@ -230,7 +230,7 @@ module _ (content : List ℕ) (data_here : DataIs content_bytes_max content) whe
   read_text : (at len : ℕ) → len ≤ 4096 → is_data 4096 (part content at len) ≡ true
   read_text at len le = let e : length (take len (drop at content)) ≡ min len (length (drop at content)) = length-take len (drop at content) in data_of 4096 (part content at len) (omega (arith, e, le)) (take_bytes len (drop at content) (drop_bytes at content data_here.bytes))
 
-  written_small : (at : ℕ) (bytes : List ℕ) → at + length bytes ≤ file_bytes_max → length (written content at bytes) ≤ content_bytes_max
+  written_small : (at : ℕ) (bytes : List ℕ) → at + length bytes ≤ file_bytes_max → length (written content at bytes) ≤ file_bytes_max
   written_small at bytes fits =
       let zeros : List ℕ = replicate (at - length content) 0 in
       let filled : List ℕ = content ++ zeros in
@@ -240,7 +240,7 @@ module _ (content : List ℕ) (data_here : DataIs content_bytes_max content) whe
       let l : length (take at filled ++ bytes ++ drop (at + length bytes) content) ≡ length (take at filled ++ bytes) + length (drop (at + length bytes) content) = length-append (take at filled ++ bytes) (drop (at + length bytes) content) in
       let m : length (take at filled ++ bytes) ≡ length (take at filled) + length bytes = length-append (take at filled) bytes in
       let d : length (drop (at + length bytes) content) ≡ length content - (at + length bytes) = length-drop (at + length bytes) content in
-      let small : length content ≤ content_bytes_max = data_here.few in
+      let small : length content ≤ file_bytes_max = data_here.few in
       omega (arith, l, m, d, front, small, fits)
 
   written_bytes : (at : ℕ) (bytes : List ℕ) → are_bytes bytes ≡ true → are_bytes (written content at bytes) ≡ true
@@ -256,14 +256,14 @@ module _ (content : List ℕ) (data_here : DataIs content_bytes_max content) whe
       inside e = grind (arith, nat_tests)
 
       over : (b : Bool) → nat_le (at + length bytes) file_bytes_max ≡ b → EffectIfAny (op.Write at bytes) (cond b (Some (writes content at bytes)) None)
-      over true e = record { result = refl; content = data_of content_bytes_max (written content at bytes) (written_small at bytes (inside e)) (written_bytes at bytes k); pages = between_few (min at (length content)) (at + length bytes) (inside e) }
+      over true e = record { result = refl; content = data_of file_bytes_max (written content at bytes) (written_small at bytes (inside e)) (written_bytes at bytes k); pages = between_few (min at (length content)) (at + length bytes) (inside e) }
       over false e = tt
 
   cut_text : (len : ℕ) → EffectText (op.Cut len) (cuts content len)
-  cut_text len = record { result = refl; content = data_of content_bytes_max (cut content len) less (take_bytes len content data_here.bytes); pages = omega arith }
+  cut_text len = record { result = refl; content = data_of file_bytes_max (cut content len) less (take_bytes len content data_here.bytes); pages = omega arith }
     where
-      less : length (take len content) ≤ content_bytes_max
-      less = let e : length (take len content) ≡ min len (length content) = length-take len content in let small : length content ≤ content_bytes_max = data_here.few in omega (arith, e, small)
+      less : length (take len content) ≤ file_bytes_max
+      less = let e : length (take len content) ≡ min len (length content) = length-take len content in let small : length content ≤ file_bytes_max = data_here.few in omega (arith, e, small)
 
   pub as_text : (o : Op) → is_asked_op o ≡ true → EffectIfAny o (effect (As o) content)
   as_text (op.Probe name) k = worded_text (op.Probe name) (probe_text name (entries_of content) (find (has_name name) (entries_of content)) (λ d f. find_inode (has_name name) (entries_of content) d (entries_are content) f))

@@ -16,7 +16,7 @@ use Rattle.trace_book.specs.declared.operation.Op.TheVariants as op
 use Rattle.trace_book.specs.declared.operation.Outcome.{Outcome}
 use Rattle.trace_book.specs.declared.record.Record.TheVariants as rec
 use Rattle.schedule_lines.specs.Ranges.{is_between}
-use Rattle.locus_ids.specs.Sizes.{content_bytes_max, file_bytes_max}
+use Rattle.locus_ids.specs.Sizes.{file_bytes_max}
 use Rattle.trace_book.specs.Names.{is_name}
 use Rattle.wire_fields.specs.Components.{is_component}
 use Rattle.call_rules.specs.declared.want.Want.TheVariants as want
@@ -138,7 +138,7 @@ commit_row p f site stamp parents content h new may = each_any EpochText (range.
         let a = both_parts x.work.owes _ (both_parts (x.grant.ss == site) _ m).1 in
         let b = both_parts (bytes_eq content x.work.content) _ a.1 in
         let d = both_parts (same_list same_stamp parents (parents_of p t x)) _ b.1 in
-        both (range.is_file f) _ (file_text x f (both_parts (same_file x.grant.file f) (not (is_read x.grant.mode)) writing).0 k) (both (range.is_any_site site) _ there (both (range.is_stamp stamp) _ new (both (list_all range.is_stamp parents) (range.is_data content_bytes_max content) (stamps_turned parents (parents_of p t x) d.0 (parents_text p t x own k)) (data_same content x.work.content b.0 k.content))))
+        both (range.is_file f) _ (file_text x f (both_parts (same_file x.grant.file f) (not (is_read x.grant.mode)) writing).0 k) (both (range.is_any_site site) _ there (both (range.is_stamp stamp) _ new (both (list_all range.is_stamp parents) (range.is_data file_bytes_max content) (stamps_turned parents (parents_of p t x) d.0 (parents_text p t x own k)) (data_same content x.work.content b.0 k.content))))
 
     one : (t : Epoch) → may_commit p f site stamp parents content t ≡ true → EpochText t → range.is_record (rec.Commit f site stamp parents content) ≡ true
     one t m own =

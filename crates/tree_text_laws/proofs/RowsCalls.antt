@@ -9,6 +9,7 @@ use Rattle.locus_ids.specs.declared.ids.FileId.{FileId}
 use Rattle.locus_ids.specs.declared.ids.Kind.TheVariants.{File, Dir}
 use Rattle.locus_ids.specs.declared.ids.Stamp.{Stamp}
 use Rattle.locus_ids.specs.declared.refusal.Refusal.TheVariants as refusal
+use Rattle.locus_ids.specs.Sizes.{sites_max}
 use Rattle.commit_graph.specs.Versions.{same_file}
 use Rattle.trace_book.specs.declared.call.Call.{Call}
 use Rattle.trace_book.specs.declared.call.Call.TheVariants as call
@@ -59,7 +60,7 @@ making_text p f h = each_or (λ (m : Making). is_making m ≡ true) (λ (m : Mak
 system_words : (process : ℕ) (f : FileId) → (process == 0) ≡ true → range.is_file f ≡ true → range.is_words process (call.Mend f) ≡ true
 system_words process f e h = over (process == 0) e
   where
-    over : (b : Bool) → b ≡ true → cond b (range.is_mend (call.Mend f)) (fits_call 16 (call.Mend f)) ≡ true
+    over : (b : Bool) → b ≡ true → cond b (range.is_mend (call.Mend f)) (fits_call sites_max (call.Mend f)) ≡ true
     over true k = h
     over false k = false_true k
 

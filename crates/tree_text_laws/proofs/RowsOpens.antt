@@ -4,7 +4,7 @@ use Rattle.std.proofs.lemmas.Bool.Decides.{nat_tests}
 use Rattle.std.specs.List.{list_all, list_any, AllByRecursion}
 use Rattle.std.specs.Option.{is_none, option_or}
 use Rattle.std.specs.Prelude.{nat_lt}
-use Rattle.locus_ids.specs.Sizes.{inodes_max, site_inodes}
+use Rattle.locus_ids.specs.Sizes.{inodes_max, site_inodes, sites_max}
 use Rattle.locus_ids.specs.declared.config.Config.{Config}
 use Rattle.locus_ids.specs.declared.ids.CallId.{CallId}
 use Rattle.locus_ids.specs.declared.ids.EpochId.{EpochId}
@@ -90,13 +90,13 @@ between first (suc n) x h = over (first == x) refl (between (first + 1) n x) h
 range_text : (site ino : ℕ) → range.is_any_site site ≡ true → is_number (range_of site) ino ≡ true → range.is_inode ino ≡ true
 range_text site ino s h = inode (between (site_inodes * (site - 1) + 1) site_inodes ino h) (low s)
   where
-    low : range.is_any_site site ≡ true → site ≤ 16
+    low : range.is_any_site site ≡ true → site ≤ sites_max
     low k = grind (arith, nat_tests)
 
-    test : (n : ℕ) → 1 ≤ n → n ≤ 1024 → range.is_inode n ≡ true
+    test : (n : ℕ) → 1 ≤ n → n ≤ inodes_max → range.is_inode n ≡ true
     test n a b = grind (arith, nat_tests)
 
-    inode : (64 * (site - 1) + 1 ≤ ino) × (ino < 64 * (site - 1) + 1 + 64) → site ≤ 16 → range.is_inode ino ≡ true
+    inode : (site_inodes * (site - 1) + 1 ≤ ino) × (ino < site_inodes * (site - 1) + 1 + site_inodes) → site ≤ sites_max → range.is_inode ino ≡ true
     inode k le = test ino (omega (arith, k.0)) (omega (arith, k.1, le))
 
 number_there : (ns : List ℕ) (n : ℕ) → list_all range.is_any_site ns ≡ true → is_number ns n ≡ true → range.is_any_site n ≡ true

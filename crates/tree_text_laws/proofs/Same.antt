@@ -19,7 +19,7 @@ use Rattle.trace_book.specs.Same.{same_serial}
 use Rattle.wire_fields.specs.Components.{is_component}
 use Rattle.trace_book.specs.Names.{is_name}
 use Rattle.schedule_lines.specs.Ranges.{is_between}
-use Rattle.locus_ids.specs.Sizes.{content_bytes_max, file_bytes_max}
+use Rattle.locus_ids.specs.Sizes.{file_bytes_max}
 use Rattle.record_reading.specs.Ranges.{is_brought, is_data, is_inode, is_optional_stamp, is_served, is_some_data, is_stamp}
 use Rattle.call_text_laws.specs.Wants.{is_asked_op, is_want}
 use Rattle.tree_model.specs.Same.{same_brought, same_kind, same_outcome, same_served, same_version}
@@ -36,8 +36,8 @@ bytes_test P a b e h = subst (λ (x : List ℕ). P x ≡ true) ((bytes_eq-Decide
 number_test : (P : ℕ → Bool) (a b : ℕ) → (a == b) ≡ true → P a ≡ true → P b ≡ true
 number_test P a b e h = subst (λ (x : ℕ). P x ≡ true) (number_eq a b e) h
 
-pub data_same : (a b : List ℕ) → bytes_eq a b ≡ true → is_data content_bytes_max b ≡ true → is_data content_bytes_max a ≡ true
-data_same a b e h = subst (λ (x : List ℕ). is_data content_bytes_max x ≡ true) (sym ((bytes_eq-Decides a b).0 e)) h
+pub data_same : (a b : List ℕ) → bytes_eq a b ≡ true → is_data file_bytes_max b ≡ true → is_data file_bytes_max a ≡ true
+data_same a b e h = subst (λ (x : List ℕ). is_data file_bytes_max x ≡ true) (sym ((bytes_eq-Decides a b).0 e)) h
 
 pub stamp_same : (a b : Stamp) → same_stamp a b ≡ true → is_stamp a ≡ true → is_stamp b ≡ true
 stamp_same a b e h = subst (λ (s : Stamp). is_stamp s ≡ true) (stamp_eq a b e) h

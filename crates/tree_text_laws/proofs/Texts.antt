@@ -2,7 +2,7 @@
 use Rattle.std.proofs.Common.{◌≡◌, ℕ, ◌==◌, Bool, true, false, cond, ◌&&◌, ◌||◌, List, [], ◌∷◌, filter, Option, Some, None, refl, subst}
 use Rattle.std.specs.List.{find, list_all, list_any, AllByRecursion}
 use Rattle.std.specs.Option.{option_map}
-use Rattle.locus_ids.specs.Sizes.{content_bytes_max}
+use Rattle.locus_ids.specs.Sizes.{file_bytes_max}
 use Rattle.locus_ids.specs.declared.ids.EpochId.{EpochId}
 use Rattle.locus_ids.specs.declared.ids.FileId.{FileId}
 use Rattle.locus_ids.specs.declared.ids.Stamp.{Stamp}
@@ -48,7 +48,7 @@ abbrev pub are_left : Left → Bool
 are_left l = list_all is_copy l.held
 
 abbrev pub has_data : Version → Bool
-has_data v = range.is_data content_bytes_max v.content
+has_data v = range.is_data file_bytes_max v.content
 
 abbrev pub is_making : Making → Bool
 is_making m = range.is_file m.file
@@ -64,7 +64,7 @@ pub record InstanceText (x : Instance) : Type 0 where
   pub call : range.is_call_id x.grant.call ≡ true
   pub process : range.is_process x.grant.process ≡ true
   pub file : range.is_file x.grant.file ≡ true
-  pub content : range.is_data content_bytes_max x.work.content ≡ true
+  pub content : range.is_data file_bytes_max x.work.content ≡ true
   pub last : range.is_optional_stamp x.work.last ≡ true
   pub committed : range.is_optional_stamp x.work.committed ≡ true
 
@@ -190,14 +190,14 @@ stamp_found vs f h = over (find (λ (v : Copy). same_file v.file f) vs) refl
 pub held_text : (p : Past) (t : Epoch) (site : ℕ) (f : FileId) → PastText p → EpochText t → range.is_optional_stamp (held_in p t site f) ≡ true
 held_text p t site f h k = stamp_found (copies_in p t site) f (copies_text p t site h k)
 
-pub content_text : (h : List Version) (f : FileId) (s : Stamp) → list_all has_data h ≡ true → range.is_data content_bytes_max (content_of h f s) ≡ true
+pub content_text : (h : List Version) (f : FileId) (s : Stamp) → list_all has_data h ≡ true → range.is_data file_bytes_max (content_of h f s) ≡ true
 content_text [] f s k = refl
 content_text (v ∷ older) f s k = let parts = all_first has_data v older k in over parts.0 (content_text older f s parts.1) (is_version f s v)
   where
-    over : range.is_data content_bytes_max v.content ≡ true → range.is_data content_bytes_max (content_of older f s) ≡ true → (b : Bool) → range.is_data content_bytes_max (cond b v.content (content_of older f s)) ≡ true
+    over : range.is_data file_bytes_max v.content ≡ true → range.is_data file_bytes_max (content_of older f s) ≡ true → (b : Bool) → range.is_data file_bytes_max (cond b v.content (content_of older f s)) ≡ true
     over own later true = own
     over own later false = later
 
-pub stamped_text : (h : List Version) (f : FileId) (o : Option Stamp) → list_all has_data h ≡ true → range.is_data content_bytes_max (stamped_content h f o) ≡ true
+pub stamped_text : (h : List Version) (f : FileId) (o : Option Stamp) → list_all has_data h ≡ true → range.is_data file_bytes_max (stamped_content h f o) ≡ true
 stamped_text h f None k = refl
 stamped_text h f (Some s) k = content_text h f s k

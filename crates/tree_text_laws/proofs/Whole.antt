@@ -1,7 +1,7 @@
 -- Along a trace that is one tree each record is a text, and the past stays one of texts.
 use Rattle.std.proofs.Common.{◌≡◌, ℕ, ◌-◌, ◌==◌, ◌&&◌, true, List, [], ◌∷◌, filter, refl, subst, sym}
 use Rattle.std.specs.List.{list_all}
-use Rattle.locus_ids.specs.Sizes.{content_bytes_max}
+use Rattle.locus_ids.specs.Sizes.{file_bytes_max}
 use Rattle.locus_ids.specs.declared.config.Config.{Config}
 use Rattle.locus_ids.specs.declared.ids.CallId.{CallId}
 use Rattle.locus_ids.specs.declared.ids.EpochId.{EpochId}
@@ -104,7 +104,7 @@ told_text c p (rec.Act e i n o result) tidy h may text =
 told_text c p (rec.Commit f site stamp parents content) tidy h may text =
     let a = both_parts (range.is_file f) _ text in
     let b = both_parts (range.is_stamp stamp) _ (both_parts (range.is_any_site site) _ a.1).1 in
-    committed_text c (record { file = f; site = site; stamp = stamp; parents = parents; content = content }) p a.0 b.0 (both_parts (list_all range.is_stamp parents) (range.is_data content_bytes_max content) b.1).1 h
+    committed_text c (record { file = f; site = site; stamp = stamp; parents = parents; content = content }) p a.0 b.0 (both_parts (list_all range.is_stamp parents) (range.is_data file_bytes_max content) b.1).1 h
 told_text c p (rec.Release e i f stamp) tidy h may text =
     let a = both_parts (range.is_file f) (range.is_optional_stamp stamp) (both_parts (range.is_instance i) _ (both_parts (range.is_epoch e) _ text).1).1 in
     let k = closed_text (is_ender (epoch_at p e) i) stamp (filter (is_named i) (epoch_at p e).opened) p a.1 h in

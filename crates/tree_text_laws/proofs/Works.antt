@@ -5,7 +5,7 @@ use Rattle.std.specs.List.{find, list_all}
 use Rattle.std.specs.Ordering.{nat_cmp}
 use Rattle.std.specs.declared.cmp.Ordering.{Ordering}
 use Rattle.std.specs.declared.cmp.Ordering.TheVariants.{Less, Equal, Greater}
-use Rattle.locus_ids.specs.Sizes.{content_bytes_max, pack_pages}
+use Rattle.locus_ids.specs.Sizes.{file_bytes_max, pack_pages}
 use Rattle.locus_ids.specs.declared.ids.FileId.{FileId}
 use Rattle.locus_ids.specs.declared.ids.Stamp.{Stamp}
 use Rattle.locus_ids.specs.declared.refusal.Refusal.{Refusal}
@@ -102,14 +102,14 @@ deed_text p t (op.Remove name ino) x k = removes_deed name ino p (find (is_targe
 deed_text p t op.Mend x k = (refl, mended_text p t x.grant.file)
 deed_text p t _ x k = (refl, k)
 
-of_deed : (content : List ℕ) (o : Op) (d : Option Deed) → DataIs content_bytes_max content → DeedIfAny o d → EffectIfAny o (effect_of d content)
+of_deed : (content : List ℕ) (o : Op) (d : Option Deed) → DataIs file_bytes_max content → DeedIfAny o d → EffectIfAny o (effect_of d content)
 of_deed content o None few h = tt
 of_deed content o (Some (As a)) few h = subst (λ b. EffectIfAny o (effect (As b) content)) (sym h.0) (as_text content few o h.1)
 of_deed content o (Some (Removes name ino seen)) few h = subst (λ b. EffectIfAny b (effect (Removes name ino seen) content)) (sym h) (removes_text content few name ino seen)
 of_deed content o (Some (Mends several joined)) few h = subst (λ b. EffectIfAny b (effect (Mends several joined) content)) (sym h.0) (mends_text content few several joined h.1)
 
 effect_text : (p : Past) (t : Epoch) (o : Op) (x : Instance) → is_asked_op o ≡ true → InstanceText x → EffectIfAny o (effect_on p t o x)
-effect_text p t o x k h = of_deed x.work.content o (deed_of p t o x) (data_is content_bytes_max x.work.content h.content) (deed_text p t o x k)
+effect_text p t o x k h = of_deed x.work.content o (deed_of p t o x) (data_is file_bytes_max x.work.content h.content) (deed_text p t o x k)
 
 -- ---- results ----
 
@@ -175,7 +175,7 @@ gave_text p t o x result k h given = given_text o (result_on p t o x) result (re
 -- ---- the instance after it ----
 
 record WorkText (w : Work) : Type 0 where
-  content : range.is_data content_bytes_max w.content ≡ true
+  content : range.is_data file_bytes_max w.content ≡ true
   last : range.is_optional_stamp w.last ≡ true
   committed : range.is_optional_stamp w.committed ≡ true
 

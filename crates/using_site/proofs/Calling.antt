@@ -17,7 +17,7 @@ use Rattle.role_steps.specs.Using.{accepted, frees, goes_on, on_call, own_call}
 use Rattle.role_steps.specs.declared.users.WaitingCall.{WaitingCall}
 use Rattle.site_frame.specs.Printed.{printed}
 use Rattle.using_site.specs.Steps.{Gives}
-use Rattle.using_site.proofs.Descriptors.{on_ok}
+use Rattle.waiting_calls.proofs.DescriptorRows.{on_ok}
 
 called_gives : (f : Frame) (now : Option EpochId) (process : ℕ) (words : Call) (u v : Users) (x : WaitingCall) (r : Record) {new : Users} {before mid after : Outgoing} → x ≡ accepted process (u.calls + 1) words (beginning (descriptors_of u process) now (own_call f.me f.boot (u.calls + 1)) words) → v ≡ frees process words (record u { calls = u.calls + 1 }) → mid ≡ record before { records = before.records ++ r ∷ [] } → r ≡ says.Accept f.me process (own_call f.me f.boot (u.calls + 1)) words → Gives (goes_on f x v) new mid after → Gives (on_call f now process words u) new before after
 called_gives f now process words u v x r {before = before} {mid = mid} e h m s g =

@@ -13,9 +13,9 @@ use Rattle.role_steps.specs.declared.users.Asking.{Asking}
 use Rattle.role_steps.specs.declared.users.WaitingCall.{WaitingCall}
 use Rattle.site_frame.specs.Printed.{printed}
 use Rattle.keyed_tables.specs.Rising.{Rising}
-use Rattle.using_site.specs.declared.step.Step.{Step}
-use Rattle.using_site.specs.declared.step.Step.TheVariants.{Asks, Replies, Stays}
-use Rattle.using_site.specs.Steps.{after_step}
+use Rattle.waiting_calls.specs.declared.step.Step.{Step}
+use Rattle.waiting_calls.specs.declared.step.Step.TheVariants.{Asks, Replies, Stays}
+use Rattle.waiting_calls.specs.Steps.{after_step}
 use Rattle.using_site.proofs.Taken.{put_back, put_over}
 
 abbrev pub with_waiting_rows : List WaitingCall → Users → Users

@@ -13,9 +13,10 @@ use Rattle.role_steps.specs.declared.users.Asking.{Asking}
 use Rattle.role_steps.specs.declared.users.WaitingCall.{WaitingCall}
 use Rattle.site_frame.specs.Printed.{printed}
 use Rattle.keyed_tables.specs.Rising.{Rising}
-use Rattle.using_site.specs.declared.step.Step.{Step}
-use Rattle.using_site.specs.declared.step.Step.TheVariants.{Asks, Replies, Stays}
-use Rattle.using_site.specs.Steps.{after_step, Gives}
+use Rattle.waiting_calls.specs.declared.step.Step.{Step}
+use Rattle.waiting_calls.specs.declared.step.Step.TheVariants.{Asks, Replies, Stays}
+use Rattle.using_site.specs.Steps.{Gives}
+use Rattle.waiting_calls.specs.Steps.{after_step}
 use Rattle.waiting_calls.specs.Called.{with_content}
 use Rattle.using_site.proofs.Taken.{row_key}
 use Rattle.using_site.proofs.Going.{Gone, with_waiting_rows, stayed_view, stayed_sent, stayed_told}

@@ -2,8 +2,6 @@ pub mod Again
 pub mod Asked
 pub mod Awaited
 pub mod Calling
-pub mod Descriptors
-pub mod Free
 pub mod Going
 pub mod Hearing
 pub mod Replies

@@ -3,6 +3,7 @@ use Rattle.std.proofs.Common.{◌≡◌, ℕ, List, ◌++◌, ap, sym, ◌∙◌
 use Rattle.std.proofs.lemmas.List.{append-nil}
 use Rattle.std.specs.declared.result.Result.{Result}
 use Rattle.std.specs.Prelude.{OnOk}
+use Rattle.locus_ids.specs.declared.ids.FileId.{FileId}
 use Rattle.trace_book.specs.declared.reply.Reply.{Reply}
 use Rattle.call_rules.specs.declared.want.Want.{Want}
 use Rattle.call_rules.specs.declared.answer.Answer.{Answer}
@@ -12,18 +13,25 @@ use Rattle.role_steps.specs.Views.{Frame, Users, Outcome}
 use Rattle.role_steps.specs.Requests.{asks, next_request, waiting_key, without_waiting}
 use Rattle.role_steps.specs.Using.{after_reply, goes_on, reply_record, takes_answer, with_answer}
 use Rattle.role_steps.specs.declared.users.Asking.{Asking}
+use Rattle.role_steps.specs.declared.users.DescriptorRow.{DescriptorRow}
 use Rattle.role_steps.specs.declared.users.WaitingCall.{WaitingCall}
 use Rattle.site_frame.specs.Printed.{printed}
-use Rattle.using_site.specs.declared.step.Step.{Step}
-use Rattle.using_site.specs.declared.step.Step.TheVariants.{Asks, Replies, Stays}
-use Rattle.using_site.specs.Steps.{after_step, Gives}
+use Rattle.waiting_calls.specs.declared.step.Step.{Step}
+use Rattle.waiting_calls.specs.declared.step.Step.TheVariants.{Asks, Replies, Stays}
+use Rattle.using_site.specs.Steps.{Gives}
+use Rattle.waiting_calls.specs.Steps.{after_step}
 use Rattle.waiting_calls.specs.Called.{with_content}
+use Rattle.waiting_calls.proofs.DescriptorRows.{on_ok}
 use Rattle.using_site.proofs.Going.{Begun, begun, Gone, with_waiting_rows, asked_view, asked_sent, asked_told, replied_view, replied_sent, replied_told}
 use Rattle.std.proofs.Common.{[], ◌∷◌, refl, subst, Option, Some, None}
 
 pub on_ok3 : {A E : Type 0} {P Q R S : Type 0} (r : Result A E) → (P → Q → R → S) → OnOk r P → OnOk r Q → OnOk r R → OnOk r S
 on_ok3 (Ok x) f p q r = f p q r
 on_ok3 (Err e) f p q r = tt
+
+-- what a reply changes, of the users as they are seen, by what it changes of the users that their parts make
+pub replied : {A E : Type 0} (done : Result A E) (f : Frame) (w : WaitingCall) (y : Reply) (v u : Users) (ds : List DescriptorRow) (hs : List FileId) → v ≡ u → ((z : Users) → OnOk done (record z { descriptors = ds; hopeless = hs } ≡ after_reply f w y (record z { descriptors = v.descriptors; hopeless = v.hopeless }))) → OnOk done (record v { descriptors = ds; hopeless = hs } ≡ after_reply f w y u)
+replied done f w y v u ds hs e k = on_ok done (λ h. h ∙ ap (after_reply f w y) e) (k v)
 
 -- an outcome that is known gives what it gives
 by_outcome : {o p : Outcome Users} {new : Users} {before after : Outgoing} → o ≡ p → Gives p new before after → Gives o new before after

@@ -1,19 +1,11 @@
--- What becomes of a call: it asks, it is replied to, or it stays as it is.
+-- What comes of an event, and the directory that a call mends.
 use Rattle.std.specs.Prelude.{◌≡◌, ◌++◌, Option, None, Some}
 use Rattle.wire_messages.specs.Outboxes.{Outgoing}
 use Rattle.site_frame.specs.Printed.{printed}
 use Rattle.locus_ids.specs.declared.ids.FileId.{FileId}
-use Rattle.role_steps.specs.Views.{Frame, Users, Outcome, quiet}
-use Rattle.role_steps.specs.Requests.{asks, next_request}
-use Rattle.role_steps.specs.Using.{mended_file, replies}
+use Rattle.role_steps.specs.Views.{Outcome}
+use Rattle.role_steps.specs.Using.{mended_file}
 use Rattle.role_steps.specs.declared.users.WaitingCall.{WaitingCall}
-use Rattle.using_site.specs.declared.step.Step.{Step}
-use Rattle.using_site.specs.declared.step.Step.TheVariants.{Asks, Replies, Stays}
-
-abbrev pub after_step : Frame → WaitingCall → Step → Users → Outcome Users
-after_step f w (Asks a) u = asks f (next_request w a) u
-after_step f w (Replies r) u = replies f w r u
-after_step f w Stays u = quiet u
 
 -- the directory that a call mends
 abbrev pub mended_by : Option WaitingCall → Option FileId

@@ -82,13 +82,13 @@ impl UsingSite {
                 ..
             } => {
                 let told = Told { serial, ino, stamp };
-                let answer = self.opened_answer(frame, key, told, kept);
                 self.instances.put(UserInstance {
                     serial,
                     ss,
                     vector,
                     ops: 0,
                 })?;
+                let answer = self.opened_answer(frame, key, told, kept);
                 self.take(frame, key, answer, None, out)
             }
             Granted::No { why } => self.take(frame, key, Answer::Refused { why }, None, out),

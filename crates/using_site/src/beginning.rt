@@ -3,11 +3,9 @@ ghost use Rattle.call_rules.specs.Descriptors.{beginning};
 ghost use Rattle.role_steps.specs.Requests.{descriptors_of};
 
 use crate::users::UsingSite;
-use call_scripts::{
-    begins_change, begins_close, begins_open, begins_read, begins_walk, is_past_greatest,
-};
-use locus_ids::{CallId, EpochId, Refusal};
+use locus_ids::{CallId, EpochId};
 use trace_book::{Beginning, Call};
+use waiting_calls::begins_call;
 
 impl UsingSite {
     /// Where an accepted call of this name begins, by the descriptors of its process and the epoch that the site is in.
@@ -20,22 +18,6 @@ impl UsingSite {
     ) -> Beginning
         ensures { result ≡ beginning (descriptors_of self.now process) now call words.now }
     {
-        match words {
-            Call::Open { path: _, mode: _ } => begins_open(now, call, self.lowest_free(process)),
-            Call::Read { fd, at: _, len: _ } => begins_read(now, self.descriptor(process, *fd)),
-            Call::Write { fd, at, bytes } => {
-                if is_past_greatest(*at, bytes.as_slice()) {
-                    return Beginning::Denied {
-                        why: Refusal::TooLong,
-                    };
-                }
-                begins_change(now, self.descriptor(process, *fd))
-            }
-            Call::Cut { fd, len: _ } => begins_change(now, self.descriptor(process, *fd)),
-            Call::Commit { fd } => begins_change(now, self.descriptor(process, *fd)),
-            Call::Abort { fd } => begins_change(now, self.descriptor(process, *fd)),
-            Call::Close { fd } => begins_close(now, self.descriptor(process, *fd)),
-            _ => begins_walk(now, call),
-        }
+        begins_call(&self.descriptors, now, process, call, words)
     }
 }

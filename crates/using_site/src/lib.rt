@@ -9,7 +9,6 @@ mod instances;
 mod leaving;
 mod mends;
 mod replying;
-mod step;
 mod stepping;
 mod taking;
 mod users;

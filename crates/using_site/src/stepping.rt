@@ -7,16 +7,15 @@ ghost use Rattle.role_steps.specs.declared.users.WaitingCall.{WaitingCall};
 ghost use Rattle.role_steps.specs.Requests.{asks_close, asks_make, asks_op, asks_open, made_for, opening_of};
 ghost use Rattle.role_steps.specs.Using.{asks_want, is_packed, next_want};
 ghost use Rattle.waiting_calls.specs.Called.{called};
-ghost use Rattle.using_site.specs.Steps.{after_step};
+ghost use Rattle.waiting_calls.specs.Steps.{after_step};
 
-use crate::step::Step;
 use crate::users::UsingSite;
 use call_rules::Want;
 use locus_ids::{FileId, NoMemory, Refusal, Serial, Sites};
 use role_steps::{Asking, UserInstance};
 use site_frame::SiteFrame;
 use trace_book::{Op, OpenMode, Reply};
-use waiting_calls::Caller;
+use waiting_calls::{Caller, Step, given};
 use wire_messages::Opening;
 
 impl UsingSite {
@@ -56,7 +55,7 @@ impl UsingSite {
             }
             Want::Do { inst, op } => self.operate(caller, inst, op),
             Want::Close { inst } => Ok(self.close(inst)),
-            Want::Give { reply } => Ok(Step::Replies { reply }),
+            Want::Give { reply } => Ok(given(reply)),
             Want::Never => Ok(Step::Stays),
         }
     }

@@ -8,14 +8,13 @@ ghost use Rattle.keyed_tables.specs.Rising.{Rising};
 ghost use Rattle.using_site.specs.Steps.{Gives};
 ghost use Rattle.waiting_calls.specs.Called.{called, with_content};
 
-use crate::step::Step;
 use crate::users::UsingSite;
 use call_rules::Answer;
 use keyed_tables::{descriptor_key, waiting_key};
 use locus_ids::{Bytes, EpochId, NoMemory};
 use site_frame::SiteFrame;
 use trace_book::{Call, Record};
-use waiting_calls::{Caller, Waiting, own_call};
+use waiting_calls::{Caller, Step, Waiting, own_call};
 use wire_messages::Outbox;
 
 impl UsingSite {

@@ -5,19 +5,17 @@ ghost use Rattle.role_steps.specs.declared.users.WaitingCall.{WaitingCall};
 ghost use Rattle.role_steps.specs.Requests.{descriptors_of, user_instance};
 ghost use Rattle.call_rules.specs.Descriptors.{lowest_free};
 
-use keyed_tables::{SortedTable, descriptor_key};
-use locus_ids::sizes::DESCRIPTORS;
+use keyed_tables::SortedTable;
 use locus_ids::{FileId, ItemList};
 use role_steps::{DescriptorRow, UserInstance};
 use std::alloc::Global;
 use std::marker::Model;
 use trace_book::Descriptor;
-use waiting_calls::Waiting;
+use waiting_calls::{Waiting, descriptor, lowest_free};
 
 /// What the using site of a site has: how many calls it accepted and how many opens it asked in this boot, the calls that
 /// wait, the instances that it has open, the descriptors of its processes, and the directories whose mend was refused for
 /// want of room in this epoch.
-#[derive(Drop)]
 pub struct UsingSite {
     pub(crate) calls: u32,
     pub(crate) serials: u32,
@@ -26,6 +24,21 @@ pub struct UsingSite {
     pub(crate) descriptors: SortedTable<DescriptorRow>,
     pub(crate) hopeless: ItemList<FileId>,
     pub(crate) alloc: Global,
+}
+
+// Taken apart in one place: where a site is dropped, the prover sees one call of this.
+impl Drop for UsingSite {
+    fn drop(self) {
+        let UsingSite {
+            calls: _,
+            serials: _,
+            waiting: _,
+            instances: _,
+            descriptors: _,
+            hopeless: _,
+            alloc: _,
+        } = self;
+    }
 }
 
 impl Model for UsingSite {
@@ -73,23 +86,14 @@ impl UsingSite {
     pub fn descriptor(&self, process: u8, fd: u16) -> Option<Descriptor>
         ensures { result ≡ descriptors_of self.now process fd }
     {
-        match self.descriptors.find(descriptor_key(process, fd)) {
-            Some(row) => Some(row.descriptor),
-            None => None,
-        }
+        descriptor(&self.descriptors, process, fd)
     }
 
     /// The lowest free of the 16 descriptors of the process.
-    #[tactic(auto, using(crate::proofs::Free::free_here, crate::proofs::Free::free_later))]
     pub fn lowest_free(&self, process: u8) -> Option<u16>
         ensures { result ≡ lowest_free (descriptors_of self.now process) }
     {
-        for fd in 0..DESCRIPTORS {
-            if self.descriptor(process, fd).is_none() {
-                return Some(fd);
-            }
-        }
-        None
+        lowest_free(&self.descriptors, process)
     }
 
     /// The instance of this serial number.

@@ -19,7 +19,7 @@ use Rattle.role_steps.proofs.Rows.{row_other, row_same}
 use Rattle.role_steps.proofs.Sending.{every_map}
 use Rattle.run_laws.specs.of_the_run.Disks.{Disk, Armed, BootWrite, ClosesLosing, WritesBody, OpensHalf, ClosesOther, ClosesGate, boot_writes, written, is_left_written, Booted, Whole, CutOff, boots, boots_armed, boots_freely, cut_disk, is_on_disk}
 use Rattle.run_laws.specs.of_the_run.Steps.{step}
-use Rattle.run_laws.specs.of_the_run.Worlds.{World, Place, Running, Stopped, Numbered, Line, links_of, place_at, place_in, place_site, script_of, happened, told_onto, disk_of, puts, arms, passed, stops_with, cause_of, acts, fresh, first_place, formatted}
+use Rattle.run_laws.specs.of_the_run.Worlds.{World, Place, Running, Stopped, Numbered, Line, links_of, place_at, place_in, place_site, script_of, happened, told_onto, disk_of, puts, arms, passed, stops_with, cause_of, acts, fresh, first_place, first_world, formatted}
 use Rattle.run_laws.specs.of_the_run.Runs.{boots_as, packet_record, run_in}
 use Rattle.run_laws.specs.of_the_run.Kept.{Kept}
 use Rattle.run_laws.proofs.of_the_run.Boots.{at_each, acts_cases}
@@ -210,7 +210,7 @@ as_told c n s d (CutOff x how) w here e g = still_event c n s (Stopped d) (Stopp
 packets_still : (xs : List Numbered) → Every Still (map packet_record xs)
 packets_still xs = every_map Still packet_record xs (λ x. tt)
 
-told_kept : (c : Config) → Kept c (CopiesAreTold c)
+pub told_kept : (c : Config) → Kept c (CopiesAreTold c)
 told_kept c = record {
   steps = λ n s e v w here own g. acts_told c n s v (step c s (links_of w s) v e) w here (step_disk c s (links_of w s) v e) g;
   receives = λ n x v w here sent g. acts_told c n x.packet.to v (step c x.packet.to (links_of (passed x.number w) x.packet.to) v (Receives x.packet)) (passed x.number w) here (step_disk c x.packet.to (links_of (passed x.number w) x.packet.to) v (Receives x.packet)) (λ s key p at. g s key p at);
@@ -238,5 +238,8 @@ first_copies c (t ∷ ts) s key p e =
       | false ↦ λ q f. first_copies c ts s key p f
     ]) refl e
 
+pub first_told : (c : Config) → CopiesAreTold c (first_world c)
+first_told c s key p here = first_copies c _ s key p here
+
 pub run_copies : (c : Config) (lines : List ScheduleLine) → CopiesAreTold c (run_in c lines)
-run_copies c lines = every_run c (CopiesAreTold c) (told_kept c) (λ s key p here. first_copies c _ s key p here) lines
+run_copies c lines = every_run c (CopiesAreTold c) (told_kept c) (first_told c) lines

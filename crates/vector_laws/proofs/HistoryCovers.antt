@@ -33,7 +33,7 @@ use Rattle.role_steps.proofs.Rows.{row_other, row_same}
 use Rattle.role_steps.proofs.Sending.{every_map}
 use Rattle.run_laws.specs.of_the_run.Disks.{Disk, Booted, Whole, CutOff, boots, cut_disk, is_on_disk}
 use Rattle.run_laws.specs.of_the_run.Steps.{step}
-use Rattle.run_laws.specs.of_the_run.Worlds.{World, Place, Running, Stopped, links_of, place_at, place_in, place_site, script_of, happened, disk_of, puts, arms, passed, stops_with, cause_of, acts, fresh, root_copy, formatted, first_place}
+use Rattle.run_laws.specs.of_the_run.Worlds.{World, Place, Running, Stopped, links_of, place_at, place_in, place_site, script_of, happened, disk_of, puts, arms, passed, stops_with, cause_of, acts, fresh, root_copy, formatted, first_place, first_world}
 use Rattle.run_laws.specs.of_the_run.Runs.{boots_as, packet_record, run_in}
 use Rattle.run_laws.specs.of_the_run.Kept.{Kept}
 use Rattle.run_laws.proofs.of_the_run.InsideSync.{Found, row_found}
@@ -286,7 +286,7 @@ as_counts n s d (Whole x None) w here e g = still_event n s (Stopped d) (Running
 as_counts n s d (Whole x (Some a)) w here e g = still_event n s (Stopped d) (Running (fresh x.label.boot x.copies)) (Shown (says.Up s x.label.boot) ∷ []) [] _ w here e (λ t. refl) (tt, tt) g
 as_counts n s d (CutOff x how) w here e g = still_event n s (Stopped d) (Stopped x) (Shown (says.Stopped s (cause_of how)) ∷ []) [] _ w here e (λ t. refl) (tt, tt) g
 
-counts_kept : (c : Config) → Kept c WhereLawful
+pub counts_kept : (c : Config) → Kept c WhereLawful
 counts_kept c = record {
   steps = λ n s e v w here own g. acts_counts n s v (step c s (links_of w s) v e) w here (step_disk c s (links_of w s) v e) g;
   receives = λ n x v w here sent g. acts_counts n x.packet.to v (step c x.packet.to (links_of (passed x.number w) x.packet.to) v (Receives x.packet)) (passed x.number w) here (step_disk c x.packet.to (links_of (passed x.number w) x.packet.to) v (Receives x.packet)) (λ h s p at. g h s p at);
@@ -321,18 +321,18 @@ first_counts c (t ∷ ts) s p e =
       | false ↦ λ f. first_counts c ts s p f
     ]) e
 
+pub first_counted : (c : Config) → WhereLawful (first_world c)
+first_counted c h s p here = first_counts c _ s p here
+
 run_counts : (c : Config) (lines : List ScheduleLine) → WhereLawful (run_in c lines)
-run_counts c lines = every_run c WhereLawful (counts_kept c) (λ h s p here. first_counts c _ s p here) lines
+run_counts c lines = every_run c WhereLawful (counts_kept c) (first_counted c) lines
 
 -- ---- the law ----
 
-held_by : (c : Config) (lines : List ScheduleLine) → InstancesAgree (past_of (run_in c lines).trace) → Lawful (past_of (run_in c lines).trace) → (s : ℕ) (file : FileId) (o : Option FileCopy) → Found (IsTrueCopy (past_of (run_in c lines).trace)) o → CountsOwn (past_of (run_in c lines).trace) s file o → IsHeldAt (past_of (run_in c lines).trace) s file o
-held_by c lines agree lawful s file None k h = h
-held_by c lines agree lawful s file (Some x) k h = (h.0, λ a there site. holds a there site k)
+pub held_by : (past : List Told) → Lawful past → (s : ℕ) (file : FileId) (o : Option FileCopy) → Found (IsTrueCopy past) o → CountsOwn past s file o → IsHeldAt past s file o
+held_by past lawful s file None k h = h
+held_by past lawful s file (Some x) k h = (h.0, λ a there site. holds a there site k)
   where
-    past : List Told
-    past = past_of (run_in c lines).trace
-
     history : List Version
     history = commits_of x.file past
 
@@ -359,6 +359,7 @@ held_by c lines agree lawful s file (Some x) k h = (h.0, λ a there site. holds 
 
 pub run_held : (c : Config) (lines : List ScheduleLine) → InstancesAgree (past_of (run_in c lines).trace) → StampsAreOnce (past_of (run_in c lines).trace) → NumbersFit (past_of (run_in c lines).trace) → CommitsAreHeld (run_in c lines)
 run_held c lines agree once fit s p file here small =
+    let past : List Told = past_of (run_in c lines).trace in
     let k : SitesAreKnown (run_in c lines) = run_sited c lines in
-    let lawful : Lawful (past_of (run_in c lines).trace) = record { numbered = run_numbered c lines agree; sited = k.commits; once = once; fit = fit } in
-    held_by c lines agree lawful s file (row copy_key (file_key file) (copies_on p)) (row_found (IsTrueCopy (past_of (run_in c lines).trace)) copy_key (file_key file) (copies_on p) (run_true_copies c lines agree once s p here)) (run_counts c lines lawful s p here file small)
+    let lawful : Lawful past = record { numbered = run_numbered c lines agree; sited = k.commits; once = once; fit = fit } in
+    held_by past lawful s file (row copy_key (file_key file) (copies_on p)) (row_found (IsTrueCopy past) copy_key (file_key file) (copies_on p) (run_true_copies c lines agree once s p here)) (run_counts c lines lawful s p here file small)

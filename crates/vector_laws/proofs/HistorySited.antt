@@ -28,7 +28,7 @@ use Rattle.run_laws.proofs.of_the_run.Boots.{at_each, acts_cases, every_weaker}
 use Rattle.run_laws.proofs.of_the_run.Events.{happened_keeps, puts_other}
 use Rattle.run_laws.proofs.of_the_run.Runs.{every_run}
 use Rattle.vector_laws.specs.Held.{IsOf, StillRecord, Still, OnDisk, copies_on}
-use Rattle.vector_laws.specs.Written.{past_of, InstancesAgree}
+use Rattle.vector_laws.specs.Written.{past_of, CommitsAreNumbered, InstancesAgree}
 use Rattle.vector_laws.specs.Facts.{CopyFact, onto}
 use Rattle.vector_laws.proofs.FactsRun.{past_onto, run_vectors, run_numbered}
 use Rattle.vector_laws.proofs.SiteDisks.{SiteDisk, step_disk}
@@ -170,21 +170,18 @@ run_sited c lines = every_run c SitesAreKnown (sited_kept c) (first_known c) lin
 pub run_vectors_tell : (c : Config) (lines : List ScheduleLine) → InstancesAgree (past_of (run_in c lines).trace) → StampsAreOnce (past_of (run_in c lines).trace) → (file : FileId) → VectorsTell file (commits_of file (past_of (run_in c lines).trace))
 run_vectors_tell c lines agree once file = let s : SitesAreKnown (run_in c lines) = run_sited c lines in vectors_tell file (past_of (run_in c lines).trace) (run_numbered c lines agree) s.commits (once file)
 
-true_copy : (c : Config) (lines : List ScheduleLine) → InstancesAgree (past_of (run_in c lines).trace) → StampsAreOnce (past_of (run_in c lines).trace) → (x : FileCopy) → CopyFact (past_of (run_in c lines).trace) x → IsTrueCopy (past_of (run_in c lines).trace) x
-true_copy c lines agree once x h = by_case (k.stands x.stamp x.vector h)
+-- a copy of a version that was told is one of the history
+pub true_copy : (past : List Told) → CommitsAreNumbered past → CommitsAreSited past → StampsAreOnce past → (x : FileCopy) → CopyFact past x → IsTrueCopy past x
+true_copy past numbered sited once x h = by_case (k.stands x.stamp x.vector h)
   where
-    past : List Told
-    past = past_of (run_in c lines).trace
-
-    s : SitesAreKnown (run_in c lines)
-    s = run_sited c lines
-
     k : Sound x.file past
-    k = sound x.file past (run_numbered c lines agree) s.commits (once x.file)
+    k = sound x.file past numbered sited (once x.file)
 
     by_case : Stands x.file (commits_of x.file past) x.stamp x.vector → IsTrueCopy past x
     by_case (inl f) = inl f
-    by_case (inr f) = inr (f.0, λ t. f.1 t ∙ vector-written x.file (commits_of x.file past) k.counted (all_own x.file past (run_numbered c lines agree) s.commits) x.stamp t)
+    by_case (inr f) = inr (f.0, λ t. f.1 t ∙ vector-written x.file (commits_of x.file past) k.counted (all_own x.file past numbered sited) x.stamp t)
 
 pub run_true_copies : (c : Config) (lines : List ScheduleLine) → InstancesAgree (past_of (run_in c lines).trace) → StampsAreOnce (past_of (run_in c lines).trace) → CopiesAreTrue (run_in c lines)
-run_true_copies c lines agree once s p here = every_weaker (CopyFact (past_of (run_in c lines).trace)) (IsTrueCopy (past_of (run_in c lines).trace)) (copies_on p) (true_copy c lines agree once) (run_vectors c lines agree s p here)
+run_true_copies c lines agree once s p here =
+    let past : List Told = past_of (run_in c lines).trace in
+    every_weaker (CopyFact past) (IsTrueCopy past) (copies_on p) (true_copy past (run_numbered c lines agree) (run_sited c lines).commits once) (run_vectors c lines agree s p here)

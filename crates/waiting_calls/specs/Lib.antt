@@ -1,2 +1,4 @@
 pub mod Called
+pub mod Numbered
 pub mod Rows
+pub mod Steps

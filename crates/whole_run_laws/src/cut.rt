@@ -12,9 +12,9 @@ ghost use Rattle.row_laws.specs.Voids.{LinesFit};
 ghost use Rattle.rest_laws.specs.MendStepCounting.{IsCountedRow};
 
 /// In the run of every schedule whose lines are in range for the cluster a site is stopped within a disk call only where the call can be
-/// the one after the last that its disk lets pass: no more calls were made than pass, as the lawful trace counts them, by the pages of
-/// versions, the gates of files and the boots. So it is of the lines that the reader of schedules accepts, in the cluster that their header
-/// makes.
+/// the one after the last that its disk lets pass: no more calls were made than pass, as the lawful trace counts them, by the pages and
+/// tables of versions, the gates of files and the boots. So it is of the lines that the reader of schedules accepts, in the cluster that
+/// their header makes.
 pub fn cut_calls_are_counted()
     ensures fit { (c : Config) (lines : List ScheduleLine) → LinesFit c lines → PacksAreOfSites c → length c.packs ≤ 4 → EachRecord (IsCountedRow c lines) (trace_of (run_in c lines)) }
     ensures read { (lines : List ScheduleLine) → AreInOrder lines → EachRecord (IsCountedRow (config_of lines) lines) (trace_of (run lines)) }

@@ -1,15 +1,18 @@
 -- Rows of tables and places of sites, after one was put or taken out.
-use Rattle.std.proofs.Common.{◌≡◌, ◌≢◌, ℕ, zero, suc, ◌+◌, ◌-◌, ◌<◌, ◌≤◌, ◌==◌, List, [], ◌∷◌, length, set, get_or, Option, Some, None, Bool, true, false, nat_eq, refl, sym, ap, subst, ◌∙◌, arith}
+use Rattle.std.proofs.Common.{◌≡◌, ◌≢◌, ℕ, zero, suc, ◌+◌, ◌-◌, ◌<◌, ◌≤◌, ◌==◌, min, List, [], ◌∷◌, length, set, get_or, Option, Some, None, Bool, true, false, nat_eq, refl, sym, ap, subst, ◌∙◌, arith}
 use Rattle.std.specs.Prelude.{slice_get}
+use Rattle.locus_ids.specs.Sizes.{sites_max}
 use Rattle.std.proofs.lemmas.Bool.Decides.{nat_tests}
 use Rattle.std.proofs.lemmas.List.{get_or-set_same, length-set}
 use Rattle.std.proofs.lemmas.Option.{slice_get_past, slice_get-get_or}
 use Rattle.role_steps.proofs.of_plain_facts.Numbers.{apart_test}
+use Rattle.role_steps.proofs.Numbers.{site_found}
 use Rattle.keyed_tables.specs.Rising.{Above, Rising}
 use Rattle.role_steps.specs.Tables.{row, with_row, without_row}
 use Rattle.role_steps.proofs.Rows.{passed_row, found_row, row_other, row_same}
+use Rattle.the_run.specs.Worlds.{boot_of}
 use Rattle.site_place.specs.Places.{PlaceState}
-use Rattle.world.specs.States.{state_at}
+use Rattle.world.specs.Reached.{state_at, place_of, boot_at, boots_of, AreOf}
 
 pub split : {P : Type 0} (a b : ℕ) → (a ≡ b → P) → (a ≢ b → P) → P
 split {P = P} a b f g = elim (nat_eq a b) as (λ t. nat_eq a b ≡ t → P) [ true ↦ λ e. f (grind (arith, nat_tests)) | false ↦ λ e. g (grind (arith, nat_tests)) ] refl
@@ -76,6 +79,13 @@ state_read places s at p e l is = state_is places s at e ∙ (slice_get-get_or p
 
 pub state_none : (places : List PlaceState) (s at : ℕ) → s ≡ at + 1 → length places ≤ at → state_at places s ≡ None
 state_none places s at e l = state_is places s at e ∙ slice_get_past places at l
+
+-- the boots of the sites that there are
+pub boots_end : (places : List PlaceState) (sites : ℕ) → sites ≡ min (length places) sites_max → AreOf sites (boots_of places)
+boots_end places sites e = record {
+  few = omega (arith, e);
+  none = λ s l m. site_found (boot_at places) s (omega (arith, l)) m ∙ ap (λ o. boot_of (place_of o)) (state_none places s (s - 1) (omega (arith, l)) (omega (arith, e, l, m)));
+}
 
 pub state_put : (places : List PlaceState) (s at : ℕ) (p : PlaceState) → s ≡ at + 1 → at < length places → state_at (set places at p) s ≡ Some p
 state_put places s at p e l =

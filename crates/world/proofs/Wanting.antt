@@ -1,5 +1,5 @@
 -- Which fault may come where each event finds what it needs.
-use Rattle.std.proofs.Common.{◌≡◌, ◌≢◌, ◌≤◌, ◌<◌, ◌+◌, ◌-◌, ℕ, zero, suc, nat_lt, Bool, true, false, List, [], ◌∷◌, drop, Option, None, Some, refl, sym, ap, subst, ◌∙◌, arith}
+use Rattle.std.proofs.Common.{◌≡◌, ◌≤◌, ◌<◌, ◌+◌, ◌-◌, ℕ, suc, nat_lt, Bool, true, false, List, ◌∷◌, drop, Option, None, Some, refl, sym, ap, subst, ◌∙◌}
 use Rattle.std.specs.Prelude.{Result, Ok, Err, IfErr, IsErr, IsErrAnd}
 use Rattle.std.specs.Option.{is_some, IfSome}
 use Rattle.std.specs.List.{AllByRecursion}
@@ -14,13 +14,13 @@ use Rattle.wire_messages.specs.declared.packet.Packet.{Packet}
 use Rattle.role_steps.specs.Views.{DiskWrite, Event, Outcome, Receives, SiteView, Ticks, all_sites}
 use Rattle.role_steps.proofs.Numbers.{next_site}
 use Rattle.the_run.specs.Disks.{Armed, write_calls}
-use Rattle.the_run.specs.Runs.{arrives, delivers, is_stopped, next_packet, packet_at, ticks_to}
+use Rattle.the_run.specs.Runs.{arrives, is_stopped, next_packet, packet_at}
 use Rattle.the_run.specs.Steps.{step}
-use Rattle.the_run.specs.Worlds.{World, Limit, Place, Running, Stopped, Numbered, happens, links_of, place_at}
+use Rattle.the_run.specs.Worlds.{World, Place, Running, Stopped, Numbered, happens, links_of, place_at}
 use Rattle.site_place.specs.of_site_packs.Packs.{groups_at}
 use Rattle.site_place.specs.of_site_node.Fitting.{CanAct}
 use Rattle.site_place.specs.Fitting.{CanHappenAt, CanHappenIn}
-use Rattle.site_place.specs.Places.{Gives, Happening, PlaceState, acts_in, cut_in, disk_boot, happens_at as happens_place, happens_in, runs_in, writes_armed_in, writes_in}
+use Rattle.site_place.specs.Places.{Gives, Happening, PlaceState, acts_in, cut_in, disk_boot, happens_at as happens_place, happens_in, runs_in, writes_in}
 use Rattle.site_place.specs.declared.fault.PlaceFault.{PlaceFault}
 use Rattle.site_place.specs.declared.fault.PlaceFault.TheVariants as place
 use Rattle.site_place.specs.declared.fault.StartFault.{StartFault}
@@ -29,7 +29,7 @@ use Rattle.run_book.specs.Ledgers.{limit_in}
 use Rattle.run_book.specs.declared.fault.BookFault.{BookFault}
 use Rattle.run_book.specs.declared.fault.BookFault.TheVariants as book
 use Rattle.run_book.specs.declared.fault.Passed.{Passed}
-use Rattle.complete_laws.specs.MomentEvents.{WhereDelivered, WhereNext, WherePacket, WhereTicks}
+use Rattle.complete_laws.specs.MomentEvents.{WhereDelivered, WhereNext, WhereTicks}
 use Rattle.complete_laws.specs.Lines.{CanBoot, CanDo, CanHappen}
 use Rattle.world.specs.Faults.{WantsMemory, WantsMemoryWithin, fault_of_book, fault_of_place, fault_of_start}
 use Rattle.world.specs.Listed.{next_number}

@@ -1,4 +1,4 @@
-ghost use Rattle.std.specs.Prelude.{◌≡◌, not, false, None, Err, OnOk, IfErr};
+ghost use Rattle.std.specs.Prelude.{◌≡◌, ℕ, not, false, None, Err, OnOk, IfErr};
 ghost use Rattle.locus_ids.specs.declared.config.Config.{Config};
 ghost use Rattle.role_steps.specs.Views.{Calls};
 ghost use Rattle.the_run.specs.Worlds.{World as RunWorld, place_at, is_cut, arms, happens};
@@ -117,6 +117,66 @@ impl World {
         Ok(())
     }
 
+    /// Does a line that asks no call. The line stays with the caller, so that no arm has it to drop.
+    fn act_uncalled(&mut self, number: u32, line: &Line) -> Result<(), WorldFault>
+        requires { (site process : ℕ) (call : Call) → line.now ≡ Line.Call site process call → ⊥ }
+        ensures step { OnOk result (FollowsWithin (λ c w. act c number line.now w) (state_of self.old) (state_of self.new)) }
+        ensures fault { IfErr result (MayCome line.now) }
+        ensures fit { IfErr result (WantsMemoryWithin (λ c w. CanDo c number line.now w) (state_of self.old)) }
+    {
+        match line {
+            Line::Call { .. } => unreachable!(),
+            Line::Deliver { packet } => self.deliver(number, *packet),
+            Line::Lose { packet } => {
+                self.lose(number, *packet)?;
+                Ok(())
+            }
+            Line::Tick { site } => self.stir(number, *site, SiteEvent::Tick),
+            Line::Down { one, other } => {
+                self.down(number, *one, *other)?;
+                Ok(())
+            }
+            Line::Up { one, other } => {
+                self.up(number, *one, *other)?;
+                Ok(())
+            }
+            Line::Part { site } => self.leave(number, *site, SiteEvent::Part),
+            Line::Merge { site } => self.stir(number, *site, SiteEvent::Merge),
+            Line::GiveUp { site } => self.leave(number, *site, SiteEvent::GiveUp),
+            Line::Stop { site } => {
+                self.stop(number, *site)?;
+                Ok(())
+            }
+            Line::ArmStop { site, calls, leave } => {
+                let how = CallCut::Stops { leave: *leave };
+                self.arm(DiskScript {
+                    site: *site,
+                    left: *calls,
+                    how,
+                });
+                Ok(())
+            }
+            Line::ArmFail { site, calls } => {
+                let how = CallCut::Fails;
+                self.arm(DiskScript {
+                    site: *site,
+                    left: *calls,
+                    how,
+                });
+                Ok(())
+            }
+            Line::Boot { site } => {
+                self.boot(number, *site)?;
+                Ok(())
+            }
+            Line::Settle { most } => self.settle(number, *most),
+            Line::Pending => {
+                self.list_pending(number)?;
+                Ok(())
+            }
+        }
+    }
+
     /// Does a line, where no limit was passed.
     pub(crate) fn act(&mut self, number: u32, line: Line) -> Result<(), WorldFault>
         ensures step { OnOk result (FollowsWithin (λ c w. act c number line w) (state_of self.old) (state_of self.new)) }
@@ -129,54 +189,7 @@ impl World {
                 process,
                 call,
             } => self.call(number, site, process, call),
-            Line::Deliver { packet } => self.deliver(number, packet),
-            Line::Lose { packet } => {
-                self.lose(number, packet)?;
-                Ok(())
-            }
-            Line::Tick { site } => self.stir(number, site, SiteEvent::Tick),
-            Line::Down { one, other } => {
-                self.down(number, one, other)?;
-                Ok(())
-            }
-            Line::Up { one, other } => {
-                self.up(number, one, other)?;
-                Ok(())
-            }
-            Line::Part { site } => self.leave(number, site, SiteEvent::Part),
-            Line::Merge { site } => self.stir(number, site, SiteEvent::Merge),
-            Line::GiveUp { site } => self.leave(number, site, SiteEvent::GiveUp),
-            Line::Stop { site } => {
-                self.stop(number, site)?;
-                Ok(())
-            }
-            Line::ArmStop { site, calls, leave } => {
-                let how = CallCut::Stops { leave };
-                self.arm(DiskScript {
-                    site,
-                    left: calls,
-                    how,
-                });
-                Ok(())
-            }
-            Line::ArmFail { site, calls } => {
-                let how = CallCut::Fails;
-                self.arm(DiskScript {
-                    site,
-                    left: calls,
-                    how,
-                });
-                Ok(())
-            }
-            Line::Boot { site } => {
-                self.boot(number, site)?;
-                Ok(())
-            }
-            Line::Settle { most } => self.settle(number, most),
-            Line::Pending => {
-                self.list_pending(number)?;
-                Ok(())
-            }
+            uncalled => self.act_uncalled(number, &uncalled),
         }
     }
 }

@@ -83,12 +83,11 @@ impl World {
         if self.book.passed().is_some() {
             return None;
         }
-        let boots = self.boots();
-        let up = self.cuts.up_table(&boots);
-        self.book.next(&up)
+        self.cuts.next(&self.places, &self.book)
     }
 
     /// The site that the packet names runs and doesn't drop it.
+    #[inline(always)]
     fn is_taken(&self, packet: &Packet) -> bool
         ensures { result ≡ is_taken packet.now (state_at self.now.places.items packet.now.to) }
     {
@@ -99,6 +98,7 @@ impl World {
     }
 
     /// The packet comes to the site that it names.
+    #[inline(always)]
     fn receive(&mut self, line: u32, packet: Packet) -> Result<(), WorldFault>
         ensures step { OnOk result (Follows (λ c w. happens c line packet.to (Receives packet) w) (state_of self.old) (state_of self.new)) }
         ensures fit { IfErr result (WantsMemory (λ c w. CanHappen c packet.to (Receives packet) w) (state_of self.old)) }
@@ -109,6 +109,7 @@ impl World {
     }
 
     /// The packet has come to the site that it names, where that runs and doesn't drop it.
+    #[inline(always)]
     fn hand_over(&mut self, line: u32, packet: Packet) -> Result<(), WorldFault>
         ensures step { OnOk result (FollowsWithin (λ c w. arrives_at c line packet (place_at w packet.to) w) (state_of self.old) (state_of self.new)) }
         ensures fit { IfErr result (WantsMemory (λ c w. CanHappen c packet.to (Receives packet) w) (state_of self.old)) }

@@ -2,7 +2,8 @@ ghost use Rattle.std.specs.Prelude.{◌≡◌, ◌≤◌, ◌==◌, ◌&&◌, no
 ghost use Rattle.the_run.specs.Worlds.{place_at, boot_of, is_up, happens, voids, says_only};
 ghost use Rattle.the_run.specs.Runs.{is_stopped, is_in_no_epoch, is_busy, unless_void};
 ghost use Rattle.site_place.specs.Places.{event_of};
-ghost use Rattle.world.specs.States.{state_of, boot_at, boots_of};
+ghost use Rattle.world.specs.States.{state_of};
+ghost use Rattle.world.specs.Reached.{boot_at, boots_of};
 ghost use Rattle.world.specs.Shown.{Follows, Answers};
 ghost use Rattle.world.specs.Faults.{WantsMemory};
 ghost use Rattle.complete_laws.specs.Lines.{CanHappen};
@@ -17,7 +18,7 @@ use trace_book::Record;
 use wire_messages::Outbox;
 
 /// The boot number of a site, where it is there and runs; else 0.
-fn boot_at(places: &[SitePlace], site: u8) -> u32
+pub fn boot_at(places: &[SitePlace], site: u8) -> u32
     requires { 1 ≤ site }
     ensures { result ≡ boot_at places.now site }
 {
@@ -28,7 +29,7 @@ fn boot_at(places: &[SitePlace], site: u8) -> u32
 }
 
 /// The boot number of each site that runs, site 1 first, with 0 for one that doesn't.
-fn boots_of(places: &[SitePlace]) -> [u32; SITES]
+pub fn boots_of(places: &[SitePlace]) -> [u32; SITES]
     ensures { result ≡ boots_of places.now }
 {
     let mut boots = [0; SITES];
@@ -57,13 +58,6 @@ fn told_alone(alloc: Global, what: Record) -> Result<Dispatch, NoMemory>
 }
 
 impl World {
-    /// The boot number of each site that runs, site 1 first, with 0 for one that doesn't.
-    pub(crate) fn boots(&self) -> [u32; SITES]
-        ensures { result ≡ boots_of self.now.places.items }
-    {
-        boots_of(&self.places)
-    }
-
     /// The boot number of a site that runs, else 0.
     fn boot_of(&self, site: SiteId) -> u32
         ensures { Answers (λ w. boot_of (place_at w site)) (state_of self.now) result }
@@ -130,7 +124,9 @@ impl World {
         self.tell(line, Record::Void)
     }
 
-    /// An event of a site, where it runs and no limit was passed.
+    /// An event of a site, where it runs and no limit was passed. Where it is called the kind of event is known, so that nothing of
+    /// it has to be moved or asked for again.
+    #[inline(always)]
     pub(crate) fn happen(
         &mut self,
         line: u32,
@@ -154,8 +150,7 @@ impl World {
             drop(event);
             return Ok(());
         }
-        let boots = self.boots();
-        let links = self.cuts.links_of(&boots, site);
+        let links = self.cuts.links_of(&self.places, site);
         let out = self.places[at].happen(&links, event)?;
         self.note(line, &out)?;
         Ok(())

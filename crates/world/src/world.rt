@@ -1,4 +1,4 @@
-ghost use Rattle.std.specs.Prelude.{◌≡◌, ◌≤◌, ℕ, ◌+◌, List, [], ◌∷◌, ◌++◌, length, IfOk, IfErr, OnOk, min};
+ghost use Rattle.std.specs.Prelude.{◌≡◌, ◌≤◌, ◌<◌, ℕ, ◌+◌, List, [], ◌∷◌, ◌++◌, length, IfOk, IfErr, OnOk, min};
 ghost use Rattle.locus_ids.specs.Sizes.{sites_max};
 ghost use Rattle.locus_ids.specs.declared.config.Config.{Config};
 ghost use Rattle.schedule_lines.specs.declared.line.ScheduleLine.{ScheduleLine};
@@ -8,7 +8,7 @@ ghost use Rattle.the_run.specs.Runs.{act, run_in, entries_of_run};
 ghost use Rattle.the_run.specs.Commands.{counts_onto, no_counts};
 ghost use Rattle.run_book.specs.Writings.{written_of, counts_in};
 ghost use Rattle.run_book.specs.Ledgers.{limit_in, books};
-ghost use Rattle.world.specs.States.{state_of, AreFirst};
+ghost use Rattle.world.specs.States.{state_of, first_state, AreFirst};
 ghost use Rattle.world.specs.Shown.{Taken, nothing_taken, all_taken, Shows, Follows};
 ghost use Rattle.std.specs.List.{AllByRecursion};
 ghost use Rattle.packet_order.specs.Counts.{FitsIfCounted};
@@ -29,7 +29,6 @@ use site_place::SitePlace;
 use std::alloc::Global;
 
 /// The world of a run.
-#[derive(Drop)]
 pub struct World {
     pub(crate) alloc: Global,
     pub(crate) config: Config,
@@ -38,16 +37,58 @@ pub struct World {
     pub(crate) book: RunBook,
 }
 
+impl Drop for World {
+    /// Taken apart in one place: where a world is dropped, the prover sees one call.
+    fn drop(self) {
+        let World {
+            alloc: _,
+            config: _,
+            places: _,
+            cuts: _,
+            book: _,
+        } = self;
+    }
+}
+
+/// One more site of a cluster, freshly formatted and in its first boot.
+fn add_place(
+    alloc: Global,
+    config: &Config,
+    at: usize,
+    places: &mut Vec<SitePlace>,
+) -> Result<(), NoMemory>
+    requires { at < sites_max }
+    ensures { OnOk result (places.new.items ≡ places.old.items ++ first_state config.now (at + 1) ∷ []) }
+{
+    let place = SitePlace::new(alloc, config, site_at(at))?;
+    places.push(place)?;
+    Ok(())
+}
+
+/// So many sites of a cluster, each freshly formatted and in its first boot.
+fn add_places(
+    alloc: Global,
+    config: &Config,
+    count: usize,
+    places: &mut Vec<SitePlace>,
+) -> Result<(), NoMemory>
+    requires few { count ≤ sites_max }
+    requires none { places.old.items ≡ [] }
+    ensures { OnOk result (AreFirst config.now count places.new.items) }
+{
+    for at in 0..count {
+        add_place(alloc, config, at, places)?;
+    }
+    Ok(())
+}
+
 /// The sites of a cluster, each freshly formatted and in its first boot.
 fn first_places(alloc: Global, config: &Config) -> Result<Vec<SitePlace>, NoMemory>
     ensures { IfOk result (λ made. AreFirst config.now (min config.now.sites sites_max) made.items) }
 {
     let mut places = Vec::new(alloc);
     let count = usize::from(config.sites.min(SITES as u8));
-    for at in 0..count {
-        let place = SitePlace::new(alloc, config, site_at(at))?;
-        places.push(place)?;
-    }
+    add_places(alloc, config, count, &mut places)?;
     Ok(places)
 }
 
@@ -133,7 +174,9 @@ impl World {
         ensures fault { IfErr result (MayCome line) }
         ensures complete { (c : Config) (lines : List ScheduleLine) (taken : Taken) → number ≡ length lines + 1 → LinesFit c (lines ++ Event line ∷ []) → PacksAreOfSites c → length c.packs ≤ 4 → Shows c taken (run_in c lines) (state_of self.old) → IfErr result (λ fault. fault ≡ WorldFault.NoMemory) }
     {
+        // A line that isn't done is dropped by a call, so that no proof here has a case for each kind of line.
         if self.book.passed().is_some() {
+            drop(line);
             return Ok(());
         }
         self.act(number, line)?;

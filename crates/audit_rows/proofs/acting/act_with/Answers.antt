@@ -1,10 +1,8 @@
-use Rattle.std.proofs.Common.{cond, None, ap, sym, ◌∙◌}
-use Rattle.trace_book.specs.declared.operation.Op.{Op}
+use Rattle.std.proofs.Common.{ap, sym, ◌∙◌}
 use Rattle.call_rules.specs.declared.want.Want.TheVariants as want
 use Rattle.tree_model.specs.declared.instance.Granted.{Granted}
 use Rattle.promises.specs.Past.{acts}
 use Rattle.promises.specs.Rows.{is_asked}
-use Rattle.audit_rows.specs.Acts.{actor_of}
 use Rattle.audit_rows.proofs.Acts.{act_few, actor_step, judged, next, not_asked, not_open, not_ready, not_there, open_at}
 use Rattle.audit_rows.proofs.acting.act_with.Goals as goal
 
@@ -20,8 +18,8 @@ returns-then-not-is_ready c =
     (open_at c.args.told.now c.args.at.epoch c.args.at.instance c.in-Some.t.now c.in-Some-instance_row.x.now c.requires.each c.in-Some.ensures c.in-Some-instance_row.ensures.one c.in-Some-instance_row.ensures.found)
     c.if-not-is_ready.ensures
 
-pub asked_by-requires-clause-one : goal.asked_by-requires-clause-one
-asked_by-requires-clause-one c =
+pub asked_for-requires-clause-one : goal.asked_for-requires-clause-one
+asked_for-requires-clause-one c =
     act_few c.args.told.now c.args.at.epoch c.args.at.instance c.args.at.n
     (open_at c.args.told.now c.args.at.epoch c.args.at.instance c.in-Some.t.now c.in-Some-instance_row.x.now c.requires.each c.in-Some.ensures c.in-Some-instance_row.ensures.one c.in-Some-instance_row.ensures.found)
     c.requires.once c.id.result c.id.ensures
@@ -30,14 +28,12 @@ pub returns-in_default-2 : goal.returns-in_default-2
 returns-in_default-2 c =
     not_asked c.args.config.now c.args.told.now c.args.at.epoch c.args.at.instance c.args.at.n c.args.op.now
     (open_at c.args.told.now c.args.at.epoch c.args.at.instance c.in-Some.t.now c.in-Some-instance_row.x.now c.requires.each c.in-Some.ensures c.in-Some-instance_row.ensures.one c.in-Some-instance_row.ensures.found)
-    (sym c.in_default-2.is ∙ c.in_ok-actor.ensures c.in-Some.t.now (sym c.id.ensures)
-    ∙ ap (λ (o : Op). cond (is_asked c.args.config.now c.args.told.now c.in-Some.t.now (acts c.in-Some.t.now.id c.in-Some-instance_row.x.now c.args.at.n) (want.Do c.args.at.instance o)) (actor_of c.args.told.now c.in-Some.t.now.id c.in-Some-instance_row.x.now c.args.at.n) None) c.in_ok-copy.ensures)
+    (sym c.in_default-2.is ∙ c.in_ok-actor.ensures c.in-Some.t.now (sym c.id.ensures))
 
 pub returns : goal.returns
 returns c =
     let it = open_at c.args.told.now c.args.at.epoch c.args.at.instance c.in-Some.t.now c.in-Some-instance_row.x.now c.requires.each c.in-Some.ensures c.in-Some-instance_row.ensures.one c.in-Some-instance_row.ensures.found in
-    let asked = sym c.in-Some-2.is ∙ c.in_ok-actor.ensures c.in-Some.t.now (sym c.id.ensures)
-    ∙ ap (λ (o : Op). cond (is_asked c.args.config.now c.args.told.now c.in-Some.t.now (acts c.in-Some.t.now.id c.in-Some-instance_row.x.now c.args.at.n) (want.Do c.args.at.instance o)) (actor_of c.args.told.now c.in-Some.t.now.id c.in-Some-instance_row.x.now c.args.at.n) None) c.in_ok-copy.ensures in
+    let asked = sym c.in-Some-2.is ∙ c.in_ok-actor.ensures c.in-Some.t.now (sym c.id.ensures) in
     record {
       stands = it;
       next = next c.args.config.now c.args.told.now c.args.at.epoch c.args.at.instance c.args.at.n c.args.op.now it c.if-not-is_ready.ensures;

@@ -1,4 +1,5 @@
-use Rattle.promise_laws.proofs.MomentsHold.{after_events, moments_end}
+use Rattle.promise_laws.proofs.MomentsHold.{after_events}
+use Rattle.promise_laws.proofs.RoundMoments.{moments_end}
 use Rattle.promise_laws.proofs.moments.events_leave_all_so.Goals as goal
 
 pub returns : goal.returns

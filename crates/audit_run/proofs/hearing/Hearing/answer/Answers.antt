@@ -9,11 +9,11 @@ returns-then-is_none-clause-short c = λ all lines k. (refl, unanswered all line
 pub returns-in-Some-clause-answered : goal.returns-in-Some-clause-answered
 returns-in-Some-clause-answered c = λ all lines k.
     let a = some_by c.args.self.now.audit c.is_none.result c.is_none.ensures c.if-is_none.false in
-    let P : Option ℕ → Type 0 = λ o. IsAnswered all (answer_by c.args.self.now.records o) in
+    let P : Option ℕ → Type 0 = λ o. IsAnswered all (answer_by c.args.self.now.tally.records o) in
     subst P c.in-Some.is (answered all lines c.args.self.now a.0 k a.1)
 
 pub returns-in-None-clause-answered : goal.returns-in-None-clause-answered
 returns-in-None-clause-answered c = λ all lines k.
     let a = some_by c.args.self.now.audit c.is_none.result c.is_none.ensures c.if-is_none.false in
-    let P : Option ℕ → Type 0 = λ o. IsAnswered all (answer_by c.args.self.now.records o) in
+    let P : Option ℕ → Type 0 = λ o. IsAnswered all (answer_by c.args.self.now.tally.records o) in
     subst P c.in-None.is (answered all lines c.args.self.now a.0 k a.1)

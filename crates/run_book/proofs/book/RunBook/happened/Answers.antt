@@ -2,9 +2,12 @@ use Rattle.std.proofs.Common.{◌≡◌, ℕ, List, length, sym, ap, ◌∙◌}
 use Rattle.wire_messages.specs.Outboxes.{Outgoing}
 use Rattle.packet_order.specs.Orders.{together}
 use Rattle.run_book.specs.Ledgers.{Ledger, limit_of_sizes, lines_text, with_event_unless}
-use Rattle.run_book.proofs.Kept.{books_within}
+use Rattle.run_book.proofs.Kept.{books_within, silent_books}
 use Rattle.run_book.proofs.PartLetters.{as_many}
 use Rattle.run_book.proofs.book.RunBook.happened.Goals as goal
+
+pub returns-then-is_silent-clause-ok : goal.returns-then-is_silent-clause-ok
+returns-then-is_silent-clause-ok c = silent_books c.args.line c.args.out.now c.args.self.now c.enter_nothing.new.self c.passed.result c.passed.ensures (sym c.is_some.ensures ∙ c.if-is_some.false) (c.is_silent.ensures c.if-is_silent.true) (c.enter_nothing.ensures c.args.line)
 
 pub returns-clause-ok : goal.returns-clause-ok
 returns-clause-ok c =

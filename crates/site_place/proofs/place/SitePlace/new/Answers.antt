@@ -26,7 +26,7 @@ format-requires c = long_enough c.args.config.now c.args.me c.length.result (see
 -- all calls pass where nothing is armed
 pub unreachable-requires : goal.unreachable-requires
 unreachable-requires c =
-    let n = 2 + 67 * length (groups_at c.args.config.now c.args.me) in
+    let n = 2 + 131 * length (groups_at c.args.config.now c.args.me) in
     let old = passing_of c.in_ok-disk.disk.disk.script in
     let now = passing_of c.format.new.disk.disk.script in
     not_failed n old now (ap (λ (k : Script). passing_of k) c.in_ok-disk.ensures.script) (format_failed c.format.result n old now c.in-Err-Disk.field-0 c.in-Err-Disk.field-0-is c.in-Err-Disk.ensures.tells)
@@ -39,7 +39,7 @@ invariant_of-result c =
     let old = c.in_ok-disk.disk.disk in
     let now = c.format.new.disk.disk in
     let image = seen now in
-    let told = subst (λ (k : Passing). TellsMany {T = Unit {0}} {E = DiskFault} (2 + 67 * length (groups_at config me)) k (passing_of now.script) (Ok tt)) (ap (λ (s : Script). passing_of s) c.in_ok-disk.ensures.script) made.tells in
+    let told = subst (λ (k : Passing). TellsMany {T = Unit {0}} {E = DiskFault} (2 + 131 * length (groups_at config me)) k (passing_of now.script) (Ok tt)) (ap (λ (s : Script). passing_of s) c.in_ok-disk.ensures.script) made.tells in
     let long : disk_length config me ≤ length image = subst (λ (k : ℕ). disk_length config me ≤ k) (sym made.outside.long) (long_enough config me c.length.result (seen old) c.length.ensures c.in_ok-disk.ensures.read) in
     let n = c.fresh-node.result in
     let fresh_is = c.fresh-node.ensures in

@@ -3,7 +3,7 @@ use Rattle.role_steps.specs.declared.users.WaitingCall.{WaitingCall}
 use Rattle.waiting_calls.specs.Called.{called}
 use Rattle.using_site.proofs.Again.{row_was, stands}
 use Rattle.using_site.proofs.Awaited.{again_gives}
-use Rattle.using_site.proofs.Descriptors.{on_ok}
+use Rattle.waiting_calls.proofs.DescriptorRows.{on_ok}
 use Rattle.using_site.proofs.users.UsingSite.look_again.Goals as goal
 
 pub returns-in_ok-send_request-in-Look : goal.returns-in_ok-send_request-in-Look

@@ -1,6 +1,6 @@
 use Rattle.std.proofs.Common.{sym}
 use Rattle.waiting_calls.specs.Called.{called}
-use Rattle.using_site.proofs.Descriptors.{on_ok}
+use Rattle.waiting_calls.proofs.DescriptorRows.{on_ok}
 use Rattle.using_site.proofs.Replies.{on_ok3}
 use Rattle.using_site.proofs.Hearing.{Taking, heard_by, take_asks, take_replies, take_stays}
 use Rattle.using_site.proofs.users.UsingSite.take.Goals as goal

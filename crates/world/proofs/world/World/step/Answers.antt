@@ -4,8 +4,6 @@ use Rattle.world.specs.States.{state_of}
 use Rattle.world.proofs.LineLaws.{step_over, step_within, if_given}
 use Rattle.world.proofs.Versions.{holds_after}
 use Rattle.std.proofs.Common.{◌≡◌}
-use Rattle.std.specs.Prelude.{IfErr}
-use Rattle.world.specs.Faults.{WantsMemoryWithin}
 use Rattle.world.proofs.Wanting.{given_on, not_over}
 use Rattle.world.proofs.Versions.{can_do_line}
 use Rattle.world.specs.declared.fault.WorldFault.TheVariants.{NoMemory}

@@ -1,0 +1,2 @@
+mod Codes
+pub use Rattle.schedule_run.proofs as of_schedule_run

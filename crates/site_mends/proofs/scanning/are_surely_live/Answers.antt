@@ -1,6 +1,0 @@
-use Rattle.site_mends.proofs.Live.{behind_live}
-use Rattle.site_mends.proofs.scanning.are_surely_live.Goals as goal
-
-pub loop-behind-preserved : goal.loop-behind-preserved
-loop-behind-preserved c = λ l.
-    c.loop-behind.invariant (behind_live c.loop-behind.rest.now c.in-Some.behind.now c.in-Some.ensures l)

@@ -1,0 +1,2 @@
+pub mod DescriptorRows
+pub mod Free
