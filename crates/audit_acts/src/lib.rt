@@ -8,5 +8,6 @@ mod keeping;
 mod mending;
 
 pub use adding::{added_for, free_pages, is_spent, parents_of};
+pub use audit_tree;
 pub use keeping::kept_in;
 pub use mending::{mended, wants_rescue};

@@ -11,6 +11,7 @@ mod steps;
 
 pub use actors::{actor, ender};
 pub use asking::{asks, asks_after};
+pub use audit_row_parts;
 pub use laws::asked_by_members;
 pub use meant::{look_meant, reply_meant};
 pub use standing::{is_home, is_of_last, may_accept};

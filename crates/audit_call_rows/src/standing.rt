@@ -5,8 +5,8 @@ ghost use Rattle.tree_model.specs.Epochs.{is_in};
 ghost use Rattle.audit_call_rows.specs.Asked.{is_home_at};
 
 use audit_calls::{CallRow, Calls};
+use audit_row_parts::audit_sites::{SiteRow, SiteRows};
 use audit_row_parts::{is_in, is_next_call};
-use audit_sites::{SiteRow, SiteRows};
 use locus_ids::{CallId, EpochId};
 
 /// A running site accepts a call of a process that waits for nothing.

@@ -7,8 +7,8 @@ use Rattle.std.proofs.lemmas.List.Folds.{list_all-append}
 use Rattle.std.proofs.lemmas.Bool.Decides.{nat_tests}
 use Rattle.locus_ids.specs.declared.ids.FileId.{FileId}
 use Rattle.commit_graph.specs.Versions.{is_stamp_below, same_file, same_stamp}
-use Rattle.promises.specs.Past.{Copy}
-use Rattle.promises.specs.After.{is_copy_below, with_known}
+use Rattle.past_laws.specs.of_promises.Past.{Copy}
+use Rattle.past_laws.specs.of_promises.After.{is_copy_below, with_known}
 use Rattle.past_laws.specs.Agreement.{ascends}
 use Rattle.past_laws.proofs.Names.{false_true, both, both_parts, file_eq, file_own}
 use Rattle.past_laws.proofs.TreesLists.{all_more}

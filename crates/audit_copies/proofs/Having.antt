@@ -4,8 +4,8 @@ use Rattle.std.specs.Prelude.{nat_lt}
 use Rattle.std.specs.List.{list_any, list_all}
 use Rattle.std.proofs.lemmas.Bool.{ltb-true, ltb-false}
 use Rattle.commit_graph.specs.Versions.{same_file, same_stamp}
-use Rattle.promises.specs.Past.{Copy}
-use Rattle.promises.specs.After.{is_copy_below}
+use Rattle.past_laws.specs.of_promises.Past.{Copy}
+use Rattle.past_laws.specs.of_promises.After.{is_copy_below}
 use Rattle.past_laws.specs.Agreement.{ascends}
 use Rattle.past_laws.proofs.Names.{false_true, both, both_parts, file_eq, file_own, stamp_eq, stamp_own}
 use Rattle.past_laws.proofs.TreesSorted.{copies}

@@ -1,7 +1,7 @@
 -- A slice of all that is left of a list.
 use Rattle.std.proofs.Common.{◌≡◌, ℕ, zero, suc, ◌≤◌, List, [], ◌∷◌, length, take, drop, ◌-◌, refl, ap, arith}
 use Rattle.std.proofs.lemmas.List.{length-drop}
-use Rattle.promises.specs.Past.{Copy}
+use Rattle.past_laws.specs.of_promises.Past.{Copy}
 
 take_all : (xs : List Copy) (n : ℕ) → length xs ≤ n → take n xs ≡ xs
 take_all [] zero h = refl

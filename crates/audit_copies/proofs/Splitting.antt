@@ -2,8 +2,8 @@
 use Rattle.std.proofs.Common.{◌≡◌, ℕ, zero, suc, ◌<◌, ◌≤◌, Bool, true, false, List, [], ◌∷◌, length, get_or, arith}
 use Rattle.std.specs.List.{list_all}
 use Rattle.std.specs.List.Sorted.{IsPartitionedBy, IsPartitionPoint}
-use Rattle.promises.specs.Past.{Copy}
-use Rattle.promises.specs.After.{is_copy_below}
+use Rattle.past_laws.specs.of_promises.Past.{Copy}
+use Rattle.past_laws.specs.of_promises.After.{is_copy_below}
 use Rattle.past_laws.specs.Agreement.{ascends}
 use Rattle.past_laws.proofs.Names.{both_parts}
 use Rattle.past_laws.proofs.TreesSorted.{copies}

@@ -3,8 +3,8 @@ use Rattle.std.specs.Prelude.{◌≡◌, ℕ, zero, suc, Bool, true, false, cond
 use Rattle.std.specs.List.{list_all}
 use Rattle.locus_ids.specs.declared.ids.FileId.{FileId}
 use Rattle.commit_graph.specs.Versions.{same_file}
-use Rattle.promises.specs.Past.{Copy}
-use Rattle.promises.specs.After.{is_copy_below, with_known}
+use Rattle.past_laws.specs.of_promises.Past.{Copy}
+use Rattle.past_laws.specs.of_promises.After.{is_copy_below, with_known}
 use Rattle.past_laws.specs.Agreement.{ascends}
 use Rattle.audit_copies.specs.Below.{is_file_below}
 

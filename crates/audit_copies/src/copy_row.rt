@@ -9,7 +9,7 @@ pub struct CopyRow {
 }
 
 impl Model for CopyRow {
-    ghost use Rattle.promises.specs.Past.{Copy};
+    ghost use Rattle.past_laws.specs.of_promises.Past.{Copy};
 
     ghost Value = { Copy };
 

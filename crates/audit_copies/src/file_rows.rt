@@ -2,7 +2,7 @@
 ghost use Rattle.std.specs.List.{list_any};
 ghost use Rattle.std.specs.Prelude.{◌≡◌, ◌≤◌, [], ◌∷◌, length, true, IfOk, OnOk, OnErr};
 ghost use Rattle.commit_graph.specs.Versions.{is_stamp_below};
-ghost use Rattle.promises.specs.After.{is_copy_below, with_known};
+ghost use Rattle.past_laws.specs.of_promises.After.{is_copy_below, with_known};
 ghost use Rattle.past_laws.specs.Agreement.{ascends};
 ghost use Rattle.audit_copies.specs.Below.{IsSplit, is_version_of, stands_at};
 

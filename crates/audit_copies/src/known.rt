@@ -2,8 +2,8 @@ ghost use Rattle.std.specs.List.{list_all, list_any};
 ghost use Rattle.std.specs.Prelude.{◌≡◌, ◌==◌, ◌<◌, ◌≤◌, ◌&&◌, ◌++◌, [], cond, map, filter, length, true, IfSome, IfOk, OnOk, OnErr};
 ghost use Rattle.commit_graph.specs.Versions.{is_stamp_below, same_file};
 ghost use Rattle.audit_versions.specs.Keeping.{ascend, has_number, tops};
-ghost use Rattle.promises.specs.Past.{Copy};
-ghost use Rattle.promises.specs.After.{is_copy_below, with_known, with_all_known};
+ghost use Rattle.past_laws.specs.of_promises.Past.{Copy};
+ghost use Rattle.past_laws.specs.of_promises.After.{is_copy_below, with_known, with_all_known};
 ghost use Rattle.past_laws.specs.Agreement.{ascends};
 ghost use Rattle.audit_copies.specs.Below.{is_file_below, is_version_of};
 ghost use Rattle.audit_copies.specs.Files.{AreByFile, copies_of, file_count, is_file_at, with_copy};
@@ -23,7 +23,7 @@ pub struct Known {
 
 impl Model for Known {
     ghost use Rattle.std.specs.Prelude.{List};
-    ghost use Rattle.promises.specs.Past.{Copy};
+    ghost use Rattle.past_laws.specs.of_promises.Past.{Copy};
 
     ghost Value = { List Copy };
 

@@ -3,7 +3,7 @@ ghost use Rattle.std.specs.Prelude.{◌≡◌, ◌==◌, ◌&&◌, ◌<◌, ◌�
 ghost use Rattle.std.specs.List.{list_all, slice_index_or};
 ghost use Rattle.std.specs.List.Sorted.{IsPartitionedBy};
 ghost use Rattle.commit_graph.specs.Versions.{is_stamp_below};
-ghost use Rattle.promises.specs.Past.{Copy};
+ghost use Rattle.past_laws.specs.of_promises.Past.{Copy};
 ghost use Rattle.past_laws.specs.Agreement.{ascends};
 ghost use Rattle.audit_versions.specs.Keeping.{has_number, tops};
 ghost use Rattle.audit_copies.specs.Below.{IsSplit};

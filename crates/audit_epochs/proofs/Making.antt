@@ -15,9 +15,9 @@ use Rattle.tree_model.specs.State.{is_make}
 use Rattle.tree_model.specs.Tree.{is_passed_probe}
 use Rattle.promises.specs.Past.{Epoch, Instance, Make, is_named}
 use Rattle.promises.specs.After.{begun_make}
-use Rattle.past_laws.proofs.Names.{call_turned, false_true}
-use Rattle.past_laws.proofs.Changing.{only_one, find_filter, lost_any}
-use Rattle.past_laws.proofs.TreesLists.{any_one, filter_same}
+use Rattle.audit_copies.proofs.of_past_laws.Names.{call_turned, false_true}
+use Rattle.audit_copies.proofs.of_past_laws.Changing.{only_one, find_filter, lost_any}
+use Rattle.audit_copies.proofs.of_past_laws.TreesLists.{any_one, filter_same}
 use Rattle.audit_epochs.specs.Changes.{begins_make, begins_make_by, ends_make, refuses}
 use Rattle.audit_epochs.proofs.Lists.{filter_always, fold_same}
 

@@ -16,7 +16,7 @@ use Rattle.key_places.proofs.Rows.{place_within, place_finds, none_finds, place_
 use Rattle.key_places.proofs.Changes.{none_changes, place_changes}
 use Rattle.promises.specs.Past.{Epoch, is_named}
 use Rattle.promises.specs.After.{change, is_epoch}
-use Rattle.past_laws.proofs.Names.{epoch_eq, epoch_turned, false_true, none_some, some_same}
+use Rattle.audit_copies.proofs.of_past_laws.Names.{epoch_eq, epoch_turned, false_true, none_some, some_same}
 use Rattle.row_lists.proofs.ByPlace.{none_kept, once_more}
 use Rattle.row_lists.proofs.Reversed.{reverse_map, reverse_push}
 use Rattle.audit_epochs.specs.Changes.{is_home}

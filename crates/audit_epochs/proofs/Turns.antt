@@ -13,8 +13,8 @@ use Rattle.trace_book.specs.declared.descriptor.Beginning.TheVariants as begins
 use Rattle.trace_book.specs.declared.descriptor.OneVersion.{OneVersion}
 use Rattle.promises.specs.Past.{Epoch, is_close}
 use Rattle.promises.specs.After.{is_epoch}
-use Rattle.past_laws.proofs.Names.{epoch_turned}
-use Rattle.past_laws.proofs.Changing.{only_one, find_filter}
+use Rattle.audit_copies.proofs.of_past_laws.Names.{epoch_turned}
+use Rattle.audit_copies.proofs.of_past_laws.Changing.{only_one, find_filter}
 use Rattle.audit_epochs.specs.Changes.{turn_among, turn_in, used_by}
 use Rattle.audit_epochs.specs.Places.{turn_at}
 use Rattle.audit_epochs.proofs.Using.{turn_none}

@@ -10,9 +10,9 @@ use Rattle.trace_book.specs.declared.descriptor.Beginning.{Beginning}
 use Rattle.trace_book.specs.declared.descriptor.Beginning.TheVariants as begins
 use Rattle.promises.specs.Past.{Epoch, Instance, is_close, is_named}
 use Rattle.promises.specs.After.{change, uses}
-use Rattle.past_laws.proofs.Names.{none_some, some_same, same_value, serial_eq, serial_test}
-use Rattle.past_laws.proofs.Changing.{only_one, find_filter}
-use Rattle.past_laws.proofs.TreesLists.{filter_same}
+use Rattle.audit_copies.proofs.of_past_laws.Names.{none_some, some_same, same_value, serial_eq, serial_test}
+use Rattle.audit_copies.proofs.of_past_laws.Changing.{only_one, find_filter}
+use Rattle.audit_copies.proofs.of_past_laws.TreesLists.{filter_same}
 use Rattle.audit_instances.specs.Rows.{used_once}
 use Rattle.audit_epochs.specs.Changes.{accepts, next_use, turn_in, used_by}
 use Rattle.audit_epochs.proofs.Lists.{change_same, change_never, filter_never}

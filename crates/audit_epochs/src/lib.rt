@@ -11,6 +11,7 @@ mod parts;
 mod taking;
 mod uses;
 
+pub use audit_instances;
 pub use epoch_row::EpochRow;
 pub use epochs::Epochs;
 pub use grants::Grants;

@@ -5,8 +5,8 @@ use Rattle.std.proofs.lemmas.List.{length-append}
 use Rattle.locus_ids.specs.declared.ids.Serial.{Serial}
 use Rattle.trace_book.specs.Same.{same_serial}
 use Rattle.tree_model.specs.declared.instance.Granted.{Granted}
-use Rattle.promises.specs.Past.{Instance, is_named}
-use Rattle.promises.specs.After.{change}
+use Rattle.past_laws.specs.of_promises.Past.{Instance, is_named}
+use Rattle.past_laws.specs.of_promises.After.{change}
 use Rattle.past_laws.proofs.Names.{serial_eq}
 use Rattle.past_laws.proofs.Changing.{filter_changed, length_changed, change_once, without_once}
 use Rattle.past_laws.proofs.TreesLists.{filter_less, of_none}

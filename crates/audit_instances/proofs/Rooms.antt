@@ -2,7 +2,7 @@
 use Rattle.std.proofs.Common.{◌≡◌, ℕ, ◌+◌, ◌-◌, Bool, true, false, cond, List, ◌∷◌, length, refl, ap, ◌∙◌, arith}
 use Rattle.std.specs.Prelude.{filter, sum_by}
 use Rattle.std.proofs.lemmas.List.Sums.{sum_by-cons}
-use Rattle.promises.specs.Past.{Instance}
+use Rattle.past_laws.specs.of_promises.Past.{Instance}
 use Rattle.audit_instances.specs.Rows.{is_stored_at, pages_changed}
 
 less_sum : (left a b : ℕ) → left - (a + b) ≡ (left - a) - b

@@ -6,9 +6,9 @@ use Rattle.locus_ids.specs.declared.ids.Stamp.{Stamp}
 use Rattle.locus_ids.specs.declared.ids.Mode.TheVariants.{Read}
 use Rattle.commit_graph.specs.Versions.{same_file}
 use Rattle.trace_book.specs.Same.{same_call}
-use Rattle.role_steps.specs.of_file_effects.declared.work.Work.{Work}
-use Rattle.role_steps.specs.of_file_effects.Works.{begun, committed}
-use Rattle.promises.specs.Past.{Instance}
+use Rattle.operation_effects.specs.of_role_steps.of_file_effects.declared.work.Work.{Work}
+use Rattle.operation_effects.specs.of_role_steps.of_file_effects.Works.{begun, committed}
+use Rattle.past_laws.specs.of_promises.Past.{Instance}
 
 -- what is left of an instance while an operation works on it
 abbrev pub no_work : Work

@@ -1,5 +1,5 @@
 ghost use Rattle.std.specs.Prelude.{◌≡◌, false, IfOk, OnOk};
-ghost use Rattle.role_steps.specs.of_file_effects.Works.{begun, committed};
+ghost use Rattle.operation_effects.specs.of_role_steps.of_file_effects.Works.{begun, committed};
 ghost use Rattle.audit_instances.specs.Rows.{held_again, no_work, once_named, used_once, with_work};
 
 use locus_ids::{Mode, NoMemory, Stamp};
@@ -19,7 +19,7 @@ pub struct InstanceRow {
 }
 
 impl Model for InstanceRow {
-    ghost use Rattle.promises.specs.Past.{Instance};
+    ghost use Rattle.past_laws.specs.of_promises.Past.{Instance};
 
     ghost Value = { Instance };
 

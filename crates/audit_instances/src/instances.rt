@@ -2,8 +2,8 @@ ghost use Rattle.std.specs.Prelude.{◌≡◌, ◌<◌, ◌≤◌, cond, [], ◌
 ghost use Rattle.std.specs.List.{position_from, find, list_any};
 ghost use Rattle.std.specs.Option.{option_copied, option_map};
 ghost use Rattle.commit_graph.specs.Grants.{is_read};
-ghost use Rattle.promises.specs.Past.{Instance, is_named, is_writer};
-ghost use Rattle.promises.specs.After.{change};
+ghost use Rattle.past_laws.specs.of_promises.Past.{Instance, is_named, is_writer};
+ghost use Rattle.past_laws.specs.of_promises.After.{change};
 ghost use Rattle.audit_instances.specs.Rows.{held_again, no_work, with_work, once_named, used_once, commits};
 
 use crate::InstanceRow;
@@ -21,7 +21,7 @@ pub struct Instances {
 impl Model for Instances {
     ghost use Rattle.std.specs.Prelude.{◌≤◌, List, length, filter};
     ghost use Rattle.locus_ids.specs.declared.ids.Serial.{Serial};
-    ghost use Rattle.promises.specs.Past.{Instance, is_named};
+    ghost use Rattle.past_laws.specs.of_promises.Past.{Instance, is_named};
 
     ghost Value = { List Instance };
 

@@ -22,7 +22,7 @@ use Rattle.promises.specs.After.{after, answered, begun_make, change, change_epo
 use Rattle.lawful_trace.specs.Progress.{outcome_answer}
 use Rattle.past_laws.proofs.Changing.{changed, filter_changed, first_found, only_one, part_kept}
 use Rattle.past_laws.proofs.Names.{some_same}
-use Rattle.audit_instances.specs.Rows.{no_work, with_work}
+use Rattle.audit_epochs.specs.of_audit_instances.Rows.{no_work, with_work}
 use Rattle.audit_calls.specs.Rows.{with_answer}
 use Rattle.audit_epochs.specs.Changes.{acts_so, works}
 use Rattle.audit_past.specs.Writing.{IsActor, IsEnder, IsOpen, IsOneCall, handed_out}

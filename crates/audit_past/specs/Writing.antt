@@ -11,7 +11,7 @@ use Rattle.tree_model.specs.Opening.{sites_made}
 use Rattle.tree_model.specs.Packs.{packs_of}
 use Rattle.promises.specs.Past.{Past, CallSoFar, Epoch, Instance, Making, epoch_at, is_named, is_writer}
 use Rattle.promises.specs.After.{change, is_actor, is_ender, is_epoch, is_home_of, is_id}
-use Rattle.audit_instances.specs.Rows.{no_work}
+use Rattle.audit_epochs.specs.of_audit_instances.Rows.{no_work}
 use Rattle.audit_epochs.specs.Changes.{works}
 
 -- the file is committed at the site by this instance of the epoch that the site is in, which this call opened

@@ -10,7 +10,7 @@ ghost use Rattle.audit_epochs.specs.Places.{work_of};
 ghost use Rattle.audit_past.specs.Writing.{IsActor, IsEnder, IsOpen, handed_out};
 
 use crate::{LastSeen, Told};
-use audit_tree::{close_answer, outcome_answer};
+use audit_acts::audit_tree::{close_answer, outcome_answer};
 use call_rules::Answer;
 use locus_ids::{CallId, EpochId, FileId, NoMemory, Serial, Stamp};
 use operation_effects::OpenWork;

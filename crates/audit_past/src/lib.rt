@@ -13,6 +13,8 @@ mod starting;
 mod told;
 mod trees;
 
+pub use audit_acts;
+pub use audit_epochs;
 pub use last::LastSeen;
 pub use told::Told;
 pub use trees::Opening;

@@ -9,7 +9,7 @@ ghost use Rattle.audit_past.specs.Writing.{IsSaid, made_by};
 use crate::Told;
 use audit_calls::CallRow;
 use audit_epochs::EpochRow;
-use audit_instances::InstanceRow;
+use audit_epochs::audit_instances::InstanceRow;
 use audit_sites::MakingRow;
 use locus_ids::{Config, FileId, Kind, Mode};
 use trace_book::Call;

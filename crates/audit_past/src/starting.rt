@@ -5,10 +5,10 @@ ghost use Rattle.promises.specs.Past.{groups, nothing_yet};
 ghost use Rattle.audit_past.specs.Starting.{formatted};
 
 use crate::{LastSeen, Told};
+use audit_acts::audit_tree::LastDir;
 use audit_calls::Calls;
 use audit_epochs::Epochs;
 use audit_sites::{Makings, SiteRows};
-use audit_tree::LastDir;
 use audit_versions::Versions;
 use commit_graph::Version;
 use locus_ids::{Bytes, Config, FileId, NoMemory, Stamp, Stamps};

@@ -2,10 +2,10 @@ ghost use Rattle.std.specs.Prelude.{◌≡◌};
 ghost use Rattle.audit_past.specs.Seen.{last_of};
 
 use crate::LastSeen;
+use audit_acts::audit_tree::LastDir;
 use audit_calls::Calls;
 use audit_epochs::Epochs;
 use audit_sites::{Makings, SiteRows};
-use audit_tree::LastDir;
 use audit_versions::Versions;
 use std::alloc::Global;
 use std::marker::Model;

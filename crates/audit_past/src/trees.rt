@@ -11,8 +11,8 @@ ghost use Rattle.promises.specs.Past.{CallSoFar, epoch_at, kept_in};
 ghost use Rattle.promises.specs.After.{after, is_id, process_of};
 
 use crate::{LastSeen, Told};
+use audit_acts::audit_tree::reading_answer;
 use audit_acts::kept_in;
-use audit_tree::reading_answer;
 use call_rules::Answer;
 use locus_ids::{CallId, EpochId, FileId, Mode, NoMemory, Serial, Stamp, Stamps};
 use operation_effects::WorkingContent;

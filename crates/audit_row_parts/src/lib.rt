@@ -8,6 +8,7 @@ mod members;
 mod sites;
 mod writing;
 
+pub use audit_sites;
 pub use epochs::{is_below, is_in};
 pub use joining::{boot_in, has_boot_of, is_above_joined, same_members};
 pub use members::{are_all_joined, is_number, is_packing, is_synced, same_as_brought};

@@ -6,7 +6,7 @@ ghost use Rattle.promises.specs.Same.{same_list};
 ghost use Rattle.audit_row_parts.specs.Parts.{are_joined_among, brought_of, is_synced_among};
 
 use crate::joining::boot_in;
-use audit_copies::CopyRow;
+use audit_sites::audit_copies::CopyRow;
 use locus_ids::sizes::SITES;
 use locus_ids::{Brought, Config, Members};
 use tree_tables::{has_pack, sync_site};

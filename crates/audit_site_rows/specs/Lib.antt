@@ -1,2 +1,2 @@
 pub mod Rows
-pub use Rattle.audit_acts.specs as of_audit_acts
+pub use Rattle.audit_past.specs.of_audit_acts as of_audit_acts

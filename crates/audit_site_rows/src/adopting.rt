@@ -8,8 +8,8 @@ ghost use Rattle.promises.specs.Rows.{is_above_held, may_adopt};
 ghost use Rattle.audit_site_rows.specs.Rows.{AreApart, adopts, are_below};
 
 use audit_copies::CopyRow;
-use audit_epochs::EpochRow;
 use audit_past::Told;
+use audit_past::audit_epochs::EpochRow;
 use audit_versions::Versions;
 use locus_ids::{EpochId, FileId, NoMemory, Stamp};
 use tree_tables::has_site;

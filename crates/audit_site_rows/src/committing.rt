@@ -6,9 +6,9 @@ ghost use Rattle.promises.specs.Rows.{may_commit};
 ghost use Rattle.audit_site_rows.specs.Rows.{AreApart, commits_in};
 
 use crate::adopting::home_of;
-use audit_acts::parents_of;
-use audit_epochs::EpochRow;
 use audit_past::Told;
+use audit_past::audit_acts::parents_of;
+use audit_past::audit_epochs::EpochRow;
 use audit_row_parts::{Commit, commits_so, is_stamped, only_writer};
 use locus_ids::{FileId, NoMemory};
 use std::alloc::Global;

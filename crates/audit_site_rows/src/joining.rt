@@ -6,8 +6,8 @@ ghost use Rattle.promises.specs.After.{is_epoch};
 ghost use Rattle.promises.specs.Rows.{may_join};
 ghost use Rattle.audit_site_rows.specs.Rows.{AreApart, epoch_of};
 
-use audit_epochs::Epochs;
 use audit_past::Told;
+use audit_past::audit_epochs::Epochs;
 use audit_row_parts::{has_boot_of, is_above_joined, is_number, same_members};
 use locus_ids::{EpochId, Members};
 

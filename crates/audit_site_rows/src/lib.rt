@@ -8,7 +8,7 @@ mod joining;
 mod starting;
 
 pub use adopting::may_adopt;
-pub use audit_acts::{added_for, is_spent, kept_in, wants_rescue};
+pub use audit_past::audit_acts::{added_for, is_spent, kept_in, wants_rescue};
 pub use committing::may_commit;
 pub use joining::may_join;
 pub use starting::may_start;

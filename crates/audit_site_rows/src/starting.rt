@@ -3,8 +3,8 @@ ghost use Rattle.promises.specs.Past.{epoch_at};
 ghost use Rattle.promises.specs.Rows.{may_start};
 ghost use Rattle.audit_row_parts.specs.Parts.{are_joined_among, is_synced_among};
 
-use audit_epochs::EpochRow;
 use audit_past::Told;
+use audit_past::audit_epochs::EpochRow;
 use audit_row_parts::{are_all_joined, is_number, is_synced, same_as_brought};
 use locus_ids::{Brought, Config, EpochId, Members, NoMemory};
 

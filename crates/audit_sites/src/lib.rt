@@ -11,6 +11,7 @@ mod rows;
 mod site;
 mod starting;
 
+pub use audit_copies;
 pub use makings::{MakingRow, Makings};
 pub use rows::SiteRows;
 pub use site::SiteRow;

@@ -19,7 +19,7 @@ use Rattle.promises.specs.Past.{Past, CallSoFar, Epoch, asks, asks_after}
 use Rattle.promises.specs.Rows.{is_asked}
 use Rattle.promises.specs.Same.{same_request}
 use Rattle.promises.specs.After.{is_epoch, is_id}
-use Rattle.audit_epochs.specs.Changes.{is_home}
+use Rattle.audit_past.specs.of_audit_epochs.Changes.{is_home}
 use Rattle.audit_call_rows.specs.Asked.{HasMembers, asks_in, asks_look_in}
 use Rattle.audit_call_rows.proofs.Told.{any_found, asked_told, passes}
 use Rattle.audit_told_calls.specs.Once.{OneEach}

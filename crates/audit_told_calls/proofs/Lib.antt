@@ -1,3 +1,3 @@
 pub mod Found
 pub mod Said
-pub use Rattle.audit_row_parts.proofs as of_audit_row_parts
+pub use Rattle.audit_call_rows.proofs.of_audit_row_parts as of_audit_row_parts

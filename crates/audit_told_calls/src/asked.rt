@@ -2,7 +2,7 @@ ghost use Rattle.std.specs.Prelude.{◌≡◌, take, IfOk};
 ghost use Rattle.std.specs.List.{find};
 ghost use Rattle.std.specs.Option.{option_map};
 ghost use Rattle.promises.specs.Past.{Epoch, asks, asks_after};
-ghost use Rattle.audit_epochs.specs.Changes.{is_home};
+ghost use Rattle.audit_past.specs.of_audit_epochs.Changes.{is_home};
 ghost use Rattle.audit_told_calls.specs.Once.{OneEach};
 
 use audit_calls::CallRow;

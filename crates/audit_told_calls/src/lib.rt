@@ -11,9 +11,9 @@ mod steps;
 
 pub use answers::{Replied, may_answer};
 pub use asked::{asks, asks_after};
+pub use audit_call_rows::audit_row_parts::Commit;
 pub use audit_call_rows::{actor, ender, may_accept};
 pub use audit_past::{Opening, Told};
-pub use audit_row_parts::Commit;
 pub use looks::{LookTold, is_looked_so};
 pub use meanings::{look_meant, reply_meant};
 pub use steps::{OperationAt, ReleaseAt, is_acted, is_ended};

@@ -5,9 +5,9 @@ ghost use Rattle.audit_told_calls.specs.Once.{OneEach};
 
 use crate::asked::members_of;
 use audit_call_rows::asks_look;
-use audit_epochs::EpochRow;
+use audit_call_rows::audit_row_parts::is_in;
 use audit_past::Told;
-use audit_row_parts::is_in;
+use audit_past::audit_epochs::EpochRow;
 use call_rules::Want;
 use locus_ids::{CallId, Config, FileId, NoMemory};
 use trace_book::What;

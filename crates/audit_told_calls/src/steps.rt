@@ -6,11 +6,11 @@ ghost use Rattle.promises.specs.Rows.{is_asked};
 ghost use Rattle.audit_told_calls.specs.Once.{OneEach};
 
 use crate::asked::members_of;
+use audit_call_rows::audit_row_parts::is_in;
 use audit_call_rows::{actor, asks_request, ender};
 use audit_calls::CallRow;
 use audit_instances::InstanceRow;
 use audit_past::Told;
-use audit_row_parts::is_in;
 use call_rules::Want;
 use locus_ids::{Config, EpochId, NoMemory};
 

@@ -14,7 +14,7 @@ use Rattle.operation_effects.specs.Settling.{Worked, worked, worked_so}
 use Rattle.tree_model.specs.Histories.{stamped_content}
 use Rattle.tree_model.specs.Working.{are_several, effect_of, in_room, operated_by}
 use Rattle.promises.specs.Past.{Epoch, Instance, Past, kept_in}
-use Rattle.past_laws.proofs.Names.{none_some, some_same}
+use Rattle.audit_copies.proofs.of_past_laws.Names.{none_some, some_same}
 use Rattle.promises.specs.Tree.{result_on, work_after, effect_on, free_pages, is_spent, is_target, mended, removes}
 use Rattle.audit_tree.specs.Adding.{acted_with, added_on, removes_with, seen_by}
 use Rattle.audit_tree.specs.Acting.{IsPlain, acted_on, committed_so, given_so}

@@ -7,7 +7,7 @@ use Rattle.commit_graph.specs.Vectors.{numbers_from}
 use Rattle.tree_model.specs.Opening.{range_of}
 use Rattle.promises.specs.Past.{Copy, Epoch, Past, copies_in, is_number}
 use Rattle.promises.specs.Tree.{numbers_used}
-use Rattle.past_laws.proofs.TreesLists.{filter_same}
+use Rattle.audit_copies.proofs.of_past_laws.TreesLists.{filter_same}
 use Rattle.audit_tree.specs.Parts.{is_given, used_among}
 
 range_length : (first n : ℕ) → length (numbers_from first n) ≡ n

@@ -15,7 +15,7 @@ use Rattle.tree_model.specs.Opening.{site_named}
 use Rattle.tree_model.specs.Packs.{all_sites, has_pack, is_member, is_within, least_site, making_site_in, packs_of, sync_site, that_passes}
 use Rattle.tree_model.specs.Working.{list_of}
 use Rattle.promises.specs.Tree.{resolves_from}
-use Rattle.past_laws.proofs.TreesLists.{first_only}
+use Rattle.audit_copies.proofs.of_past_laws.TreesLists.{first_only}
 use Rattle.audit_tree.specs.Parts.{make_refusal_in, place_in, set_in, sync_in}
 
 pub sync_so : (c : Config) (members : Members) (group : ℕ) (site : Option ℕ) → site ≡ sync_site c group (Some members) → list_of site ≡ sync_in c members group

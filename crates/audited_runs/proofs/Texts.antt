@@ -21,9 +21,9 @@ use Rattle.row_laws.proofs.AskedRun.{run_members}
 use Rattle.row_laws.proofs.SitesGoOn.{run_sites}
 use Rattle.row_laws.proofs.SitesPlaced.{first_has, places_kept}
 use Rattle.tree_laws.specs.Printed.{entries}
-use Rattle.rest_laws.proofs.Packs.{schedule_packs}
-use Rattle.rest_laws.proofs.Shown.{shown_entries}
-use Rattle.rest_laws.proofs.StoreStepFirst.{four_groups}
+use Rattle.few_kept_laws.proofs.of_rest_laws.Packs.{schedule_packs}
+use Rattle.few_kept_laws.proofs.of_rest_laws.Shown.{shown_entries}
+use Rattle.few_kept_laws.proofs.of_rest_laws.StoreStepFirst.{four_groups}
 use Rattle.past_laws.specs.Along.{EachComesSo, IsNamed}
 use Rattle.past_laws.proofs.Agreeing.{may_follow_all, one_tree, reverse_more}
 use Rattle.headline_promise_laws.specs.of_headline_laws.of_prompt_laws.Speaks.{IsSite, SpeaksOfWhatIs}

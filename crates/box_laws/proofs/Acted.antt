@@ -63,14 +63,14 @@ use Rattle.tree_laws.proofs.Scripts.{script_stays}
 use Rattle.order_laws.specs.Joining.{PacksAreOfSites}
 use Rattle.order_laws.proofs.Keeping.{file_eq}
 use Rattle.order_laws.proofs.Standing.{acted_keeps}
-use Rattle.rest_laws.proofs.of_holding_laws.Distinct.{found_own, open_now, rows_names_apart}
-use Rattle.rest_laws.proofs.of_holding_laws.Made.{CommitsAreNew}
-use Rattle.rest_laws.proofs.of_holding_laws.MendMending.{mends_now}
-use Rattle.rest_laws.specs.of_holding_laws.MendWorking.{MendsNow}
-use Rattle.rest_laws.proofs.of_one_tree_laws.RemovePlaced.{Placed, Taken, taken_so}
-use Rattle.rest_laws.proofs.of_store_laws.AnswerAnswering.{acter_in}
-use Rattle.rest_laws.proofs.of_store_laws.Places.{open_is}
-use Rattle.rest_laws.proofs.of_store_laws.ScriptFitted.{Began, began}
+use Rattle.fit_laws.proofs.of_rest_laws.of_holding_laws.Distinct.{found_own, open_now, rows_names_apart}
+use Rattle.fit_laws.proofs.of_rest_laws.of_holding_laws.Made.{CommitsAreNew}
+use Rattle.fit_laws.proofs.of_rest_laws.of_holding_laws.MendMending.{mends_now}
+use Rattle.fit_laws.specs.of_rest_laws.of_holding_laws.MendWorking.{MendsNow}
+use Rattle.fit_laws.proofs.of_rest_laws.of_one_tree_laws.RemovePlaced.{Placed, Taken, taken_so}
+use Rattle.fit_laws.proofs.of_rest_laws.of_store_laws.AnswerAnswering.{acter_in}
+use Rattle.fit_laws.proofs.of_rest_laws.of_store_laws.Places.{open_is}
+use Rattle.fit_laws.proofs.of_rest_laws.of_store_laws.ScriptFitted.{Began, began}
 use Rattle.fit_laws.specs.EntryEntries.{MakesMessage}
 use Rattle.fit_laws.proofs.EntryActing.{acter_is, asks_now, changed_plain, written_plain}
 use Rattle.fit_laws.proofs.EntryFacts.{IsKnown, IsPlain, makes_stay, plain_stays}
@@ -86,8 +86,8 @@ use Rattle.box_laws.proofs.Merging.{nothing_box}
 use Rattle.box_laws.proofs.Puts.{At, MadeOnce, MailsAreLow, Put, Saw, put_new, put_now, saw_one}
 use Rattle.std.specs.Option.{option_map}
 use Rattle.order_laws.proofs.ProcessCounted.{acts_now}
-use Rattle.rest_laws.proofs.of_holding_laws.Released.{released_shut}
-use Rattle.rest_laws.proofs.of_store_laws.AnswerDone.{open_grant}
+use Rattle.fit_laws.proofs.of_rest_laws.of_holding_laws.Released.{released_shut}
+use Rattle.fit_laws.proofs.of_rest_laws.of_store_laws.AnswerDone.{open_grant}
 use Rattle.box_laws.proofs.Boxing.{found_passes}
 use Rattle.box_laws.proofs.Acting.{Effective, effective, left_content, mended_box, mended_content, mails, no_mend, none_level, refused_alike, refused_work}
 use Rattle.box_laws.proofs.Operating.{as_now, deeds_done, deeds_refused, gave, mender_of, mender_script, merging_bases, only_mends, ordinary_now, removed_now, same_now}

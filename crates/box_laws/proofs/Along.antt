@@ -34,8 +34,8 @@ use Rattle.tree_laws.proofs.Kinship.{GoesOnTold}
 use Rattle.tree_laws.proofs.Names.{same_epoch_eq, same_serial_eq, same_epoch_own, same_serial_own}
 use Rattle.tree_laws.proofs.Opened.{GrantsIt}
 use Rattle.order_laws.specs.Joining.{PacksAreOfSites}
-use Rattle.rest_laws.proofs.of_holding_laws.Begun.{granted_open}
-use Rattle.rest_laws.proofs.of_holding_laws.Made.{CommitsAreNew}
+use Rattle.fit_laws.proofs.of_rest_laws.of_holding_laws.Begun.{granted_open}
+use Rattle.fit_laws.proofs.of_rest_laws.of_holding_laws.Made.{CommitsAreNew}
 use Rattle.box_laws.specs.Boxes.{deeds, inserted, is_among, makings, removed, done_after, is_handled, are_handled, is_made_once, message_files, put_by}
 use Rattle.box_laws.proofs.Puts.{MadeOnce, Put, Saw, MailsAreLow}
 use Rattle.std.proofs.lemmas.Bool.Decides.{nat_tests}
@@ -45,8 +45,8 @@ use Rattle.box_laws.proofs.Keeping.{AllBoxes, AtWork, BoxOf, Holds, holds_later,
 use Rattle.box_laws.proofs.Merging.{nothing_box}
 use Rattle.locus_ids.specs.declared.sites.Sites.{Sites}
 use Rattle.order_laws.proofs.ProcessCounted.{acts_now}
-use Rattle.rest_laws.specs.of_one_tree_laws.Rest.{EachRest}
-use Rattle.rest_laws.proofs.of_store_laws.AnswerDone.{open_grant}
+use Rattle.fit_laws.specs.of_rest_laws.of_one_tree_laws.Rest.{EachRest}
+use Rattle.fit_laws.proofs.of_rest_laws.of_store_laws.AnswerDone.{open_grant}
 use Rattle.box_laws.proofs.Acted.{acted_work}
 use Rattle.box_laws.proofs.Told.{committed_work, granted_work, versions_now}
 

@@ -39,16 +39,16 @@ use Rattle.tree_laws.proofs.Hearing.{Hears, hears, wants_as_asked}
 use Rattle.tree_laws.proofs.Scripts.{named_stays}
 use Rattle.tree_laws.proofs.Serials.{asks_opens}
 use Rattle.order_laws.proofs.Standing.{same_file_eq}
-use Rattle.rest_laws.proofs.of_holding_laws.MendMends.{mend_opened}
-use Rattle.rest_laws.proofs.of_holding_laws.Seats.{granted_placed}
+use Rattle.fit_laws.proofs.of_rest_laws.of_holding_laws.MendMends.{mend_opened}
+use Rattle.fit_laws.proofs.of_rest_laws.of_holding_laws.Seats.{granted_placed}
 use Rattle.std.specs.Option.{option_map}
 use Rattle.locus_ids.specs.declared.ids.Kind.{Kind}
 use Rattle.trace_book.specs.declared.call.OpenMode.{OpenMode}
 use Rattle.call_rules.specs.Descriptors.{beginning}
 use Rattle.tree_model.specs.Histories.{history}
 use Rattle.order_laws.specs.Joining.{PacksAreOfSites}
-use Rattle.rest_laws.proofs.of_store_laws.ScriptFitted.{Began, began}
-use Rattle.rest_laws.proofs.of_store_laws.of_sync_laws.TreeCalls.{call_in_is}
+use Rattle.fit_laws.proofs.of_rest_laws.of_store_laws.ScriptFitted.{Began, began}
+use Rattle.fit_laws.proofs.of_rest_laws.of_store_laws.of_sync_laws.TreeCalls.{call_in_is}
 use Rattle.fit_laws.proofs.EntryActing.{asks_now}
 use Rattle.fit_laws.proofs.EntryFacts.{IsKnown, IsPlain, plain_stays}
 use Rattle.fit_laws.proofs.EntryNamed.{trace_named}

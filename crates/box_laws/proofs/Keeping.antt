@@ -46,12 +46,12 @@ use Rattle.order_laws.specs.Joining.{PacksAreOfSites}
 use Rattle.order_laws.specs.Keeping.{PassesBy}
 use Rattle.order_laws.proofs.Keeping.{others_stand}
 use Rattle.order_laws.proofs.Lists.{all_filtered}
-use Rattle.rest_laws.proofs.of_holding_laws.Begun.{open_in_group, open_seat}
-use Rattle.rest_laws.proofs.of_holding_laws.Kept.{open_keeps}
-use Rattle.rest_laws.proofs.of_holding_laws.Made.{candidates_stand, held_stand}
-use Rattle.rest_laws.proofs.of_holding_laws.Released.{released_shut}
-use Rattle.rest_laws.proofs.of_holding_laws.Seats.{Seat}
-use Rattle.rest_laws.proofs.of_one_tree_laws.RemovePlaced.{Placed, placed_more}
+use Rattle.fit_laws.proofs.of_rest_laws.of_holding_laws.Begun.{open_in_group, open_seat}
+use Rattle.fit_laws.proofs.of_rest_laws.of_holding_laws.Kept.{open_keeps}
+use Rattle.fit_laws.proofs.of_rest_laws.of_holding_laws.Made.{candidates_stand, held_stand}
+use Rattle.fit_laws.proofs.of_rest_laws.of_holding_laws.Released.{released_shut}
+use Rattle.fit_laws.proofs.of_rest_laws.of_holding_laws.Seats.{Seat}
+use Rattle.fit_laws.proofs.of_rest_laws.of_one_tree_laws.RemovePlaced.{Placed, placed_more}
 use Rattle.fit_laws.specs.EntryEntries.{MakesMessage}
 use Rattle.fit_laws.proofs.EntryFacts.{IsPlain, makes_stay, plain_stays}
 use Rattle.call_rules.specs.declared.answer.Answer.{Answer}

@@ -14,14 +14,14 @@ use Rattle.the_run.specs.Runs.{run}
 use Rattle.the_run.specs.Worlds.{Line}
 use Rattle.tree_model.specs.Histories.{history}
 use Rattle.tree_laws.specs.Printed.{entries}
-use Rattle.rest_laws.specs.of_one_tree_laws.Rest.{IsNumberedLow, Past}
-use Rattle.rest_laws.specs.of_row_laws.Shown.{trace_of}
-use Rattle.rest_laws.specs.StoreStepKnown.{IsKnownCall}
-use Rattle.rest_laws.proofs.of_row_laws.Fitting.{schedule_fits}
-use Rattle.rest_laws.proofs.Packs.{schedule_packs}
-use Rattle.rest_laws.proofs.Shown.{shown_entries}
-use Rattle.rest_laws.proofs.StoreStepFirst.{four_groups}
-use Rattle.rest_laws.proofs.StoreStepKnown.{known_call}
+use Rattle.fit_laws.specs.of_rest_laws.of_one_tree_laws.Rest.{IsNumberedLow, Past}
+use Rattle.fit_laws.specs.of_rest_laws.of_row_laws.Shown.{trace_of}
+use Rattle.fit_laws.specs.of_rest_laws.StoreStepKnown.{IsKnownCall}
+use Rattle.fit_laws.proofs.of_rest_laws.of_row_laws.Fitting.{schedule_fits}
+use Rattle.fit_laws.proofs.of_rest_laws.Packs.{schedule_packs}
+use Rattle.fit_laws.proofs.of_rest_laws.Shown.{shown_entries}
+use Rattle.fit_laws.proofs.of_rest_laws.StoreStepFirst.{four_groups}
+use Rattle.fit_laws.proofs.of_rest_laws.StoreStepKnown.{known_call}
 use Rattle.fit_laws.proofs.EntryContents.{content_dir}
 use Rattle.fit_laws.proofs.EntryFacts.{IsPlain}
 use Rattle.fit_laws.proofs.Tables.{past_of_run}

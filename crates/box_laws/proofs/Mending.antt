@@ -19,7 +19,7 @@ use Rattle.call_rules.specs.declared.answer.Answer.TheVariants as answer
 use Rattle.call_rules.specs.declared.want.Want.{Want}
 use Rattle.call_rules.specs.declared.want.Want.TheVariants as want
 use Rattle.tree_laws.proofs.Holding.{Script}
-use Rattle.rest_laws.proofs.of_one_tree_laws.RemoveScripts.{IsOr, packed_is}
+use Rattle.fit_laws.proofs.of_rest_laws.of_one_tree_laws.RemoveScripts.{IsOr, packed_is}
 
 -- ---- what a mend asks ----
 

@@ -51,9 +51,9 @@ use Rattle.tree_laws.specs.Printed.{entries}
 use Rattle.tree_laws.proofs.Names.{same_epoch_own, same_serial_own}
 use Rattle.order_laws.specs.Joining.{PacksAreOfSites}
 use Rattle.order_laws.proofs.Standing.{acted_keeps}
-use Rattle.rest_laws.proofs.of_holding_laws.Turning.{acted_last}
-use Rattle.rest_laws.proofs.of_store_laws.Places.{GrantedSo as IsGrantedSo, instance_granted}
-use Rattle.rest_laws.proofs.of_store_laws.ScriptNaming.{script_by}
+use Rattle.fit_laws.proofs.of_rest_laws.of_holding_laws.Turning.{acted_last}
+use Rattle.fit_laws.proofs.of_rest_laws.of_store_laws.Places.{GrantedSo as IsGrantedSo, instance_granted}
+use Rattle.fit_laws.proofs.of_rest_laws.of_store_laws.ScriptNaming.{script_by}
 use Rattle.fit_laws.specs.EntryEntries.{MakesMessage}
 use Rattle.fit_laws.proofs.EntryContents.{content_dir}
 use Rattle.fit_laws.proofs.EntryFacts.{IsPlain, makes_stay, plain_stays}

@@ -46,8 +46,8 @@ use Rattle.tree_laws.proofs.Awaiting.{by_owner}
 use Rattle.tree_laws.proofs.Histories.{stands_more, vector_same}
 use Rattle.tree_laws.proofs.Scripts.{begun_stays, named_stays, script_stays}
 use Rattle.order_laws.proofs.Standing.{same_file_eq, same_stamp_eq}
-use Rattle.rest_laws.proofs.of_store_laws.ScriptNaming.{script_by}
-use Rattle.rest_laws.proofs.of_one_tree_laws.RemovePlaced.{IsPlaced, Placed, Taken, placed_more, taken_so}
+use Rattle.fit_laws.proofs.of_rest_laws.of_store_laws.ScriptNaming.{script_by}
+use Rattle.fit_laws.proofs.of_rest_laws.of_one_tree_laws.RemovePlaced.{IsPlaced, Placed, Taken, placed_more, taken_so}
 use Rattle.mailbox_join.proofs.Naming as naming
 use Rattle.box_laws.specs.Boxes.{is_made_once, message_files, put_by}
 use Rattle.box_laws.proofs.Mailing.{Once, mail_once}

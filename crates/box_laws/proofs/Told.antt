@@ -38,8 +38,8 @@ use Rattle.tree_laws.proofs.Names.{same_epoch_eq, same_epoch_own, same_serial_ow
 use Rattle.tree_laws.proofs.Opened.{found_named}
 use Rattle.tree_laws.proofs.Rows.{followed_rows}
 use Rattle.order_laws.specs.Joining.{PacksAreOfSites}
-use Rattle.rest_laws.proofs.of_holding_laws.Begun.{open_in_group, Untouched, granted_open}
-use Rattle.rest_laws.proofs.of_holding_laws.Made.{committed_file, filter_passes}
+use Rattle.fit_laws.proofs.of_rest_laws.of_holding_laws.Begun.{open_in_group, Untouched, granted_open}
+use Rattle.fit_laws.proofs.of_rest_laws.of_holding_laws.Made.{committed_file, filter_passes}
 use Rattle.fit_laws.specs.EntryEntries.{MakesMessage}
 use Rattle.fit_laws.proofs.EntryFacts.{IsPlain, plain_stays}
 use Rattle.box_laws.specs.Boxes.{deeds, deeds_by, inserted, is_among, makings, named_in, names_inserted, names_removed, removed}
@@ -52,7 +52,7 @@ use Rattle.file_effects.specs.Effects.{puts}
 use Rattle.file_effects.specs.Works.{begins_owing}
 use Rattle.tree_laws.proofs.Owing.{inside_is, only_one, writer_writes}
 use Rattle.order_laws.proofs.Standing.{same_file_eq}
-use Rattle.rest_laws.proofs.of_holding_laws.Distinct.{found_own, open_now, rows_names_apart}
+use Rattle.fit_laws.proofs.of_rest_laws.of_holding_laws.Distinct.{found_own, open_now, rows_names_apart}
 use Rattle.fit_laws.proofs.EntryNamed.{trace_named, made_plain}
 use Rattle.box_laws.proofs.Granting.{resolved_plain}
 use Rattle.box_laws.proofs.Keeping.{AllBoxes, AtWork, BoxOf, HasBox, Holds, Idle, IsOrdinary, Mended, OfFile, OfMessage, Ordinary, bases, box_later, holds_later, said, mended_later}

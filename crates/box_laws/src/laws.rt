@@ -6,8 +6,8 @@ ghost use Rattle.schedule_lines.specs.declared.line.ScheduleLine.{ScheduleLine};
 ghost use Rattle.the_run.specs.Runs.{run};
 ghost use Rattle.the_run.specs.Worlds.{Line};
 ghost use Rattle.tree_laws.specs.Printed.{entries};
-ghost use Rattle.rest_laws.specs.of_one_tree_laws.Rest.{Past};
-ghost use Rattle.rest_laws.specs.of_row_laws.Shown.{trace_of};
+ghost use Rattle.fit_laws.specs.of_rest_laws.of_one_tree_laws.Rest.{Past};
+ghost use Rattle.fit_laws.specs.of_rest_laws.of_row_laws.Shown.{trace_of};
 ghost use Rattle.box_laws.specs.Boxes.{Boxed};
 
 /// In every trace in which messages are put into directories by mail alone and taken out by unlink alone, and no message's file has a commit

@@ -21,7 +21,7 @@ use Rattle.role_steps.specs.Using.{own_call, is_packed, next_want, goes_on, free
 use Rattle.role_steps.specs.declared.users.WaitingCall.{WaitingCall}
 use Rattle.role_steps.specs.declared.users.DescriptorRow.{DescriptorRow}
 use Rattle.tree_model.specs.Folds.{Trace}
-use Rattle.the_run.specs.Kept.{Among}
+use Rattle.row_laws.specs.of_the_run.Kept.{Among}
 use Rattle.row_laws.specs.Shown.{with_told}
 use Rattle.call_row_laws.specs.Scripts.{BeginsWith, HoldsOpened, Starts, OnDescriptor}
 use Rattle.call_row_laws.specs.Serials.{BeginsOn, Frees, Own, Holds, serial_of, IsOpenIn, HasInstance, Owned}

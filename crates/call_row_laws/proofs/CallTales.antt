@@ -28,12 +28,12 @@ use Rattle.role_steps.specs.declared.users.WaitingCall.{WaitingCall}
 use Rattle.role_steps.proofs.Sending.{every_append, every_map}
 use Rattle.tree_model.specs.Calls.{waiting, waiting_of}
 use Rattle.tree_model.specs.declared.accepted.Waiting.{Waiting}
-use Rattle.the_run.specs.Disks.{boots}
-use Rattle.the_run.specs.Kept.{Among, Kept}
-use Rattle.the_run.specs.Steps.{at_users, call_frame, epoch_id, ends_event, whole, step}
-use Rattle.the_run.specs.Worlds.{World, Running, Numbered, place_at, links_of, script_of, passed, told_onto, puts, stops_with, acts_of, acts, disk_of}
-use Rattle.the_run.specs.Runs.{packet_record, run_in}
-use Rattle.the_run.proofs.Boots.{every_weaker}
+use Rattle.row_laws.specs.of_the_run.Disks.{boots}
+use Rattle.row_laws.specs.of_the_run.Kept.{Among, Kept}
+use Rattle.row_laws.specs.of_the_run.Steps.{at_users, call_frame, epoch_id, ends_event, whole, step}
+use Rattle.row_laws.specs.of_the_run.Worlds.{World, Running, Numbered, place_at, links_of, script_of, passed, told_onto, puts, stops_with, acts_of, acts, disk_of}
+use Rattle.row_laws.specs.of_the_run.Runs.{packet_record, run_in}
+use Rattle.row_laws.proofs.of_the_run.Boots.{every_weaker}
 use Rattle.row_laws.specs.of_run_laws.Naming.{DeedsOf}
 use Rattle.row_laws.specs.of_vector_laws.Held.{Untouched}
 use Rattle.row_laws.proofs.of_vector_laws.SiteDisks.{ends_keeps}

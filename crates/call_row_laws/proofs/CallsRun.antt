@@ -21,13 +21,13 @@ use Rattle.role_steps.specs.Tables.{row}
 use Rattle.role_steps.specs.Views.{SiteView, Told, Shown, Outcome, Event, Calls, Receives, Ticks, Parts, Merges, GivesUp}
 use Rattle.role_steps.specs.declared.users.WaitingCall.{WaitingCall}
 use Rattle.tree_model.specs.Folds.{Trace}
-use Rattle.the_run.specs.Disks.{Disk, Booted, Whole, CutOff, Cut, boots, cut_disk, is_on_disk}
-use Rattle.the_run.specs.Kept.{Among}
-use Rattle.the_run.specs.Steps.{epoch_id, step}
-use Rattle.the_run.specs.Worlds.{World, Place, Running, Stopped, Numbered, Line, links_of, place_at, place_in, place_site, script_of, happened, told_onto, disk_of, puts, arms, passed, stops_with, cause_of, cut_told, acts, fresh, formatted, first_place, first_world}
-use Rattle.the_run.specs.Runs.{is_busy, boots_as, packet_record, run_in}
-use Rattle.the_run.proofs.Boots.{at_each, acts_cases}
-use Rattle.the_run.proofs.Events.{happened_keeps, puts_other, puts_same}
+use Rattle.row_laws.specs.of_the_run.Disks.{Disk, Booted, Whole, CutOff, Cut, boots, cut_disk, is_on_disk}
+use Rattle.row_laws.specs.of_the_run.Kept.{Among}
+use Rattle.row_laws.specs.of_the_run.Steps.{epoch_id, step}
+use Rattle.row_laws.specs.of_the_run.Worlds.{World, Place, Running, Stopped, Numbered, Line, links_of, place_at, place_in, place_site, script_of, happened, told_onto, disk_of, puts, arms, passed, stops_with, cause_of, cut_told, acts, fresh, formatted, first_place, first_world}
+use Rattle.row_laws.specs.of_the_run.Runs.{is_busy, boots_as, packet_record, run_in}
+use Rattle.row_laws.proofs.of_the_run.Boots.{at_each, acts_cases}
+use Rattle.row_laws.proofs.of_the_run.Events.{happened_keeps, puts_other, puts_same}
 use Rattle.row_laws.specs.of_run_laws.Naming.{DeedsOf}
 use Rattle.row_laws.specs.Inward.{RoleWrite, ServedRecord}
 use Rattle.row_laws.specs.Shown.{with_told, shown, trace_of, EachRecord}

@@ -21,7 +21,7 @@ use Rattle.role_steps.specs.declared.rounds.Round.{Round}
 use Rattle.role_steps.specs.declared.synchronizing.SyncTable.{SyncTable}
 use Rattle.tree_model.specs.Folds.{Trace}
 use Rattle.tree_model.specs.Epochs.{has_joined}
-use Rattle.the_run.specs.Steps.{epoch_id}
+use Rattle.row_laws.specs.of_the_run.Steps.{epoch_id}
 use Rattle.row_laws.specs.Shown.{with_told}
 use Rattle.row_laws.specs.Inward.{LooksInward}
 use Rattle.row_laws.proofs.Forming.{joined_tables}

@@ -24,7 +24,7 @@ use Rattle.tree_model.specs.Epochs.{is_up, boot_of, calls_accepted}
 use Rattle.tree_model.specs.Calls.{waiting, is_of}
 use Rattle.tree_model.specs.Calls as tree
 use Rattle.row_laws.specs.of_lawful_trace.CallRows.{next_call}
-use Rattle.the_run.specs.Kept.{Among}
+use Rattle.row_laws.specs.of_the_run.Kept.{Among}
 use Rattle.row_laws.specs.Shown.{with_told}
 use Rattle.call_row_laws.specs.Accepting.{AcceptedAs}
 use Rattle.call_row_laws.specs.Serials.{Rises}

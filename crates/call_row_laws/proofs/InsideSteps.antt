@@ -29,9 +29,9 @@ use Rattle.role_steps.specs.declared.rounds.InEpoch.{InEpoch}
 use Rattle.role_steps.specs.declared.synchronizing.FileRow.{FileRow}
 use Rattle.role_steps.specs.declared.synchronizing.SyncTable.{SyncTable}
 use Rattle.tree_model.specs.Folds.{Trace}
-use Rattle.the_run.specs.Kept.{Among}
-use Rattle.the_run.specs.Steps.{from_user, group_of, at_store, at_users, at_pulls, at_table_of, is_opened_in, takes_inside, takes_framed, adopts_of, tries_at, starts_mends_of, epoch_id}
-use Rattle.the_run.proofs.InsideSync.{Found, every_row, row_found, first_found}
+use Rattle.row_laws.specs.of_the_run.Kept.{Among}
+use Rattle.row_laws.specs.of_the_run.Steps.{from_user, group_of, at_store, at_users, at_pulls, at_table_of, is_opened_in, takes_inside, takes_framed, adopts_of, tries_at, starts_mends_of, epoch_id}
+use Rattle.row_laws.proofs.of_the_run.InsideSync.{Found, every_row, row_found, first_found}
 use Rattle.row_laws.specs.Inward.{AllServed, LooksInward, TableInwardly}
 use Rattle.row_laws.proofs.Walks.{on_opened_inward, on_open_inward, on_look_inward, on_report_inward, on_closed_inward, have_ok, on_have_inward, on_open_ss_serves, on_close_serves, on_closed_ok_serves, on_look_ss_serves, on_pull_serves, on_op_serves, on_notify_serves, on_page_serves}
 use Rattle.call_row_laws.specs.Serials.{Owned}

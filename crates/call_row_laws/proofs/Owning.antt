@@ -10,7 +10,7 @@ use Rattle.role_steps.specs.Using.{last_opened, no_serial}
 use Rattle.role_steps.specs.declared.users.WaitingCall.{WaitingCall}
 use Rattle.role_steps.specs.declared.users.DescriptorRow.{DescriptorRow}
 use Rattle.role_steps.specs.declared.users.UserInstance.{UserInstance}
-use Rattle.the_run.specs.Kept.{Among}
+use Rattle.row_laws.specs.of_the_run.Kept.{Among}
 use Rattle.call_row_laws.specs.Scripts.{EndsOpened}
 use Rattle.call_row_laws.specs.Serials.{Holds, serial_of, IsOpenIn, HasInstance, AsksOperation, HasOpened, Owned}
 use Rattle.call_row_laws.proofs.Rising.{key_case, put_rises, put_there, put_keeps, put_old, taken_rises, taken_keeps, taken_old}

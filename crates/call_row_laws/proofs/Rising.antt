@@ -4,7 +4,7 @@ use Rattle.std.proofs.lemmas.Bool.Decides.{nat_tests}
 use Rattle.role_steps.proofs.of_plain_facts.Numbers.{apart, equal}
 use Rattle.role_steps.proofs.of_plain_facts.Options.{none_some, some_same}
 use Rattle.role_steps.specs.Tables.{row, with_row, without_row, first_that}
-use Rattle.the_run.specs.Kept.{Among}
+use Rattle.row_laws.specs.of_the_run.Kept.{Among}
 use Rattle.call_row_laws.specs.Serials.{Rises}
 
 -- ---- tests ----

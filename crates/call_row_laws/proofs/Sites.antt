@@ -10,8 +10,8 @@ use Rattle.role_steps.specs.Views.{Users, SiteView, Told, Shown, Outcome, quiet,
 use Rattle.role_steps.specs.declared.rounds.InEpoch.{InEpoch}
 use Rattle.role_steps.proofs.Sending.{every_append}
 use Rattle.tree_model.specs.Folds.{Trace}
-use Rattle.the_run.specs.Steps.{epoch_id, at_users}
-use Rattle.the_run.proofs.Boots.{every_weaker}
+use Rattle.row_laws.specs.of_the_run.Steps.{epoch_id, at_users}
+use Rattle.row_laws.proofs.of_the_run.Boots.{every_weaker}
 use Rattle.row_laws.specs.Shown.{with_told}
 use Rattle.row_laws.specs.Inward.{ServedRecord, ServedTold, LooksInward}
 use Rattle.call_row_laws.specs.Serials.{Owned}

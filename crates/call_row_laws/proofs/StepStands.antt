@@ -13,8 +13,8 @@ use Rattle.role_steps.specs.declared.rounds.InEpoch.{InEpoch}
 use Rattle.role_steps.specs.declared.users.WaitingCall.{WaitingCall}
 use Rattle.role_steps.proofs.Sending.{every_append}
 use Rattle.tree_model.specs.Folds.{Trace}
-use Rattle.the_run.specs.Kept.{Among}
-use Rattle.the_run.specs.Steps.{is_dropped, takes, tries_at, adopts_in, starts_mends_of, ends_event, whole, call_frame, epoch_id, takes_call, step}
+use Rattle.row_laws.specs.of_the_run.Kept.{Among}
+use Rattle.row_laws.specs.of_the_run.Steps.{is_dropped, takes, tries_at, adopts_in, starts_mends_of, ends_event, whole, call_frame, epoch_id, takes_call, step}
 use Rattle.call_row_laws.specs.Serials.{Owned}
 use Rattle.call_row_laws.specs.Waiting.{after, OfSite}
 use Rattle.call_row_laws.specs.Standing.{UsersDo, WasIn, Stands, AllNew, SiteDone, SiteDoes}

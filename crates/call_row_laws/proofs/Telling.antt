@@ -10,10 +10,10 @@ use Rattle.trace_book.specs.declared.record.Record.TheVariants as says
 use Rattle.wire_messages.specs.declared.packet.Packet.{Packet}
 use Rattle.role_steps.specs.Views.{SiteView, Told, Shown, Outcome}
 use Rattle.tree_model.specs.Folds.{Trace}
-use Rattle.the_run.specs.Disks.{Armed, Booted, Whole, CutOff, cut_disk}
-use Rattle.the_run.specs.Worlds.{World, Running, Line, told_onto, happened, puts, arms, stops_with, cause_of, cut_told, acts}
-use Rattle.the_run.specs.Runs.{boots_as}
-use Rattle.the_run.proofs.Boots.{acts_cases}
+use Rattle.row_laws.specs.of_the_run.Disks.{Armed, Booted, Whole, CutOff, cut_disk}
+use Rattle.row_laws.specs.of_the_run.Worlds.{World, Running, Line, told_onto, happened, puts, arms, stops_with, cause_of, cut_told, acts}
+use Rattle.row_laws.specs.of_the_run.Runs.{boots_as}
+use Rattle.row_laws.proofs.of_the_run.Boots.{acts_cases}
 use Rattle.row_laws.specs.of_lawful_trace.Places.{line_at}
 use Rattle.row_laws.specs.of_lawful_trace.LineRows.{is_told}
 use Rattle.row_laws.specs.Shown.{shown, trace_of, EachRecord}

@@ -12,7 +12,7 @@ use Rattle.schedule_lines.specs.declared.line.ScheduleLine.{ScheduleLine}
 use Rattle.schedule_lines.specs.declared.line.ScheduleLine.TheVariants.{Passed}
 use Rattle.schedule_lines.specs.Cluster.{config_of}
 use Rattle.tree_model.specs.Folds.{Trace}
-use Rattle.the_run.specs.Runs.{run}
+use Rattle.row_laws.specs.of_the_run.Runs.{run}
 use Rattle.row_laws.specs.of_lawful_trace.Places.{line_at}
 use Rattle.row_laws.specs.of_lawful_trace.CallRows.{CallRow}
 use Rattle.row_laws.specs.of_lawful_trace.LineRows.{is_told}

@@ -36,7 +36,7 @@ use Rattle.role_steps.specs.declared.users.WaitingCall.{WaitingCall}
 use Rattle.role_steps.specs.declared.users.DescriptorRow.{DescriptorRow}
 use Rattle.role_steps.specs.declared.users.UserInstance.{UserInstance}
 use Rattle.tree_model.specs.Folds.{Trace}
-use Rattle.the_run.specs.Kept.{Among}
+use Rattle.row_laws.specs.of_the_run.Kept.{Among}
 use Rattle.call_row_laws.specs.Scripts.{EndsOpened, HasRead, HoldsOpened, GivesRead, ClosedReply, Closed}
 use Rattle.call_row_laws.specs.Serials.{AsksUnder, Opens, OpenedBy, Frees, Own, Holds, serial_of, IsOpenIn, HasInstance, AsksOperation, HasOpened, Owned}
 use Rattle.call_row_laws.specs.Waiting.{after, Waits, Goes, SameCall}

@@ -21,12 +21,12 @@ use Rattle.role_steps.specs.declared.users.WaitingCall.{WaitingCall}
 use Rattle.tree_model.specs.Folds.{Trace}
 use Rattle.tree_model.specs.Epochs.{is_up}
 use Rattle.tree_model.specs.Calls.{waiting, waiting_of, is_of}
-use Rattle.the_run.specs.Disks.{Cut, Booted, Whole, CutOff, cut_disk, is_on_disk}
-use Rattle.the_run.specs.Kept.{Among}
-use Rattle.the_run.specs.Worlds.{World, Place, Running, Stopped, Line, place_at, told_onto, happened, puts, arms, stops_with, cause_of, cut_told, acts}
-use Rattle.the_run.specs.Runs.{is_busy, boots_as}
-use Rattle.the_run.proofs.Boots.{acts_cases}
-use Rattle.the_run.proofs.Events.{happened_keeps}
+use Rattle.row_laws.specs.of_the_run.Disks.{Cut, Booted, Whole, CutOff, cut_disk, is_on_disk}
+use Rattle.row_laws.specs.of_the_run.Kept.{Among}
+use Rattle.row_laws.specs.of_the_run.Worlds.{World, Place, Running, Stopped, Line, place_at, told_onto, happened, puts, arms, stops_with, cause_of, cut_told, acts}
+use Rattle.row_laws.specs.of_the_run.Runs.{is_busy, boots_as}
+use Rattle.row_laws.proofs.of_the_run.Boots.{acts_cases}
+use Rattle.row_laws.proofs.of_the_run.Events.{happened_keeps}
 use Rattle.row_laws.specs.of_lawful_trace.LineRows.{may_be_void, has_no_effect}
 use Rattle.row_laws.specs.Inward.{RoleWrite}
 use Rattle.row_laws.specs.Shown.{with_told, shown, trace_of, EachRecord}

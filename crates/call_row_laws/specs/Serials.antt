@@ -16,7 +16,7 @@ use Rattle.role_steps.specs.declared.users.Asking.TheVariants as asking
 use Rattle.role_steps.specs.declared.users.WaitingCall.{WaitingCall}
 use Rattle.role_steps.specs.declared.users.DescriptorRow.{DescriptorRow}
 use Rattle.role_steps.specs.declared.users.UserInstance.{UserInstance}
-use Rattle.the_run.specs.Kept.{Among}
+use Rattle.row_laws.specs.of_the_run.Kept.{Among}
 use Rattle.call_row_laws.specs.Scripts.{EndsOpened}
 
 -- the keys ascend, from this one on

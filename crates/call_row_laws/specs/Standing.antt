@@ -8,8 +8,8 @@ use Rattle.role_steps.specs.Views.{Users, SiteView, Told, Shown, Outcome}
 use Rattle.role_steps.specs.declared.rounds.InEpoch.{InEpoch}
 use Rattle.tree_model.specs.Folds.{Trace}
 use Rattle.tree_model.specs.Epochs.{has_joined}
-use Rattle.the_run.specs.Steps.{epoch_id}
-use Rattle.the_run.specs.Worlds.{World, Place, Running, Stopped, place_at}
+use Rattle.row_laws.specs.of_the_run.Steps.{epoch_id}
+use Rattle.row_laws.specs.of_the_run.Worlds.{World, Place, Running, Stopped, place_at}
 use Rattle.row_laws.specs.Shown.{with_told, trace_of, EachRecord}
 use Rattle.row_laws.specs.Inward.{LooksInward}
 use Rattle.call_row_laws.specs.Accepting.{IsAcceptRow}

@@ -12,7 +12,7 @@ use Rattle.tree_model.specs.declared.accepted.Waiting.{Waiting}
 use Rattle.tree_model.specs.Folds.{Trace}
 use Rattle.tree_model.specs.Epochs.{is_up, boot_of, calls_accepted}
 use Rattle.tree_model.specs.Calls.{waiting}
-use Rattle.the_run.specs.Kept.{Among}
+use Rattle.row_laws.specs.of_the_run.Kept.{Among}
 use Rattle.row_laws.specs.Shown.{with_told}
 use Rattle.call_row_laws.specs.Accepting.{AcceptRecord}
 use Rattle.call_row_laws.specs.Serials.{Rises}

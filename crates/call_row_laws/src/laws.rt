@@ -1,7 +1,7 @@
 ghost use Rattle.std.specs.Prelude.{◌≡◌, List, length, None};
 ghost use Rattle.locus_ids.specs.declared.config.Config.{Config};
 ghost use Rattle.schedule_lines.specs.declared.line.ScheduleLine.{ScheduleLine};
-ghost use Rattle.the_run.specs.Runs.{run, run_in};
+ghost use Rattle.row_laws.specs.of_the_run.Runs.{run, run_in};
 ghost use Rattle.row_laws.specs.of_lawful_trace.Lawful.{IsLawful};
 ghost use Rattle.row_laws.specs.Shown.{EachRecord, trace_of};
 ghost use Rattle.row_laws.specs.Voids.{LinesFit};

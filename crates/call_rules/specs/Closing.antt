@@ -1,7 +1,7 @@
 -- How a call ends: what it opened for itself is closed, in the order in which its script names it.
 use Rattle.std.specs.Prelude.{List, [], ◌∷◌}
-use Rattle.locus_ids.specs.declared.ids.Serial.{Serial}
-use Rattle.locus_ids.specs.declared.refusal.Refusal.{Refusal}
+use Rattle.trace_book.specs.of_locus_ids.declared.ids.Serial.{Serial}
+use Rattle.trace_book.specs.of_locus_ids.declared.refusal.Refusal.{Refusal}
 use Rattle.trace_book.specs.declared.operation.Op.TheVariants as op
 use Rattle.trace_book.specs.declared.reply.Reply.{Reply}
 use Rattle.trace_book.specs.declared.reply.Reply.TheVariants as reply

@@ -1,9 +1,9 @@
 -- The descriptors of a process as a function from numbers, and where an accepted call begins by them.
 use Rattle.std.specs.Prelude.{ℕ, zero, suc, ◌+◌, Bool, true, false, cond, Option, None, Some}
-use Rattle.locus_ids.specs.declared.ids.EpochId.{EpochId}
-use Rattle.locus_ids.specs.declared.ids.CallId.{CallId}
-use Rattle.locus_ids.specs.declared.refusal.Refusal.TheVariants.{BadDescriptor, Stale, ReadOnly, NoDescriptor, NoPartition, TooLong}
-use Rattle.locus_ids.specs.Sizes.{descriptors_max}
+use Rattle.trace_book.specs.of_locus_ids.declared.ids.EpochId.{EpochId}
+use Rattle.trace_book.specs.of_locus_ids.declared.ids.CallId.{CallId}
+use Rattle.trace_book.specs.of_locus_ids.declared.refusal.Refusal.TheVariants.{BadDescriptor, Stale, ReadOnly, NoDescriptor, NoPartition, TooLong}
+use Rattle.trace_book.specs.of_locus_ids.Sizes.{descriptors_max}
 use Rattle.commit_graph.specs.Grants.{is_read}
 use Rattle.trace_book.specs.Same.{same_epoch}
 use Rattle.trace_book.specs.declared.call.Call.{Call}

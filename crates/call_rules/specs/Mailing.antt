@@ -1,8 +1,8 @@
 -- mail and mails. A box is a directory, and a message is a file in it under the name of its call, which no other mail gives.
 use Rattle.std.specs.Prelude.{ℕ, List, [], ◌∷◌, None}
-use Rattle.locus_ids.specs.declared.ids.CallId.{CallId}
-use Rattle.locus_ids.specs.declared.ids.Kind.TheVariants.{File}
-use Rattle.locus_ids.specs.declared.config.Mount.{Mount}
+use Rattle.trace_book.specs.of_locus_ids.declared.ids.CallId.{CallId}
+use Rattle.trace_book.specs.of_locus_ids.declared.ids.Kind.TheVariants.{File}
+use Rattle.trace_book.specs.of_locus_ids.declared.config.Mount.{Mount}
 use Rattle.trace_book.specs.declared.reply.Reply.{Reply}
 use Rattle.trace_book.specs.declared.reply.Reply.TheVariants as reply
 use Rattle.trace_book.specs.Names.{components, last_of}

@@ -1,13 +1,13 @@
 -- What makes a file: open the directory, probe the name, make the file, write it if it begins with some bytes, close it, insert the
 -- entry, close the directory. create and mkdir make empty ones.
 use Rattle.std.specs.Prelude.{ℕ, List, [], ◌∷◌, Option}
-use Rattle.locus_ids.specs.declared.ids.FileId.{FileId}
-use Rattle.locus_ids.specs.declared.ids.Serial.{Serial}
-use Rattle.locus_ids.specs.declared.ids.Kind.{Kind}
-use Rattle.locus_ids.specs.declared.ids.Kind.TheVariants.{File, Dir}
-use Rattle.locus_ids.specs.declared.sites.Sites.{Sites}
-use Rattle.locus_ids.specs.declared.config.Mount.{Mount}
-use Rattle.locus_ids.specs.declared.refusal.Refusal.TheVariants.{NotDir}
+use Rattle.trace_book.specs.of_locus_ids.declared.ids.FileId.{FileId}
+use Rattle.trace_book.specs.of_locus_ids.declared.ids.Serial.{Serial}
+use Rattle.trace_book.specs.of_locus_ids.declared.ids.Kind.{Kind}
+use Rattle.trace_book.specs.of_locus_ids.declared.ids.Kind.TheVariants.{File, Dir}
+use Rattle.trace_book.specs.of_locus_ids.declared.sites.Sites.{Sites}
+use Rattle.trace_book.specs.of_locus_ids.declared.config.Mount.{Mount}
+use Rattle.trace_book.specs.of_locus_ids.declared.refusal.Refusal.TheVariants.{NotDir}
 use Rattle.trace_book.specs.declared.call.OpenMode.TheVariants as how
 use Rattle.trace_book.specs.declared.operation.Op.TheVariants as op
 use Rattle.trace_book.specs.declared.reply.Reply.{Reply}

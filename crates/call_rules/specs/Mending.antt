@@ -1,8 +1,8 @@
 -- mend: open the directory, look at the whole of each kept version, mend, close.
 use Rattle.std.specs.Prelude.{List, [], ◌∷◌}
-use Rattle.locus_ids.specs.declared.ids.FileId.{FileId}
-use Rattle.locus_ids.specs.declared.ids.Stamp.{Stamp}
-use Rattle.locus_ids.specs.declared.ids.Serial.{Serial}
+use Rattle.trace_book.specs.of_locus_ids.declared.ids.FileId.{FileId}
+use Rattle.trace_book.specs.of_locus_ids.declared.ids.Stamp.{Stamp}
+use Rattle.trace_book.specs.of_locus_ids.declared.ids.Serial.{Serial}
 use Rattle.trace_book.specs.declared.operation.Op.TheVariants as op
 use Rattle.trace_book.specs.declared.operation.What.TheVariants as what
 use Rattle.trace_book.specs.declared.reply.Reply.TheVariants as reply

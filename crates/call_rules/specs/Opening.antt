@@ -4,14 +4,14 @@ use Rattle.std.specs.Ordering.{nat_cmp}
 use Rattle.std.specs.Cmp.Lexicographic.{slice_cmp}
 use Rattle.std.specs.declared.cmp.Ordering.{Ordering}
 use Rattle.std.specs.declared.cmp.Ordering.TheVariants.{Less, Equal, Greater}
-use Rattle.locus_ids.specs.declared.ids.FileId.{FileId}
-use Rattle.locus_ids.specs.declared.ids.Serial.{Serial}
-use Rattle.locus_ids.specs.declared.ids.Mode.{Mode}
-use Rattle.locus_ids.specs.declared.ids.Mode.TheVariants as mode
-use Rattle.locus_ids.specs.declared.ids.Kind.{Kind}
-use Rattle.locus_ids.specs.declared.ids.Kind.TheVariants.{File, Dir}
-use Rattle.locus_ids.specs.declared.config.Mount.{Mount}
-use Rattle.locus_ids.specs.declared.refusal.Refusal.TheVariants.{NotDir, IsDir}
+use Rattle.trace_book.specs.of_locus_ids.declared.ids.FileId.{FileId}
+use Rattle.trace_book.specs.of_locus_ids.declared.ids.Serial.{Serial}
+use Rattle.trace_book.specs.of_locus_ids.declared.ids.Mode.{Mode}
+use Rattle.trace_book.specs.of_locus_ids.declared.ids.Mode.TheVariants as mode
+use Rattle.trace_book.specs.of_locus_ids.declared.ids.Kind.{Kind}
+use Rattle.trace_book.specs.of_locus_ids.declared.ids.Kind.TheVariants.{File, Dir}
+use Rattle.trace_book.specs.of_locus_ids.declared.config.Mount.{Mount}
+use Rattle.trace_book.specs.of_locus_ids.declared.refusal.Refusal.TheVariants.{NotDir, IsDir}
 use Rattle.trace_book.specs.declared.call.Call.{Call}
 use Rattle.trace_book.specs.declared.call.Call.TheVariants as call
 use Rattle.trace_book.specs.declared.call.OpenMode.{OpenMode}

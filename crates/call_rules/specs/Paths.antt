@@ -2,7 +2,7 @@
 -- name apart.
 use Rattle.std.specs.Prelude.{ℕ, ◌+◌, ◌-◌, ◌*◌, ◌==◌, Bool, true, false, not, ◌&&◌, cond, List, [], ◌∷◌, length, Option, None, Some, nat_le}
 use Rattle.std.specs.List.{list_all}
-use Rattle.locus_ids.specs.Sizes.{inodes_max}
+use Rattle.trace_book.specs.of_locus_ids.Sizes.{inodes_max}
 use Rattle.trace_book.specs.Names.{is_name, plain_name, components}
 
 -- what stands behind the first `@`, if there is one

@@ -1,11 +1,11 @@
 -- unlink and rmdir: open the directory, find the name, open what it means, see that a directory shows no name, remove the
 -- entry, close the directory and then the other.
 use Rattle.std.specs.Prelude.{ℕ, List, [], ◌∷◌}
-use Rattle.locus_ids.specs.declared.ids.Serial.{Serial}
-use Rattle.locus_ids.specs.declared.ids.Kind.{Kind}
-use Rattle.locus_ids.specs.declared.ids.Kind.TheVariants.{File, Dir}
-use Rattle.locus_ids.specs.declared.config.Mount.{Mount}
-use Rattle.locus_ids.specs.declared.refusal.Refusal.TheVariants.{NotDir, IsDir}
+use Rattle.trace_book.specs.of_locus_ids.declared.ids.Serial.{Serial}
+use Rattle.trace_book.specs.of_locus_ids.declared.ids.Kind.{Kind}
+use Rattle.trace_book.specs.of_locus_ids.declared.ids.Kind.TheVariants.{File, Dir}
+use Rattle.trace_book.specs.of_locus_ids.declared.config.Mount.{Mount}
+use Rattle.trace_book.specs.of_locus_ids.declared.refusal.Refusal.TheVariants.{NotDir, IsDir}
 use Rattle.trace_book.specs.declared.call.OpenMode.TheVariants as how
 use Rattle.trace_book.specs.declared.operation.Op.TheVariants as op
 use Rattle.trace_book.specs.declared.operation.Outcome.TheVariants as outcome

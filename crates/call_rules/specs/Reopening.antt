@@ -1,9 +1,9 @@
 -- A read by a steady descriptor that no instance holds: its file is opened again to read. Where the version granted is the one that the
 -- descriptor keeps, that is read; where it is another, the instance is closed, and the refusal names the epoch that held the descriptor last.
 use Rattle.std.specs.Prelude.{ℕ, cond, List, [], ◌∷◌}
-use Rattle.locus_ids.specs.declared.ids.EpochId.{EpochId}
-use Rattle.locus_ids.specs.declared.ids.Serial.{Serial}
-use Rattle.locus_ids.specs.declared.refusal.Refusal.TheVariants.{Stale}
+use Rattle.trace_book.specs.of_locus_ids.declared.ids.EpochId.{EpochId}
+use Rattle.trace_book.specs.of_locus_ids.declared.ids.Serial.{Serial}
+use Rattle.trace_book.specs.of_locus_ids.declared.refusal.Refusal.TheVariants.{Stale}
 use Rattle.commit_graph.specs.Versions.{same_stamp}
 use Rattle.trace_book.specs.declared.call.Call.{Call}
 use Rattle.trace_book.specs.declared.call.Call.TheVariants as call

@@ -1,11 +1,11 @@
 -- A small cluster and some words, to see what the rules say of them.
 use Rattle.std.specs.Prelude.{ℕ, ◌==◌, true, cond, List, [], ◌∷◌, Option, None, Some, codes}
-use Rattle.locus_ids.specs.declared.ids.CallId.{CallId}
-use Rattle.locus_ids.specs.declared.ids.EpochId.{EpochId}
-use Rattle.locus_ids.specs.declared.ids.FileId.{FileId}
-use Rattle.locus_ids.specs.declared.ids.Mode.TheVariants as mode
-use Rattle.locus_ids.specs.declared.ids.Serial.{Serial}
-use Rattle.locus_ids.specs.declared.config.Mount.{Mount}
+use Rattle.trace_book.specs.of_locus_ids.declared.ids.CallId.{CallId}
+use Rattle.trace_book.specs.of_locus_ids.declared.ids.EpochId.{EpochId}
+use Rattle.trace_book.specs.of_locus_ids.declared.ids.FileId.{FileId}
+use Rattle.trace_book.specs.of_locus_ids.declared.ids.Mode.TheVariants as mode
+use Rattle.trace_book.specs.of_locus_ids.declared.ids.Serial.{Serial}
+use Rattle.trace_book.specs.of_locus_ids.declared.config.Mount.{Mount}
 use Rattle.trace_book.specs.declared.call.Call.{Call}
 use Rattle.trace_book.specs.declared.descriptor.Descriptor.{Descriptor}
 use Rattle.trace_book.specs.declared.descriptor.OneVersion.{OneVersion}

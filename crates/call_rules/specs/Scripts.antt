@@ -1,10 +1,10 @@
 -- The scripts of calls: what a call asks next, by its words, the cluster, where it began, and what its requests were
 -- answered so far, the earliest answer first.
 use Rattle.std.specs.Prelude.{ℕ, Bool, true, false, cond, List, Option, None}
-use Rattle.locus_ids.specs.declared.ids.CallId.{CallId}
-use Rattle.locus_ids.specs.declared.ids.Kind.TheVariants.{File, Dir}
-use Rattle.locus_ids.specs.declared.config.Mount.{Mount}
-use Rattle.locus_ids.specs.declared.refusal.Refusal.TheVariants.{BadName, NoStorage}
+use Rattle.trace_book.specs.of_locus_ids.declared.ids.CallId.{CallId}
+use Rattle.trace_book.specs.of_locus_ids.declared.ids.Kind.TheVariants.{File, Dir}
+use Rattle.trace_book.specs.of_locus_ids.declared.config.Mount.{Mount}
+use Rattle.trace_book.specs.of_locus_ids.declared.refusal.Refusal.TheVariants.{BadName, NoStorage}
 use Rattle.trace_book.specs.declared.call.Call.{Call}
 use Rattle.trace_book.specs.declared.call.Call.TheVariants as call
 use Rattle.trace_book.specs.declared.descriptor.Beginning.{Beginning}

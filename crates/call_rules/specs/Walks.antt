@@ -1,12 +1,12 @@
 -- How a path is walked: one look a component, but a mount name of the root of group 0 is passed without a look.
 use Rattle.std.specs.Prelude.{ℕ, ◌==◌, ◌&&◌, Bool, cond, List, [], ◌∷◌, Option, None, Some}
 use Rattle.std.specs.Str.{bytes_eq}
-use Rattle.locus_ids.specs.declared.ids.FileId.{FileId}
-use Rattle.locus_ids.specs.declared.ids.Kind.{Kind}
-use Rattle.locus_ids.specs.declared.ids.Kind.TheVariants.{File, Dir}
-use Rattle.locus_ids.specs.declared.config.Mount.{Mount}
-use Rattle.locus_ids.specs.declared.refusal.Refusal.{Refusal}
-use Rattle.locus_ids.specs.declared.refusal.Refusal.TheVariants.{NotDir}
+use Rattle.trace_book.specs.of_locus_ids.declared.ids.FileId.{FileId}
+use Rattle.trace_book.specs.of_locus_ids.declared.ids.Kind.{Kind}
+use Rattle.trace_book.specs.of_locus_ids.declared.ids.Kind.TheVariants.{File, Dir}
+use Rattle.trace_book.specs.of_locus_ids.declared.config.Mount.{Mount}
+use Rattle.trace_book.specs.of_locus_ids.declared.refusal.Refusal.{Refusal}
+use Rattle.trace_book.specs.of_locus_ids.declared.refusal.Refusal.TheVariants.{NotDir}
 use Rattle.trace_book.specs.declared.operation.What.TheVariants as what
 use Rattle.trace_book.specs.declared.reply.Reply.TheVariants as reply
 use Rattle.call_rules.specs.declared.answer.Answer.{Answer}

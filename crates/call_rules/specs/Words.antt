@@ -1,10 +1,10 @@
 -- What the words of a call refuse by themselves, whatever the site and its tables are.
 use Rattle.std.specs.Prelude.{ℕ, ◌+◌, ◌==◌, Bool, false, not, ◌&&◌, cond, List, length, Option, None, Some, nat_lt}
 use Rattle.std.specs.Option.{is_some}
-use Rattle.locus_ids.specs.declared.config.Mount.{Mount}
-use Rattle.locus_ids.specs.declared.refusal.Refusal.{Refusal}
-use Rattle.locus_ids.specs.declared.refusal.Refusal.TheVariants.{BadName, TooLong}
-use Rattle.locus_ids.specs.Sizes.{file_bytes_max}
+use Rattle.trace_book.specs.of_locus_ids.declared.config.Mount.{Mount}
+use Rattle.trace_book.specs.of_locus_ids.declared.refusal.Refusal.{Refusal}
+use Rattle.trace_book.specs.of_locus_ids.declared.refusal.Refusal.TheVariants.{BadName, TooLong}
+use Rattle.trace_book.specs.of_locus_ids.Sizes.{file_bytes_max}
 use Rattle.trace_book.specs.Names.{is_name, components, last_of}
 use Rattle.trace_book.specs.declared.call.Call.{Call}
 use Rattle.trace_book.specs.declared.call.Call.TheVariants as call

@@ -1,4 +1,4 @@
-use locus_ids::{Kind, Names, Refusal, Serial, Stamp, Stamps};
+use trace_book::locus_ids::{Kind, Names, Refusal, Serial, Stamp, Stamps};
 use trace_book::{OneVersion, Outcome};
 
 /// What a request of a call was answered.

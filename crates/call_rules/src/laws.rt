@@ -1,11 +1,11 @@
 ghost use Rattle.std.specs.Prelude.{◌≡◌, ℕ, Bool, true, false, List, [], ◌∷◌, Option, None, Some, codes, replicate, ◌-◌};
-ghost use Rattle.locus_ids.specs.declared.ids.CallId.{CallId};
-ghost use Rattle.locus_ids.specs.declared.ids.EpochId.{EpochId};
-ghost use Rattle.locus_ids.specs.declared.ids.Kind.TheVariants as kind;
-ghost use Rattle.locus_ids.specs.declared.config.Mount.{Mount};
-ghost use Rattle.locus_ids.specs.declared.refusal.Refusal.{Refusal};
-ghost use Rattle.locus_ids.specs.declared.refusal.Refusal.TheVariants as refusal;
-ghost use Rattle.locus_ids.specs.Sizes.{file_bytes_max};
+ghost use Rattle.trace_book.specs.of_locus_ids.declared.ids.CallId.{CallId};
+ghost use Rattle.trace_book.specs.of_locus_ids.declared.ids.EpochId.{EpochId};
+ghost use Rattle.trace_book.specs.of_locus_ids.declared.ids.Kind.TheVariants as kind;
+ghost use Rattle.trace_book.specs.of_locus_ids.declared.config.Mount.{Mount};
+ghost use Rattle.trace_book.specs.of_locus_ids.declared.refusal.Refusal.{Refusal};
+ghost use Rattle.trace_book.specs.of_locus_ids.declared.refusal.Refusal.TheVariants as refusal;
+ghost use Rattle.trace_book.specs.of_locus_ids.Sizes.{file_bytes_max};
 ghost use Rattle.trace_book.specs.declared.call.Call.{Call};
 ghost use Rattle.trace_book.specs.declared.call.Call.TheVariants as words;
 ghost use Rattle.trace_book.specs.declared.call.OpenMode.TheVariants as how;

@@ -1,4 +1,4 @@
-use locus_ids::{FileId, Kind, Serial, Sites};
+use trace_book::locus_ids::{FileId, Kind, Serial, Sites};
 use trace_book::{Op, OpenMode, Reply, What};
 
 /// What a call asks next, or the reply that it is given.

@@ -15,7 +15,7 @@ use Rattle.role_steps.specs.Views.{SiteView}
 use Rattle.role_steps.specs.declared.copies.FileCopy.{FileCopy}
 use Rattle.role_steps.specs.declared.rounds.InEpoch.{InEpoch}
 use Rattle.the_run.specs.Worlds.{World, Running, Line, place_at}
-use Rattle.sync_laws.proofs.Orderly.{below_through}
+use Rattle.pull_laws.proofs.of_sync_laws.Orderly.{below_through}
 use Rattle.tree_model.specs.Files.{version_of}
 use Rattle.tree_model.specs.Histories.{history, held}
 use Rattle.tree_laws.specs.Instances.{HasAtLeast, Stands, held_in}
@@ -23,11 +23,11 @@ use Rattle.tree_laws.specs.Printed.{entries}
 use Rattle.tree_laws.specs.Stores.{copy_for}
 use Rattle.tree_laws.proofs.Histories.{stands_more, vector_same}
 use Rattle.tree_laws.proofs.Rows.{followed_rows}
-use Rattle.holding_laws.proofs.Ancestors.{ancestor_own}
-use Rattle.holding_laws.proofs.Below.{commits_new, packs_hold}
-use Rattle.holding_laws.proofs.Holding.{sites_hold}
-use Rattle.holding_laws.proofs.Made.{held_stand}
-use Rattle.holding_laws.proofs.Rising.{held_rises}
+use Rattle.pull_laws.proofs.of_holding_laws.Ancestors.{ancestor_own}
+use Rattle.pull_laws.proofs.of_holding_laws.Below.{commits_new, packs_hold}
+use Rattle.pull_laws.proofs.of_holding_laws.Holding.{sites_hold}
+use Rattle.pull_laws.proofs.of_holding_laws.Made.{held_stand}
+use Rattle.pull_laws.proofs.of_holding_laws.Rising.{held_rises}
 use Rattle.pull_laws.specs.of_one_tree_laws.Places.{InsideFact}
 use Rattle.pull_laws.specs.of_one_tree_laws.Rest.{IsRest, Past}
 use Rattle.pull_laws.proofs.of_one_tree_laws.Staying.{rest_below}

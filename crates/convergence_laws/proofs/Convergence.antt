@@ -22,8 +22,8 @@ use Rattle.the_run.specs.Kept.{Among}
 use Rattle.the_run.specs.Runs.{arrives, next_packet, ticks_to, run_in}
 use Rattle.the_run.specs.Worlds.{World, Running, Numbered, place_at}
 use Rattle.lawful_trace.specs.Places.{lines_before}
-use Rattle.make_laws.specs.Made.{NumberedSender, WorldSent}
-use Rattle.make_laws.proofs.SendersRun.{sent_kept, first_sent}
+use Rattle.pull_laws.specs.of_make_laws.Made.{NumberedSender, WorldSent}
+use Rattle.pull_laws.proofs.of_make_laws.SendersRun.{sent_kept, first_sent}
 use Rattle.orderly_laws.specs.Calm.{IsInside, AreTogether, delivers_next}
 use Rattle.orderly_laws.proofs.Rounds.{next_among}
 use Rattle.calm_laws.specs.Carrying.{IsMember}

@@ -32,8 +32,8 @@ use Rattle.tree_laws.specs.Packets.{file_in}
 use Rattle.tree_laws.specs.Printed.{entries}
 use Rattle.tree_laws.specs.Stores.{Ascends, PullFact}
 use Rattle.tree_laws.specs.Tables.{FileFact, StartedFiles, FilesFact, TableFact, row_stamp}
-use Rattle.make_laws.specs.Made.{NumberedSender, WorldSent}
-use Rattle.make_laws.proofs.SendersRun.{sent_kept, first_sent}
+use Rattle.pull_laws.specs.of_make_laws.Made.{NumberedSender, WorldSent}
+use Rattle.pull_laws.proofs.of_make_laws.SendersRun.{sent_kept, first_sent}
 use Rattle.pull_laws.proofs.of_user_laws.Tabled.{one_row}
 use Rattle.pull_laws.specs.of_one_tree_laws.Places.{InsideFact}
 use Rattle.pull_laws.specs.Pulls.{PullsAscend}

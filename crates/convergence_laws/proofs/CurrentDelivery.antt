@@ -46,9 +46,9 @@ use Rattle.tree_laws.specs.Packets.{BodyFact, NotifyFact}
 use Rattle.tree_laws.specs.Printed.{entries}
 use Rattle.tree_laws.specs.Stores.{Ascends, copy_for, PullFact}
 use Rattle.tree_laws.proofs.Names.{same_epoch_eq}
-use Rattle.make_laws.specs.Made.{WorldSent}
-use Rattle.make_laws.proofs.SendersRun.{sent_kept, first_sent}
-use Rattle.sync_laws.proofs.Orderly.{below_through}
+use Rattle.pull_laws.specs.of_make_laws.Made.{WorldSent}
+use Rattle.pull_laws.proofs.of_make_laws.SendersRun.{sent_kept, first_sent}
+use Rattle.pull_laws.proofs.of_sync_laws.Orderly.{below_through}
 use Rattle.pull_laws.specs.of_one_tree_laws.Places.{NumberedFact}
 use Rattle.pull_laws.specs.of_one_tree_laws.Rest.{Past}
 use Rattle.pull_laws.proofs.of_one_tree_laws.Parts.{tables_rise}

@@ -27,10 +27,10 @@ use Rattle.tree_laws.specs.Packets.{file_in}
 use Rattle.tree_laws.specs.Printed.{entries}
 use Rattle.tree_laws.specs.Stores.{copy_for}
 use Rattle.tree_laws.specs.Tables.{VersionFact, FileFact, StartedFiles, FilesFact, TableFact, row_stamp}
-use Rattle.holding_laws.proofs.Below.{packs_hold}
-use Rattle.holding_laws.proofs.Holding.{sites_hold}
-use Rattle.sync_laws.proofs.Orderly.{below_through}
-use Rattle.sync_laws.proofs.Versions.{row_vector, row_stands}
+use Rattle.pull_laws.proofs.of_holding_laws.Below.{packs_hold}
+use Rattle.pull_laws.proofs.of_holding_laws.Holding.{sites_hold}
+use Rattle.pull_laws.proofs.of_sync_laws.Orderly.{below_through}
+use Rattle.pull_laws.proofs.of_sync_laws.Versions.{row_vector, row_stands}
 use Rattle.pull_laws.specs.of_one_tree_laws.Places.{InsideFact}
 use Rattle.pull_laws.specs.of_one_tree_laws.Rest.{Past}
 use Rattle.pull_laws.proofs.of_one_tree_laws.Staying.{rest_below}

@@ -43,14 +43,14 @@ use Rattle.tree_laws.proofs.Histories.{stands_more}
 use Rattle.tree_laws.proofs.Rows.{followed_rows}
 use Rattle.tree_laws.proofs.Scripts.{named_stays}
 use Rattle.tree_laws.proofs.Waiting.{accepted}
-use Rattle.holding_laws.specs.Held.{IsBelowKept}
-use Rattle.holding_laws.proofs.Below.{commits_new}
-use Rattle.holding_laws.proofs.Holding.{below_kept}
-use Rattle.holding_laws.proofs.OneVersionSingle.{single_stays}
+use Rattle.pull_laws.specs.of_holding_laws.Held.{IsBelowKept}
+use Rattle.pull_laws.proofs.of_holding_laws.Below.{commits_new}
+use Rattle.pull_laws.proofs.of_holding_laws.Holding.{below_kept}
+use Rattle.pull_laws.proofs.of_holding_laws.OneVersionSingle.{single_stays}
 use Rattle.pull_laws.specs.of_one_tree_laws.Rest.{Past}
 use Rattle.pull_laws.proofs.of_one_tree_laws.Staying.{rest_below}
 use Rattle.calm_laws.proofs.of_fit_laws.EntryFacts.{IsPlain}
-use Rattle.holding_laws.proofs.MendMends.{IsMendCall}
+use Rattle.pull_laws.proofs.of_holding_laws.MendMends.{IsMendCall}
 use Rattle.calm_laws.proofs.Lists.{every_among}
 use Rattle.convergence_laws.proofs.DirectoriesKept.{HasKnown, OnlyMends, known_on}
 use Rattle.convergence_laws.proofs.DirectoriesSince.{inside_told, waits_since}

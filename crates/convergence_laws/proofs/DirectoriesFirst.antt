@@ -31,9 +31,9 @@ use Rattle.tree_laws.specs.Printed.{entries}
 use Rattle.tree_laws.specs.Tables.{FilesFact, StartedFiles, TableFact, row_stamp}
 use Rattle.tree_laws.proofs.Rows.{followed_rows}
 use Rattle.order_laws.proofs.ProcessSynchronizing.{sync_same}
-use Rattle.holding_laws.specs.Held.{IsBelowKept}
-use Rattle.holding_laws.proofs.Below.{commits_new}
-use Rattle.holding_laws.proofs.Holding.{below_kept}
+use Rattle.pull_laws.specs.of_holding_laws.Held.{IsBelowKept}
+use Rattle.pull_laws.proofs.of_holding_laws.Below.{commits_new}
+use Rattle.pull_laws.proofs.of_holding_laws.Holding.{below_kept}
 use Rattle.pull_laws.specs.of_one_tree_laws.Places.{InsideFact}
 use Rattle.pull_laws.proofs.of_one_tree_laws.Staying.{rest_below}
 use Rattle.calm_laws.proofs.of_fit_laws.EntryFacts.{IsPlain}

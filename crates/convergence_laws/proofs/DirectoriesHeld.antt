@@ -22,9 +22,9 @@ use Rattle.tree_laws.specs.Past.{WasGranted}
 use Rattle.tree_laws.specs.Printed.{entries}
 use Rattle.tree_laws.specs.Stores.{copy_for}
 use Rattle.tree_laws.specs.Tables.{IsAhead, VersionFact}
-use Rattle.sync_laws.proofs.Notices.{kept_is_known}
-use Rattle.holding_laws.proofs.MendOnly.{only_had}
-use Rattle.holding_laws.proofs.Released.{released_shut}
+use Rattle.pull_laws.proofs.of_sync_laws.Notices.{kept_is_known}
+use Rattle.pull_laws.proofs.of_holding_laws.MendOnly.{only_had}
+use Rattle.pull_laws.proofs.of_holding_laws.Released.{released_shut}
 use Rattle.pull_laws.proofs.of_store_laws.Places.{GrantedSo, instance_granted}
 use Rattle.pull_laws.proofs.of_one_tree_laws.Staying.{rest_below}
 use Rattle.orderly_laws.specs.Calm.{AreTogether}

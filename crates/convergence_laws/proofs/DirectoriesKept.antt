@@ -36,19 +36,19 @@ use Rattle.tree_laws.specs.Past.{WasGranted}
 use Rattle.tree_laws.specs.Printed.{entries, onto_entries}
 use Rattle.tree_laws.proofs.Rows.{followed_rows}
 use Rattle.order_laws.proofs.Keeping.{EndsIn, ends_in, file_eq, known_same, published_same}
-use Rattle.holding_laws.specs.Held.{StandsOnHeld}
-use Rattle.holding_laws.proofs.Ancestors.{ancestor_own}
-use Rattle.holding_laws.proofs.Below.{commits_new, packs_hold}
-use Rattle.holding_laws.proofs.Distinct.{open_now}
-use Rattle.holding_laws.proofs.Holding.{stands_on_held}
-use Rattle.holding_laws.proofs.Released.{released_shut}
-use Rattle.holding_laws.proofs.Rising.{held_rises}
-use Rattle.holding_laws.proofs.Seats.{same_version_is}
+use Rattle.pull_laws.specs.of_holding_laws.Held.{StandsOnHeld}
+use Rattle.pull_laws.proofs.of_holding_laws.Ancestors.{ancestor_own}
+use Rattle.pull_laws.proofs.of_holding_laws.Below.{commits_new, packs_hold}
+use Rattle.pull_laws.proofs.of_holding_laws.Distinct.{open_now}
+use Rattle.pull_laws.proofs.of_holding_laws.Holding.{stands_on_held}
+use Rattle.pull_laws.proofs.of_holding_laws.Released.{released_shut}
+use Rattle.pull_laws.proofs.of_holding_laws.Rising.{held_rises}
+use Rattle.pull_laws.proofs.of_holding_laws.Seats.{same_version_is}
 use Rattle.pull_laws.proofs.of_store_laws.Places.{GrantedSo, instance_granted}
 use Rattle.pull_laws.specs.of_one_tree_laws.Rest.{Past}
 use Rattle.pull_laws.proofs.of_one_tree_laws.Staying.{rest_below}
 use Rattle.calm_laws.proofs.of_fit_laws.EntryFacts.{IsPlain}
-use Rattle.holding_laws.proofs.MendMends.{IsMendCall}
+use Rattle.pull_laws.proofs.of_holding_laws.MendMends.{IsMendCall}
 use Rattle.convergence_laws.proofs.DirectoriesMode.{IsToMend, mend_mode}
 use Rattle.convergence_laws.proofs.DirectoriesOpeners.{grantee, waits_or_plain}
 

@@ -38,7 +38,7 @@ use Rattle.tree_laws.specs.Printed.{entries}
 use Rattle.order_laws.proofs.Standing.{same_file_eq}
 use Rattle.pull_laws.proofs.of_store_laws.ScriptNaming.{script_by, BeganOpening, BeganSo, openers_begin}
 use Rattle.pull_laws.proofs.of_one_tree_laws.RemovePlaced.{GrantedSo, Placed, granted_placed}
-use Rattle.holding_laws.proofs.MendMends.{IsMendCall}
+use Rattle.pull_laws.proofs.of_holding_laws.MendMends.{IsMendCall}
 use Rattle.order_laws.specs.Joining.{PacksAreOfSites}
 use Rattle.convergence_laws.proofs.DirectoriesOpeners.{opening_there}
 

@@ -19,7 +19,7 @@ use Rattle.tree_model.specs.Epochs.{epoch_of, has_joined}
 use Rattle.tree_model.specs.Folds.{Trace}
 use Rattle.tree_laws.specs.Following.{MayTell}
 use Rattle.tree_laws.specs.Printed.{entries, onto_entries}
-use Rattle.holding_laws.proofs.MendMends.{IsMendCall}
+use Rattle.pull_laws.proofs.of_holding_laws.MendMends.{IsMendCall}
 use Rattle.convergence_laws.proofs.DirectoriesTold.{AcceptsMends, RecordMends, ToldMends}
 
 -- ---- epochs ----

@@ -18,10 +18,10 @@ use Rattle.the_run.proofs.Events.{happened_keeps, acts_keeps}
 use Rattle.tree_model.specs.Folds.{Trace}
 use Rattle.lawful_trace.specs.CallRows.{CallLine}
 use Rattle.lawful_trace.specs.Places.{line_at, lines_before}
-use Rattle.row_laws.specs.Rows.{AskedRecord, IsAskedFor}
-use Rattle.row_laws.specs.Shown.{EachRecord, shown, with_told}
-use Rattle.row_laws.proofs.AskedRun.{run_asked}
-use Rattle.holding_laws.proofs.MendMends.{IsMendCall}
+use Rattle.pull_laws.specs.of_row_laws.Rows.{AskedRecord, IsAskedFor}
+use Rattle.pull_laws.specs.of_row_laws.Shown.{EachRecord, shown, with_told}
+use Rattle.pull_laws.proofs.of_row_laws.AskedRun.{run_asked}
+use Rattle.pull_laws.proofs.of_holding_laws.MendMends.{IsMendCall}
 use Rattle.orderly_laws.specs.Calm.{delivered}
 use Rattle.orderly_laws.proofs.Rounds.{RoundKept, ticks_kept}
 use Rattle.calm_laws.specs.Rounds.{after}

@@ -15,7 +15,7 @@ use Rattle.the_run.specs.Kept.{Among}
 use Rattle.the_run.specs.Runs.{can_come, next_packet_of, next_packet}
 use Rattle.the_run.specs.Worlds.{World, Limit, Numbered, place_at, is_cut, is_up}
 use Rattle.the_run.proofs.Boots.{at_each}
-use Rattle.make_laws.specs.Made.{IsSender, NumberedSender}
+use Rattle.pull_laws.specs.of_make_laws.Made.{IsSender, NumberedSender}
 use Rattle.orderly_laws.specs.Calm.{AreTogether}
 use Rattle.orderly_laws.proofs.Places.{is_up_linked}
 use Rattle.calm_laws.specs.Carrying.{IsMember}

@@ -41,7 +41,7 @@ use Rattle.tree_laws.proofs.CarriedOpens.{was_then}
 use Rattle.pull_laws.proofs.of_store_laws.Numbers.{serial_key_eq}
 use Rattle.calm_laws.proofs.of_rest_laws.StoreStepResting.{store_rests}
 use Rattle.calm_laws.proofs.of_rest_laws.TableShutting.{shut_file}
-use Rattle.sync_laws.proofs.Answering.{one_answer}
+use Rattle.pull_laws.proofs.of_sync_laws.Answering.{one_answer}
 use Rattle.pull_laws.specs.of_one_tree_laws.Places.{InsideFact}
 use Rattle.pull_laws.specs.of_one_tree_laws.Rest.{Past}
 use Rattle.pull_laws.proofs.of_one_tree_laws.Inside.{table_here}

@@ -30,8 +30,8 @@ use Rattle.tree_laws.specs.Instances.{IsKnown}
 use Rattle.tree_laws.specs.Past.{WasNamed}
 use Rattle.tree_laws.specs.Stores.{RunsAs, StageFact, InstanceFact}
 use Rattle.order_laws.proofs.Standing.{same_file_eq}
-use Rattle.holding_laws.proofs.OneVersionMakes.{Free, free_or_named}
-use Rattle.sync_laws.proofs.Notices.{kept_is_known}
+use Rattle.pull_laws.proofs.of_holding_laws.OneVersionMakes.{Free, free_or_named}
+use Rattle.pull_laws.proofs.of_sync_laws.Notices.{kept_is_known}
 use Rattle.pull_laws.specs.of_one_tree_laws.Places.{InsideFact}
 use Rattle.orderly_laws.specs.Calm.{IsInside, AreTogether, delivers_next}
 use Rattle.orderly_laws.proofs.Places.{view_eq}

@@ -25,7 +25,7 @@ use Rattle.tree_laws.proofs.Names.{same_serial_eq, same_serial_own}
 use Rattle.tree_laws.proofs.Serials.{unnamed}
 use Rattle.pull_laws.proofs.of_store_laws.Begun.{granted_named}
 use Rattle.pull_laws.proofs.of_store_laws.Places.{GrantedSo, granted_once, instance_granted}
-use Rattle.sync_laws.proofs.Answering.{one_answer}
+use Rattle.pull_laws.proofs.of_sync_laws.Answering.{one_answer}
 
 -- ---- what is closed was begun on the file on which it was granted ----
 

@@ -44,10 +44,10 @@ use Rattle.tree_laws.specs.Printed.{entries}
 use Rattle.tree_laws.specs.Stores.{copy_for}
 use Rattle.tree_laws.specs.Tables.{RowFact, TableFact, named_row, named_openers, named_instance, tree_openers}
 use Rattle.tree_laws.proofs.Rows.{followed_rows}
-use Rattle.holding_laws.specs.Held.{IsKnownOrAhead}
-use Rattle.holding_laws.proofs.Begun.{open_in_group}
-use Rattle.holding_laws.proofs.Below.{packs_hold}
-use Rattle.holding_laws.proofs.Holding.{known_or_ahead}
+use Rattle.pull_laws.specs.of_holding_laws.Held.{IsKnownOrAhead}
+use Rattle.pull_laws.proofs.of_holding_laws.Begun.{open_in_group}
+use Rattle.pull_laws.proofs.of_holding_laws.Below.{packs_hold}
+use Rattle.pull_laws.proofs.of_holding_laws.Holding.{known_or_ahead}
 use Rattle.calm_laws.proofs.of_rest_laws.MendStepNumbered.{files_numbered}
 use Rattle.pull_laws.specs.of_one_tree_laws.Places.{InsideFact}
 use Rattle.pull_laws.specs.of_one_tree_laws.Rest.{Past}

@@ -41,7 +41,7 @@ use Rattle.tree_laws.specs.Printed.{entries}
 use Rattle.tree_laws.specs.Stores.{copy_for}
 use Rattle.tree_laws.specs.Tables.{TableFact}
 use Rattle.order_laws.proofs.Standing.{same_file_eq}
-use Rattle.sync_laws.proofs.Notices.{rows_found}
+use Rattle.pull_laws.proofs.of_sync_laws.Notices.{rows_found}
 use Rattle.pull_laws.specs.of_one_tree_laws.Places.{InsideFact}
 use Rattle.pull_laws.proofs.of_one_tree_laws.Parts.{tables_rise, synced_one}
 use Rattle.pull_laws.specs.Known.{written}

@@ -35,8 +35,8 @@ use Rattle.the_run.specs.Runs.{arrives}
 use Rattle.the_run.specs.Steps.{is_opened_in, at_table_of, takes_inside, ends_event}
 use Rattle.the_run.specs.Worlds.{World, Running, Numbered, place_at, numbered_from}
 use Rattle.the_run.proofs.Boots.{at_each}
-use Rattle.make_laws.specs.Made.{WorldSent}
-use Rattle.make_laws.proofs.SendersRun.{sent_kept, first_sent}
+use Rattle.pull_laws.specs.of_make_laws.Made.{WorldSent}
+use Rattle.pull_laws.proofs.of_make_laws.SendersRun.{sent_kept, first_sent}
 use Rattle.pull_laws.proofs.of_one_tree_laws.Parts.{tables_rise}
 use Rattle.pull_laws.proofs.of_one_tree_laws.Rising.{Rising}
 use Rattle.orderly_laws.specs.Calm.{IsInside}

@@ -17,7 +17,7 @@ use Rattle.tree_laws.specs.Instances.{Stands}
 use Rattle.tree_laws.specs.Printed.{entries}
 use Rattle.tree_laws.specs.Tables.{VersionFact}
 use Rattle.tree_laws.proofs.Histories.{content_same}
-use Rattle.sync_laws.proofs.Versions.{row_size}
+use Rattle.pull_laws.proofs.of_sync_laws.Versions.{row_size}
 use Rattle.pull_laws.proofs.of_one_tree_laws.ToldVectorOnly.{row_stands}
 use Rattle.pull_laws.specs.of_one_tree_laws.Rest.{Past}
 use Rattle.pull_laws.proofs.Falling.{past_earlier, stands_later}

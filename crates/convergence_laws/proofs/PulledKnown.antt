@@ -34,8 +34,8 @@ use Rattle.role_steps.specs.declared.synchronizing.SyncTable.{SyncTable}
 use Rattle.role_steps.specs.declared.synchronizing.VersionRow.{VersionRow}
 use Rattle.the_run.specs.Kept.{Among}
 use Rattle.the_run.specs.Worlds.{World, Running, Line, place_at}
-use Rattle.sync_laws.proofs.Notices.{kept_is_known}
-use Rattle.sync_laws.proofs.Orderly.{below_through}
+use Rattle.pull_laws.proofs.of_sync_laws.Notices.{kept_is_known}
+use Rattle.pull_laws.proofs.of_sync_laws.Orderly.{below_through}
 use Rattle.tree_laws.specs.Instances.{HasAtLeast, IsKnown, Stands, held_in}
 use Rattle.tree_laws.specs.Packets.{file_in}
 use Rattle.tree_laws.specs.Printed.{entries}
@@ -43,13 +43,13 @@ use Rattle.tree_laws.specs.Stores.{copy_for}
 use Rattle.tree_laws.specs.Tables.{IsAhead, StartedFiles, FilesFact, row_stamp, TableFact, named_row, named_instance, tree_openers}
 use Rattle.tree_laws.proofs.Knowing.{known_stays}
 use Rattle.tree_laws.proofs.Rows.{followed_rows}
-use Rattle.holding_laws.specs.Below.{LawsBelow}
-use Rattle.holding_laws.specs.Held.{IsKnownOrAhead}
-use Rattle.holding_laws.proofs.Begun.{open_in_group}
-use Rattle.holding_laws.proofs.Below.{packs_hold}
-use Rattle.holding_laws.proofs.Holding.{known_or_ahead, sites_hold}
-use Rattle.holding_laws.proofs.Rising.{known_stands}
-use Rattle.holding_laws.proofs.MendOnly.{only_had}
+use Rattle.pull_laws.specs.of_holding_laws.Below.{LawsBelow}
+use Rattle.pull_laws.specs.of_holding_laws.Held.{IsKnownOrAhead}
+use Rattle.pull_laws.proofs.of_holding_laws.Begun.{open_in_group}
+use Rattle.pull_laws.proofs.of_holding_laws.Below.{packs_hold}
+use Rattle.pull_laws.proofs.of_holding_laws.Holding.{known_or_ahead, sites_hold}
+use Rattle.pull_laws.proofs.of_holding_laws.Rising.{known_stands}
+use Rattle.pull_laws.proofs.of_holding_laws.MendOnly.{only_had}
 use Rattle.calm_laws.proofs.of_rest_laws.MendStepNumbered.{files_numbered}
 use Rattle.calm_laws.proofs.of_rest_laws.EpochTreeMembers.{Joined, joined_as}
 use Rattle.pull_laws.specs.of_one_tree_laws.Places.{InsideFact}

@@ -24,10 +24,10 @@ use Rattle.the_run.specs.Runs.{arrives, next_packet, ticks_to, run_in}
 use Rattle.the_run.specs.Worlds.{World, Running, Numbered, place_at}
 use Rattle.lawful_trace.specs.Places.{lines_before}
 use Rattle.epoch_laws.proofs.Run.{run_good}
-use Rattle.sync_laws.proofs.Versions.{row_vector, row_size}
+use Rattle.pull_laws.proofs.of_sync_laws.Versions.{row_vector, row_size}
 use Rattle.calm_laws.proofs.of_rest_laws.TableNoting.{ascends_found}
-use Rattle.make_laws.specs.Made.{NumberedSender, WorldSent}
-use Rattle.make_laws.proofs.SendersRun.{sent_kept, first_sent}
+use Rattle.pull_laws.specs.of_make_laws.Made.{NumberedSender, WorldSent}
+use Rattle.pull_laws.proofs.of_make_laws.SendersRun.{sent_kept, first_sent}
 use Rattle.tree_laws.specs.Printed.{entries}
 use Rattle.tree_laws.specs.Stores.{PullFact}
 use Rattle.tree_laws.specs.Tables.{VersionFact}

@@ -21,7 +21,7 @@ use Rattle.tree_model.specs.Tree.{tree_of}
 use Rattle.lawful_trace.specs.Calm.{IsMoment, AreTogether, IsCalmRound}
 use Rattle.lawful_trace.specs.Places.{is_cut, line_at, lines_before, through_line}
 use Rattle.lawful_trace.specs.Samples.{epoch, file, members}
-use Rattle.row_laws.specs.Shown.{trace_of}
+use Rattle.pull_laws.specs.of_row_laws.Shown.{trace_of}
 use Rattle.convergence_laws.specs.Rested.{rested_lines, rested_trace, IsRested}
 use Rattle.promises.specs.Convergence.{AreCalmRounds, IsUndisturbed}
 

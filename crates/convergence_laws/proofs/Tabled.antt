@@ -29,8 +29,8 @@ use Rattle.the_run.specs.Steps.{is_opened_in, at_table_of}
 use Rattle.the_run.specs.Worlds.{World, Numbered, place_at}
 use Rattle.tree_laws.specs.Packets.{BodyFact}
 use Rattle.tree_laws.specs.Tables.{TableFact}
-use Rattle.make_laws.specs.Made.{IsSender, NumberedSender, WorldSent}
-use Rattle.make_laws.proofs.SendersRun.{sent_kept, first_sent}
+use Rattle.pull_laws.specs.of_make_laws.Made.{IsSender, NumberedSender, WorldSent}
+use Rattle.pull_laws.proofs.of_make_laws.SendersRun.{sent_kept, first_sent}
 use Rattle.pull_laws.specs.of_one_tree_laws.Places.{NumberedFact, InsideFact}
 use Rattle.pull_laws.proofs.of_one_tree_laws.Parts.{tables_rise}
 use Rattle.pull_laws.proofs.of_one_tree_laws.Rising.{Rising}

@@ -30,12 +30,12 @@ use Rattle.tree_laws.specs.Printed.{entries}
 use Rattle.tree_laws.specs.Stores.{copy_for}
 use Rattle.tree_laws.specs.Tables.{VersionFact, HasHolder, HoldingFact, FileFact, TableFact}
 use Rattle.tree_laws.proofs.Rows.{followed_rows}
-use Rattle.holding_laws.specs.Order.{AncestorsAreAnOrder}
-use Rattle.holding_laws.proofs.Ancestors.{ancestors_ordered}
-use Rattle.holding_laws.proofs.Below.{commits_new, packs_hold}
-use Rattle.holding_laws.proofs.Holding.{sites_hold}
-use Rattle.holding_laws.proofs.Made.{held_stand, rows_made}
-use Rattle.sync_laws.proofs.Versions.{row_vector}
+use Rattle.pull_laws.specs.of_holding_laws.Order.{AncestorsAreAnOrder}
+use Rattle.pull_laws.proofs.of_holding_laws.Ancestors.{ancestors_ordered}
+use Rattle.pull_laws.proofs.of_holding_laws.Below.{commits_new, packs_hold}
+use Rattle.pull_laws.proofs.of_holding_laws.Holding.{sites_hold}
+use Rattle.pull_laws.proofs.of_holding_laws.Made.{held_stand, rows_made}
+use Rattle.pull_laws.proofs.of_sync_laws.Versions.{row_vector}
 use Rattle.pull_laws.specs.of_one_tree_laws.Places.{InsideFact}
 use Rattle.pull_laws.specs.of_one_tree_laws.Rest.{Past}
 use Rattle.pull_laws.proofs.of_one_tree_laws.Staying.{rest_below}

@@ -24,7 +24,7 @@ use Rattle.tree_model.specs.Folds.{Trace}
 use Rattle.tree_model.specs.Histories.{held}
 use Rattle.tree_model.specs.Packs as tree
 use Rattle.lawful_trace.specs.Places.{through_line}
-use Rattle.row_laws.specs.Shown.{trace_of}
+use Rattle.pull_laws.specs.of_row_laws.Shown.{trace_of}
 use Rattle.tree_laws.specs.Printed.{entries}
 use Rattle.tree_laws.specs.Stores.{copy_for}
 use Rattle.order_laws.proofs.ProcessSynchronizing.{sync_same}

@@ -15,7 +15,7 @@ use Rattle.role_steps.specs.declared.synchronizing.VersionRow.{VersionRow}
 use Rattle.the_run.specs.Runs.{run}
 use Rattle.tree_model.specs.Packs.{sync_site}
 use Rattle.tree_model.specs.Working.{are_several}
-use Rattle.row_laws.specs.Shown.{trace_of}
+use Rattle.pull_laws.specs.of_row_laws.Shown.{trace_of}
 use Rattle.tree_laws.specs.Tables.{row_stamp}
 use Rattle.calm_laws.specs.of_orderly_traces.Agreeing.{IsWithin}
 use Rattle.calm_laws.specs.Rounds.{CalmLeft}

@@ -27,7 +27,7 @@ use Rattle.tree_model.specs.Packs as tree
 use Rattle.tree_model.specs.Tree.{kept_in}
 use Rattle.lawful_trace.specs.CallRows.{has_lost_mend}
 use Rattle.lawful_trace.specs.Places.{through_line}
-use Rattle.row_laws.specs.Shown.{trace_of}
+use Rattle.pull_laws.specs.of_row_laws.Shown.{trace_of}
 use Rattle.tree_laws.specs.Instances.{Stands}
 use Rattle.tree_laws.specs.Packets.{file_in}
 use Rattle.tree_laws.specs.Printed.{entries}

@@ -19,7 +19,7 @@ use Rattle.tree_model.specs.Tree.{tree_of}
 use Rattle.tree_model.specs.Working.{free_pages as tree_free}
 use Rattle.lawful_trace.specs.Calm as traced
 use Rattle.lawful_trace.specs.Places.{through_line}
-use Rattle.row_laws.specs.Shown.{trace_of}
+use Rattle.pull_laws.specs.of_row_laws.Shown.{trace_of}
 use Rattle.tree_laws.specs.Printed.{entries}
 use Rattle.pull_laws.proofs.of_store_laws.StorageResting.{room_is}
 use Rattle.pull_laws.specs.of_one_tree_laws.Places.{InsideFact, WorldFact}

@@ -27,9 +27,9 @@ use Rattle.the_run.specs.Kept.{Among}
 use Rattle.the_run.specs.Runs.{next_packet, delivers, ticks_to, acts_line, run_in, run}
 use Rattle.the_run.proofs.Runs.{every_run}
 use Rattle.the_run.specs.Worlds.{World, Running, CutCircuit, is_between, Line}
-use Rattle.row_laws.specs.Shown.{trace_of}
-use Rattle.row_laws.specs.Voids.{LinesFit}
-use Rattle.row_laws.proofs.Fitting.{schedule_fits, schedule_few}
+use Rattle.pull_laws.specs.of_row_laws.Shown.{trace_of}
+use Rattle.pull_laws.specs.of_row_laws.Voids.{LinesFit}
+use Rattle.pull_laws.proofs.of_row_laws.Fitting.{schedule_fits, schedule_few}
 use Rattle.orderly_laws.specs.Calm.{IsInside, AreTogether, delivered, ticked}
 use Rattle.orderly_laws.proofs.Choosing.{among_sites}
 use Rattle.orderly_laws.proofs.Rounds.{ticks_kept}

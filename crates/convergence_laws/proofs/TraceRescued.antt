@@ -25,7 +25,7 @@ use Rattle.tree_model.specs.Histories.{history}
 use Rattle.tree_model.specs.Mending.{joined_all, kept_vectors}
 use Rattle.tree_model.specs.Tree.{tree_of}
 use Rattle.lawful_trace.specs.Places.{through_line}
-use Rattle.row_laws.specs.Shown.{trace_of}
+use Rattle.pull_laws.specs.of_row_laws.Shown.{trace_of}
 use Rattle.tree_laws.specs.Printed.{entries}
 use Rattle.calm_laws.proofs.of_rest_laws.MendStepKeptVectors.{vectors_agree}
 use Rattle.calm_laws.proofs.of_rest_laws.MendStepWanted.{joined_none}

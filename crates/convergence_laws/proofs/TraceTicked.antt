@@ -15,8 +15,8 @@ use Rattle.tree_model.specs.Packs.{boot_in, is_member}
 use Rattle.the_run.specs.Runs.{ticks_to}
 use Rattle.the_run.specs.Steps.{step}
 use Rattle.the_run.specs.Worlds.{World, Place, Running, Stopped, Line, CutCircuit, number_of, place_at, links_of, passed, acts, is_between}
-use Rattle.row_laws.specs.Shown.{trace_of}
-use Rattle.row_laws.proofs.Causes.{epoch_standing}
+use Rattle.pull_laws.specs.of_row_laws.Shown.{trace_of}
+use Rattle.pull_laws.proofs.of_row_laws.Causes.{epoch_standing}
 use Rattle.tree_laws.specs.Following.{IsFollowed}
 use Rattle.tree_laws.specs.Printed.{entries}
 use Rattle.tree_laws.proofs.Mending.{members_stay}

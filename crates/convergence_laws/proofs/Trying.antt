@@ -18,7 +18,7 @@ use Rattle.role_steps.specs.declared.rounds.InEpoch.{InEpoch}
 use Rattle.role_steps.specs.declared.synchronizing.SyncTable.{SyncTable}
 use Rattle.role_steps.specs.declared.synchronizing.VersionRow.{VersionRow}
 use Rattle.role_steps.proofs.Rows.{row_other, row_same}
-use Rattle.sync_laws.proofs.Orderly.{below_through}
+use Rattle.pull_laws.proofs.of_sync_laws.Orderly.{below_through}
 use Rattle.the_run.specs.Kept.{Among}
 use Rattle.the_run.specs.Steps.{with_pulls}
 use Rattle.the_run.specs.Worlds.{Running, Numbered}

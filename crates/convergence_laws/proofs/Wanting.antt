@@ -4,7 +4,7 @@ use Rattle.std.specs.Fmt.{digits}
 use Rattle.hex.specs.Hex.{encode_with}
 use Rattle.schedule_lines.specs.Schedule.{AreInOrder}
 use Rattle.the_run.specs.Runs.{run}
-use Rattle.row_laws.specs.Shown.{trace_of}
+use Rattle.pull_laws.specs.of_row_laws.Shown.{trace_of}
 use Rattle.calm_laws.specs.of_orderly_traces.Agreeing.{IsWithin}
 use Rattle.convergence_laws.specs.Wanting.{wanting_lines, wanting_trace, IsWanting}
 

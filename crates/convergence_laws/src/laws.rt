@@ -3,7 +3,7 @@ ghost use Rattle.locus_ids.specs.declared.config.Config.{Config};
 ghost use Rattle.schedule_lines.specs.Schedule.{AreInOrder};
 ghost use Rattle.schedule_lines.specs.declared.line.ScheduleLine.{ScheduleLine};
 ghost use Rattle.the_run.specs.Runs.{run};
-ghost use Rattle.row_laws.specs.Shown.{trace_of};
+ghost use Rattle.pull_laws.specs.of_row_laws.Shown.{trace_of};
 ghost use Rattle.calm_laws.specs.of_orderly_traces.Agreeing.{IsWithin};
 ghost use Rattle.promises.specs.Convergence.{CopiesConverge as CopiesConvergeInTrace};
 ghost use Rattle.convergence_laws.specs.Rested.{rested_lines, IsRested};

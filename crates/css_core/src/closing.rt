@@ -6,7 +6,7 @@ ghost use Rattle.role_steps.specs.Notices.{row_notices};
 ghost use Rattle.css_core.specs.Closed.{published_as, notices_as, closed_into};
 
 use crate::css::Css;
-use css_notices::{notify_again, notify_lagging};
+use css_decision::css_notices::{notify_again, notify_lagging};
 use css_opens::{Closing, Settling};
 use locus_ids::{FileId, Kind, NoMemory, Serial, SiteId, Sites, Stamp};
 use site_frame::SiteFrame;

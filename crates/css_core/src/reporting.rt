@@ -7,7 +7,7 @@ use crate::LookRequest;
 use crate::css::Css;
 use crate::early::{brought, has_all};
 use css_decision::OpenRequest;
-use css_notices::{members_of, notify_all};
+use css_decision::css_notices::{members_of, notify_all};
 use locus_ids::{NoMemory, SiteId};
 use role_steps::{Earlies, Early};
 use site_frame::SiteFrame;

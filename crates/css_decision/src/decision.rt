@@ -6,9 +6,9 @@ ghost use Rattle.css_decision.specs.Decided.{decision_of};
 
 use crate::OpenRequest;
 use crate::grants::mode_of;
+use css_notices::css_versions::{KnownFile, choose, has_stamp, joined_vectors, stamps_of};
 use css_notices::members_of;
 use css_opens::{OpenEntry, Progress};
-use css_versions::{KnownFile, choose, has_stamp, joined_vectors, stamps_of};
 use locus_ids::sizes::SITES;
 use locus_ids::{Kind, NoMemory, Refusal, SiteId, Sites, Stamp, Stamps};
 use site_frame::SiteFrame;

@@ -6,6 +6,7 @@ mod decision;
 mod grants;
 mod requests;
 
+pub use css_notices;
 pub use decision::{Decision, Grant, asked_entry, denied_entry, grant_on, make_decision};
 pub use grants::{kept_refusal, mode_of};
 pub use requests::OpenRequest;

@@ -5,5 +5,6 @@
 mod members;
 mod notices;
 
+pub use css_versions;
 pub use members::members_of;
 pub use notices::{notify_again, notify_all, notify_lagging};

@@ -1,9 +1,9 @@
 -- The laws of the fields of an entry: what is read is spelled so, and what is spelled so is read.
 use Rattle.std.proofs.Common.{◌≡◌, ℕ, zero, suc, ◌+◌, ◌^◌, ◌<◌, ◌≤◌, Bool, true, false, List, [], ◌∷◌, ◌++◌, length, Ok, refl, sym, ap, subst, add-zero, arith}
 use Rattle.std.specs.Int.{to_be_bytes, w32}
-use Rattle.locus_ids.specs.Sizes.{sites_max, inodes_max}
-use Rattle.locus_ids.specs.declared.ids.Kind.{Kind}
-use Rattle.locus_ids.specs.declared.ids.Kind.TheVariants.{File, Dir}
+use Rattle.field_codec.specs.of_locus_ids.Sizes.{sites_max, inodes_max}
+use Rattle.field_codec.specs.of_locus_ids.declared.ids.Kind.{Kind}
+use Rattle.field_codec.specs.of_locus_ids.declared.ids.Kind.TheVariants.{File, Dir}
 use Rattle.field_codec.specs.Codec.{Unread, AreBytes, u8, u8_in, u16_in, u16, u32, from_to, slice}
 use Rattle.field_codec.proofs.Laws.{Lawful, Takes, Takes-then, rest_at, bind_ok, ok_is, u8_laws, u16_laws, u32_laws, slice_laws, within_laws, followed_by_laws, made_laws}
 use Rattle.field_codec.proofs.Lists.{list_laws}

@@ -6,7 +6,7 @@ use Rattle.std.proofs.lemmas.List.Elements.{filter-append, filter_more}
 use Rattle.std.proofs.lemmas.List.Concat.{flat_map-append}
 use Rattle.std.specs.Prelude.{filter}
 use Rattle.std.specs.Int.{to_be_bytes, w16, w32}
-use Rattle.locus_ids.specs.Sizes.{sites_max, directory_bytes_max}
+use Rattle.field_codec.specs.of_locus_ids.Sizes.{sites_max, directory_bytes_max}
 use Rattle.dir_format.specs.declared.entry.Entry.{Entry}
 use Rattle.dir_format.specs.Entries.{is_live, IsEntry}
 use Rattle.dir_format.specs.Grammar.{kind_byte, vector_bytes, seen_bytes, entry_bytes, dir_bytes}

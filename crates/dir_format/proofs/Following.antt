@@ -8,9 +8,9 @@ use Rattle.std.specs.Str.{bytes_eq}
 use Rattle.std.specs.Ordering.{nat_cmp, is_lt}
 use Rattle.std.specs.Cmp.Lexicographic.{slice_cmp}
 use Rattle.std.specs.declared.cmp.Ordering.TheVariants.{Less}
-use Rattle.locus_ids.specs.Sizes.{sites_max, inodes_max}
-use Rattle.locus_ids.specs.declared.ids.Kind.{Kind}
-use Rattle.locus_ids.specs.declared.ids.Kind.TheVariants.{File, Dir}
+use Rattle.field_codec.specs.of_locus_ids.Sizes.{sites_max, inodes_max}
+use Rattle.field_codec.specs.of_locus_ids.declared.ids.Kind.{Kind}
+use Rattle.field_codec.specs.of_locus_ids.declared.ids.Kind.TheVariants.{File, Dir}
 use Rattle.field_codec.specs.Codec.{AreBytes, u32}
 use Rattle.field_codec.specs.Lists.{AllFit}
 use Rattle.trace_book.specs.Names.{is_name, is_name_byte}

@@ -7,3 +7,4 @@ pub mod FirstOf
 pub mod Following
 pub mod Whole
 pub mod ContentOf
+pub use Rattle.version_vector.proofs as of_version_vector

@@ -4,7 +4,7 @@ use Rattle.std.specs.Int.{from_be_bytes, w16, w32}
 use Rattle.std.specs.List.{list_all}
 use Rattle.std.specs.Ordering.{is_lt}
 use Rattle.std.specs.Str.{bytes_eq}
-use Rattle.locus_ids.specs.Sizes.{sites_max, inodes_max}
+use Rattle.field_codec.specs.of_locus_ids.Sizes.{sites_max, inodes_max}
 use Rattle.trace_book.specs.Names.{is_name}
 use Rattle.dir_format.specs.declared.entry.Entry.{Entry}
 use Rattle.dir_format.specs.Entries.{is_live, nothing_seen, max_count, entry_cmp}

@@ -1,10 +1,10 @@
 -- What each operation on a directory gives, and the entries after it, where there is room.
 use Rattle.std.specs.Prelude.{ℕ, suc, ◌+◌, ◌==◌, Bool, true, false, cond, List, [], ◌∷◌, length, nat_lt, Option, None, Some}
 use Rattle.std.specs.List.{find}
-use Rattle.locus_ids.specs.Sizes.{directory_bytes_max}
-use Rattle.locus_ids.specs.declared.ids.Kind.{Kind}
-use Rattle.locus_ids.specs.declared.refusal.Refusal.{Refusal}
-use Rattle.locus_ids.specs.declared.refusal.Refusal.TheVariants as refusal
+use Rattle.field_codec.specs.of_locus_ids.Sizes.{directory_bytes_max}
+use Rattle.field_codec.specs.of_locus_ids.declared.ids.Kind.{Kind}
+use Rattle.field_codec.specs.of_locus_ids.declared.refusal.Refusal.{Refusal}
+use Rattle.field_codec.specs.of_locus_ids.declared.refusal.Refusal.TheVariants as refusal
 use Rattle.trace_book.specs.declared.operation.Op.{Op}
 use Rattle.trace_book.specs.declared.operation.Op.TheVariants as op
 use Rattle.trace_book.specs.declared.operation.Outcome.{Outcome}

@@ -6,8 +6,8 @@ use Rattle.std.specs.Ordering.{nat_cmp, ordering_then}
 use Rattle.std.specs.Cmp.Lexicographic.{slice_cmp}
 use Rattle.std.specs.declared.cmp.Ordering.{Ordering}
 use Rattle.std.specs.declared.cmp.Ordering.TheVariants.{Less, Equal, Greater}
-use Rattle.locus_ids.specs.Sizes.{sites_max, inodes_max}
-use Rattle.locus_ids.specs.declared.ids.Kind.{Kind}
+use Rattle.field_codec.specs.of_locus_ids.Sizes.{sites_max, inodes_max}
+use Rattle.field_codec.specs.of_locus_ids.declared.ids.Kind.{Kind}
 use Rattle.trace_book.specs.Names.{is_name}
 use Rattle.dir_format.specs.declared.entry.Entry.{Entry}
 

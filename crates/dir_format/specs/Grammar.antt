@@ -5,9 +5,9 @@ use Rattle.std.specs.List.{flat_map, list_all}
 use Rattle.std.specs.Ordering.{nat_cmp, is_lt}
 use Rattle.std.specs.Cmp.Lexicographic.{slice_cmp}
 use Rattle.std.specs.Str.{bytes_eq}
-use Rattle.locus_ids.specs.Sizes.{sites_max, inodes_max}
-use Rattle.locus_ids.specs.declared.ids.Kind.{Kind}
-use Rattle.locus_ids.specs.declared.ids.Kind.TheVariants.{File, Dir}
+use Rattle.field_codec.specs.of_locus_ids.Sizes.{sites_max, inodes_max}
+use Rattle.field_codec.specs.of_locus_ids.declared.ids.Kind.{Kind}
+use Rattle.field_codec.specs.of_locus_ids.declared.ids.Kind.TheVariants.{File, Dir}
 use Rattle.field_codec.specs.declared.faults.FieldFault.{FieldFault}
 use Rattle.field_codec.specs.Codec.{Codec, Unread, Read, ◌>>=◌, AreBytes, slice, u8_in, u16_in, u32, u32_in, within, followed_by, made}
 use Rattle.field_codec.specs.Lists.{list}

@@ -5,7 +5,7 @@ ghost use Rattle.dir_format.specs.Entries.{IsDir, IsEntry, HasKindOf, with_entry
 
 use crate::Entry;
 use crate::place::{Place, place_of};
-use locus_ids::NoMemory;
+use field_codec::locus_ids::NoMemory;
 use std::alloc::Global;
 use std::marker::Model;
 

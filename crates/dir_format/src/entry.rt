@@ -1,8 +1,8 @@
 ghost use Rattle.std.specs.Prelude.{◌≡◌};
 ghost use Rattle.dir_format.specs.Entries.{entry_cmp, is_live};
 
-use locus_ids::sizes::SITES;
-use locus_ids::{Bytes, Ino, Kind};
+use field_codec::locus_ids::sizes::SITES;
+use field_codec::locus_ids::{Bytes, Ino, Kind};
 use std::cmp::Ordering;
 use version_vector::Vector;
 

@@ -10,4 +10,7 @@ mod place;
 
 pub use directory::Dir;
 pub use entry::{Entry, entry_cmp, is_live};
+pub use field_codec::locus_ids;
 pub use looking::LookResult;
+pub use trace_book;
+pub use version_vector;

@@ -1,4 +1,4 @@
-use locus_ids::{Ino, Kind};
+use field_codec::locus_ids::{Ino, Kind};
 
 /// What a component of a path finds in a directory.
 #[derive(Clone, Copy, PartialEq, Eq)]

@@ -5,7 +5,7 @@ use Rattle.std.specs.Ordering.{nat_cmp}
 use Rattle.std.specs.declared.cmp.Ordering.{Ordering}
 use Rattle.std.specs.declared.cmp.Ordering.TheVariants.{Less, Equal, Greater}
 use Rattle.std.proofs.lemmas.Map.Lookups.{exact_unsigned}
-use Rattle.version_vector.specs.Counters.{joined}
+use Rattle.dir_format.specs.of_version_vector.Counters.{joined}
 use Rattle.dir_format.specs.declared.entry.Entry.{Entry}
 use Rattle.dir_format.specs.Entries.{entry_cmp, is_live, nothing_seen, IsVector, IsEntry, IsDir, Ascends, OneKind, HasKindOf}
 use Rattle.dir_format.proofs.Tests.{all_weaker}

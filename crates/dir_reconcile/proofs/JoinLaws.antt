@@ -6,8 +6,8 @@ use Rattle.std.specs.Ordering.{nat_cmp, ordering_then, ordering_reverse}
 use Rattle.std.specs.Cmp.Lexicographic.{slice_cmp}
 use Rattle.std.specs.declared.cmp.Ordering.{Ordering}
 use Rattle.std.specs.declared.cmp.Ordering.TheVariants.{Less, Equal, Greater}
-use Rattle.version_vector.specs.Counters.{joined}
-use Rattle.version_vector.proofs.Counting.{joined-commutes, joined-associates, joined-again}
+use Rattle.dir_format.specs.of_version_vector.Counters.{joined}
+use Rattle.dir_format.proofs.of_version_vector.Counting.{joined-commutes, joined-associates, joined-again}
 use Rattle.dir_format.specs.declared.entry.Entry.{Entry}
 use Rattle.dir_format.specs.Entries.{entry_cmp}
 use Rattle.dir_format.proofs.Orders.{entry_total}

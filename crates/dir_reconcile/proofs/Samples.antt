@@ -1,7 +1,7 @@
 -- Definitions compute.
 use Rattle.std.proofs.Common.{◌≡◌, refl, List, ℕ, [], ◌∷◌, false, replicate, ◌-◌}
-use Rattle.locus_ids.specs.Sizes.{sites_max}
-use Rattle.locus_ids.specs.declared.ids.Kind.TheVariants.{File}
+use Rattle.dir_format.specs.of_locus_ids.Sizes.{sites_max}
+use Rattle.dir_format.specs.of_locus_ids.declared.ids.Kind.TheVariants.{File}
 use Rattle.std.specs.Prelude.{codes}
 use Rattle.dir_format.specs.declared.entry.Entry.{Entry}
 use Rattle.dir_format.specs.Effects.{live_entry}

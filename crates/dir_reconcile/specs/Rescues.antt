@@ -2,7 +2,7 @@
 use Rattle.std.specs.Prelude.{◌≡◌, ℕ, suc, ◌==◌, Bool, true, false, not, ◌&&◌, cond, List, [], ◌∷◌, map, Option, None, Some, Result, Ok, Err}
 use Rattle.std.specs.List.{list_any, find}
 use Rattle.std.specs.Str.{bytes_eq}
-use Rattle.version_vector.specs.Counters.{all_le, joined}
+use Rattle.dir_format.specs.of_version_vector.Counters.{all_le, joined}
 use Rattle.dir_format.specs.declared.entry.Entry.{Entry}
 use Rattle.dir_format.specs.declared.directory.Dir.{Dir}
 use Rattle.dir_format.specs.Entries.{is_live, nothing_seen, max_count}

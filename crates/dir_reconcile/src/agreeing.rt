@@ -3,8 +3,8 @@ ghost use Rattle.std.specs.List.{list_all};
 ghost use Rattle.dir_format.specs.Grammar.{kind_byte};
 ghost use Rattle.dir_reconcile.specs.Joins.{AgreeOnKinds};
 
+use dir_format::locus_ids::{Ino, Kind};
 use dir_format::{Dir, Entry};
-use locus_ids::{Ino, Kind};
 
 /// Whether each inode that both directories have has one kind.
 pub fn agree_on_kinds(a: &Dir, b: &Dir) -> bool

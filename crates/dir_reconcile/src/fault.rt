@@ -1,6 +1,6 @@
 ghost use Rattle.std.specs.Prelude.{◌≡◌};
 
-use locus_ids::NoMemory;
+use dir_format::locus_ids::NoMemory;
 use thiserror::Error;
 
 /// Why no rescue was made.

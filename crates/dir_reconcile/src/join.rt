@@ -3,8 +3,8 @@ ghost use Rattle.dir_format.specs.Entries.{IsDir};
 ghost use Rattle.dir_reconcile.specs.Joins.{AgreeOnKinds, joined_dirs, joined_entry};
 ghost use Rattle.dir_reconcile.specs.Merging.{merged, from_first, from_second};
 
+use dir_format::locus_ids::NoMemory;
 use dir_format::{Dir, Entry, entry_cmp};
-use locus_ids::NoMemory;
 use std::alloc::Global;
 use std::cmp::Ordering;
 

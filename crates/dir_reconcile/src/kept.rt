@@ -1,6 +1,6 @@
-use locus_ids::sizes::SITES;
-use locus_ids::{Ino, ItemList};
-use version_vector::Vector;
+use dir_format::locus_ids::sizes::SITES;
+use dir_format::locus_ids::{Ino, ItemList};
+use dir_format::version_vector::Vector;
 
 /// The vector of a version of a file that is kept.
 #[derive(Clone, Copy, PartialEq, Eq)]

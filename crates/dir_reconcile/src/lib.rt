@@ -11,6 +11,7 @@ mod rescuing;
 mod wanting;
 
 pub use agreeing::agree_on_kinds;
+pub use dir_format::{trace_book, version_vector};
 pub use fault::RescueFault;
 pub use join::join_dirs;
 pub use kept::{KeptVector, KeptVectors};

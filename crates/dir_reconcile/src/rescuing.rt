@@ -6,10 +6,10 @@ ghost use Rattle.dir_reconcile.specs.Rescues.{Rescued, rescued, revived, rescue_
 use crate::join::{copy_of, push};
 use crate::wanting::is_to_rescue;
 use crate::{KeptVector, KeptVectors, RescueFault};
+use dir_format::locus_ids::NoMemory;
+use dir_format::version_vector::Vector;
 use dir_format::{Dir, Entry};
-use locus_ids::NoMemory;
 use std::alloc::Global;
-use version_vector::Vector;
 
 /// The directory in which one entry more is live for each inode that wants a rescue.
 pub fn rescue(alloc: Global, d: &Dir, kept: &KeptVectors) -> Result<Dir, RescueFault>

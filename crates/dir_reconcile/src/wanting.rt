@@ -3,15 +3,15 @@
 ghost use Rattle.std.specs.Prelude.{◌≡◌, ◌==◌, ◌&&◌, not};
 ghost use Rattle.std.specs.List.{list_any, find};
 ghost use Rattle.std.specs.Option.{option_copied};
-ghost use Rattle.version_vector.specs.Counters.{all_le};
+ghost use Rattle.dir_format.specs.of_version_vector.Counters.{all_le};
 ghost use Rattle.dir_format.specs.Entries.{is_live};
 ghost use Rattle.dir_reconcile.specs.Rescues.{all_seen, chosen, has_live, is_of, is_that, is_to_rescue, is_unseen, rescue_wanted, saw_something, seen_with, wants_rescue};
 
 use crate::{KeptVector, KeptVectors};
+use dir_format::locus_ids::Ino;
+use dir_format::locus_ids::sizes::SITES;
+use dir_format::version_vector::{Ordering4, Vector};
 use dir_format::{Dir, Entry};
-use locus_ids::Ino;
-use locus_ids::sizes::SITES;
-use version_vector::{Ordering4, Vector};
 
 /// Whether some inode of a directory wants a rescue: none of its entries is live, and one of the kept versions was seen by
 /// none of its removals.

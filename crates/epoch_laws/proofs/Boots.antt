@@ -3,9 +3,9 @@ use Rattle.std.proofs.Common.{◌≡◌, ℕ, zero, suc, ◌+◌, ◌≤◌, ◌
 use Rattle.std.proofs.lemmas.Bool.Decides.{nat_tests}
 use Rattle.locus_ids.specs.declared.ids.EpochId.{EpochId}
 use Rattle.locus_ids.specs.Sizes.{sites_max}
-use Rattle.role_steps.specs.Views.{boot_in, all_sites}
-use Rattle.role_steps.specs.Epochs.{is_epoch_below}
-use Rattle.role_steps.proofs.Counted.{CountsFrom, sites_count}
+use Rattle.run_laws.specs.of_role_steps.Views.{boot_in, all_sites}
+use Rattle.run_laws.specs.of_role_steps.Epochs.{is_epoch_below}
+use Rattle.run_laws.proofs.of_role_steps.Counted.{CountsFrom, sites_count}
 use Rattle.run_laws.specs.of_the_run.Joins.{IsAtMost}
 
 -- ---- ids ----

@@ -6,11 +6,11 @@ use Rattle.trace_book.specs.declared.call.Call.{Call}
 use Rattle.wire_messages.specs.declared.packet.Packet.{Packet}
 use Rattle.wire_messages.specs.declared.body.Body.{Body}
 use Rattle.wire_messages.specs.declared.body.Body.TheVariants as body
-use Rattle.role_steps.specs.Own.{Every}
-use Rattle.role_steps.specs.Views.{Frame, SiteView, Users, Outcome, quiet, to_some, to_sync, sync_site}
-use Rattle.role_steps.specs.Using.{on_call}
-use Rattle.role_steps.specs.Epochs.{frame_in}
-use Rattle.role_steps.specs.declared.rounds.InEpoch.{InEpoch}
+use Rattle.run_laws.specs.of_role_steps.Own.{Every}
+use Rattle.run_laws.specs.of_role_steps.Views.{Frame, SiteView, Users, Outcome, quiet, to_some, to_sync, sync_site}
+use Rattle.run_laws.specs.of_role_steps.Using.{on_call}
+use Rattle.run_laws.specs.of_role_steps.Epochs.{frame_in}
+use Rattle.run_laws.specs.of_role_steps.declared.rounds.InEpoch.{InEpoch}
 use Rattle.run_laws.specs.of_the_run.Steps.{takes_framed, adopts_of, tries_at, starts_mends_of, repeats_inside}
 use Rattle.run_laws.specs.of_the_run.Joins.{NoJoin, NoWrite}
 use Rattle.run_laws.specs.of_law_walks.Kinds.{IsInside}

@@ -1,9 +1,9 @@
 -- Each handler of a site names known ids, and its rounds are its own.
 use Rattle.std.proofs.Common.{◌≡◌, ℕ, ◌+◌, ◌≤◌, ◌==◌, Bool, true, false, cond, ◌&&◌, ◌||◌, not, List, [], ◌∷◌, map, Option, Some, None, refl, sym, ◌∙◌, ap, subst, inl, inr, arith}
 use Rattle.std.proofs.lemmas.Bool.Decides.{nat_tests}
-use Rattle.role_steps.proofs.of_plain_facts.Numbers.{equal_self}
-use Rattle.role_steps.proofs.of_plain_facts.Options.{none_some, some_same}
-use Rattle.role_steps.proofs.of_plain_facts.Tests.{both_true}
+use Rattle.run_laws.proofs.of_role_steps.of_plain_facts.Numbers.{equal_self}
+use Rattle.run_laws.proofs.of_role_steps.of_plain_facts.Options.{none_some, some_same}
+use Rattle.run_laws.proofs.of_role_steps.of_plain_facts.Tests.{both_true}
 use Rattle.locus_ids.specs.declared.ids.EpochId.{EpochId}
 use Rattle.locus_ids.specs.declared.sites.Sites.{Sites}
 use Rattle.locus_ids.specs.declared.sites.Members.{Members}
@@ -13,15 +13,15 @@ use Rattle.trace_book.specs.Same.{same_epoch}
 use Rattle.wire_messages.specs.declared.packet.Packet.{Packet}
 use Rattle.wire_messages.specs.declared.body.Body.{Body}
 use Rattle.wire_messages.specs.declared.body.Body.TheVariants as body
-use Rattle.role_steps.specs.Own.{Every}
-use Rattle.role_steps.specs.Tables.{without_row}
-use Rattle.role_steps.specs.Views.{Frame, SiteView, Promises, Outcome, quiet, sends, tells, and_then, to_some, sync_site, boot_in}
-use Rattle.role_steps.specs.Reports.{new_table}
-use Rattle.role_steps.specs.Storage.{report_of}
-use Rattle.role_steps.specs.Epochs.{is_epoch_below, frame_in, leaves_of, leaves, promises, promised_view, reached, new_round, poll_packet, polled_sites, polls, round_id, begins_round, starts_merge, boots_where, merge_boot, part_boot, starts_part_of, promise_packet, refuse_packet, on_poll, counts_promise, with_promise, on_promise_of, on_refuse_of, joined_view, report_packets, joins, may_install, is_in, joined_packet, on_install, on_joined, left_boot, passed_over, unanswered, chosen_members, chosen_set, others_of, install_packet, installs_all, decides, decides_if, passes_over_of, passes_over}
-use Rattle.role_steps.specs.declared.rounds.InEpoch.{InEpoch}
-use Rattle.role_steps.specs.declared.rounds.Round.{Round}
-use Rattle.role_steps.proofs.Sending.{every_cond, every_map, every_flat_map}
+use Rattle.run_laws.specs.of_role_steps.Own.{Every}
+use Rattle.run_laws.specs.of_role_steps.Tables.{without_row}
+use Rattle.run_laws.specs.of_role_steps.Views.{Frame, SiteView, Promises, Outcome, quiet, sends, tells, and_then, to_some, sync_site, boot_in}
+use Rattle.run_laws.specs.of_role_steps.Reports.{new_table}
+use Rattle.run_laws.specs.of_role_steps.Storage.{report_of}
+use Rattle.run_laws.specs.of_role_steps.Epochs.{is_epoch_below, frame_in, leaves_of, leaves, promises, promised_view, reached, new_round, poll_packet, polled_sites, polls, round_id, begins_round, starts_merge, boots_where, merge_boot, part_boot, starts_part_of, promise_packet, refuse_packet, on_poll, counts_promise, with_promise, on_promise_of, on_refuse_of, joined_view, report_packets, joins, may_install, is_in, joined_packet, on_install, on_joined, left_boot, passed_over, unanswered, chosen_members, chosen_set, others_of, install_packet, installs_all, decides, decides_if, passes_over_of, passes_over}
+use Rattle.run_laws.specs.of_role_steps.declared.rounds.InEpoch.{InEpoch}
+use Rattle.run_laws.specs.of_role_steps.declared.rounds.Round.{Round}
+use Rattle.run_laws.proofs.of_role_steps.Sending.{every_cond, every_map, every_flat_map}
 use Rattle.run_laws.specs.of_the_run.Steps.{takes_framed, takes, starts_mends_of, ends_event}
 use Rattle.run_laws.proofs.of_the_run.Joining.{same_at_most}
 use Rattle.run_laws.proofs.InsideSteps.{framed_inner, mends_of_inner}

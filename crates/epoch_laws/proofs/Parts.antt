@@ -4,11 +4,11 @@ use Rattle.locus_ids.specs.declared.ids.EpochId.{EpochId}
 use Rattle.wire_messages.specs.declared.packet.Packet.{Packet}
 use Rattle.wire_messages.specs.declared.body.Body.{Body}
 use Rattle.wire_messages.specs.declared.body.Body.TheVariants as body
-use Rattle.role_steps.specs.Own.{Every}
-use Rattle.role_steps.specs.Views.{SiteView, Outcome, quiet, sends, joined_to, and_then}
-use Rattle.role_steps.specs.declared.rounds.InEpoch.{InEpoch}
-use Rattle.role_steps.specs.declared.rounds.Round.{Round}
-use Rattle.role_steps.proofs.Sending.{every_append}
+use Rattle.run_laws.specs.of_role_steps.Own.{Every}
+use Rattle.run_laws.specs.of_role_steps.Views.{SiteView, Outcome, quiet, sends, joined_to, and_then}
+use Rattle.run_laws.specs.of_role_steps.declared.rounds.InEpoch.{InEpoch}
+use Rattle.run_laws.specs.of_role_steps.declared.rounds.Round.{Round}
+use Rattle.run_laws.proofs.of_role_steps.Sending.{every_append}
 use Rattle.run_laws.specs.of_the_run.Joins.{IsAtMost}
 use Rattle.run_laws.proofs.of_the_run.Boots.{every_weaker}
 use Rattle.run_laws.proofs.of_the_run.Joining.{same_at_most}

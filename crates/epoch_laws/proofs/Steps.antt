@@ -1,17 +1,17 @@
 -- The step of a site names known ids, and leaves a round in which an answer is missing.
 use Rattle.std.proofs.Common.{◌≡◌, ℕ, ◌≤◌, true, false, List, [], ◌∷◌, ◌++◌, Option, Some, None, refl, sym, ◌∙◌, subst}
-use Rattle.role_steps.proofs.of_plain_facts.Options.{none_some, some_same}
+use Rattle.run_laws.proofs.of_role_steps.of_plain_facts.Options.{none_some, some_same}
 use Rattle.locus_ids.specs.declared.ids.EpochId.{EpochId}
 use Rattle.locus_ids.specs.declared.sites.Links.{Links}
 use Rattle.locus_ids.specs.declared.config.Config.{Config}
 use Rattle.wire_messages.specs.declared.packet.Packet.{Packet}
-use Rattle.role_steps.specs.Own.{Every}
-use Rattle.role_steps.specs.Views.{SiteView, Outcome, Event, Calls, Receives, Ticks, Parts, Merges, GivesUp, quiet, boot_in}
-use Rattle.role_steps.specs.Reports.{new_table}
-use Rattle.role_steps.specs.Epochs.{frame_in, leaves, starts_merge, starts_part, poll_packet, install_packet, unanswered, decides_if, passed_over, passes_over_of, passes_over, poll_repeats, install_repeats}
-use Rattle.role_steps.specs.declared.rounds.InEpoch.{InEpoch}
-use Rattle.role_steps.specs.declared.rounds.Round.{Round}
-use Rattle.role_steps.proofs.Sending.{every_append, every_map}
+use Rattle.run_laws.specs.of_role_steps.Own.{Every}
+use Rattle.run_laws.specs.of_role_steps.Views.{SiteView, Outcome, Event, Calls, Receives, Ticks, Parts, Merges, GivesUp, quiet, boot_in}
+use Rattle.run_laws.specs.of_role_steps.Reports.{new_table}
+use Rattle.run_laws.specs.of_role_steps.Epochs.{frame_in, leaves, starts_merge, starts_part, poll_packet, install_packet, unanswered, decides_if, passed_over, passes_over_of, passes_over, poll_repeats, install_repeats}
+use Rattle.run_laws.specs.of_role_steps.declared.rounds.InEpoch.{InEpoch}
+use Rattle.run_laws.specs.of_role_steps.declared.rounds.Round.{Round}
+use Rattle.run_laws.proofs.of_role_steps.Sending.{every_append, every_map}
 use Rattle.run_laws.specs.of_the_run.Steps.{in_order, is_dropped, takes, tries_at, adopts_in, ends_event, whole, repeats_inside, repeats_of, repeats, ticks_after, call_frame, epoch_id, takes_call, step}
 use Rattle.run_laws.proofs.of_the_run.StepSends.{order_sent}
 use Rattle.run_laws.specs.Naming.{IsInEpoch, Inner}

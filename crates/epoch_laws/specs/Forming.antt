@@ -3,10 +3,10 @@ use Rattle.std.specs.Prelude.{◌≡◌}
 use Rattle.wire_messages.specs.declared.packet.Packet.{Packet}
 use Rattle.wire_messages.specs.declared.body.Body.{Body}
 use Rattle.wire_messages.specs.declared.body.Body.TheVariants.{Poll, Promise, Refuse, Install, Joined}
-use Rattle.role_steps.specs.Own.{Every}
-use Rattle.role_steps.specs.Views.{SiteView, Outcome}
-use Rattle.role_steps.specs.declared.synchronizing.SyncTable.{SyncTable}
-use Rattle.role_steps.specs.declared.synchronizing.LastLook.{LastLook}
+use Rattle.run_laws.specs.of_role_steps.Own.{Every}
+use Rattle.run_laws.specs.of_role_steps.Views.{SiteView, Outcome}
+use Rattle.run_laws.specs.of_role_steps.declared.synchronizing.SyncTable.{SyncTable}
+use Rattle.run_laws.specs.of_role_steps.declared.synchronizing.LastLook.{LastLook}
 use Rattle.run_laws.specs.of_the_run.Joins.{NoJoin, NoWrite}
 
 -- the body is none of those by which sites agree on an epoch

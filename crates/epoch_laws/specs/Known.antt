@@ -4,11 +4,11 @@ use Rattle.locus_ids.specs.declared.ids.EpochId.{EpochId}
 use Rattle.wire_messages.specs.declared.packet.Packet.{Packet}
 use Rattle.wire_messages.specs.declared.body.Body.{Body}
 use Rattle.wire_messages.specs.declared.body.Body.TheVariants.{Poll, Refuse}
-use Rattle.role_steps.specs.Own.{Every}
-use Rattle.role_steps.specs.Views.{SiteView, boot_in}
-use Rattle.role_steps.specs.Epochs.{unanswered}
-use Rattle.role_steps.specs.declared.rounds.InEpoch.{InEpoch}
-use Rattle.role_steps.specs.declared.rounds.Round.{Round}
+use Rattle.run_laws.specs.of_role_steps.Own.{Every}
+use Rattle.run_laws.specs.of_role_steps.Views.{SiteView, boot_in}
+use Rattle.run_laws.specs.of_role_steps.Epochs.{unanswered}
+use Rattle.run_laws.specs.of_role_steps.declared.rounds.InEpoch.{InEpoch}
+use Rattle.run_laws.specs.of_role_steps.declared.rounds.Round.{Round}
 use Rattle.run_laws.specs.of_the_run.Joins.{IsAtMost}
 use Rattle.run_laws.specs.of_the_run.Laws.{boot_on}
 use Rattle.run_laws.specs.of_the_run.Worlds.{World, Place, Running, Numbered, place_at}

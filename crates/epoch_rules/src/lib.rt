@@ -10,3 +10,4 @@ mod promised;
 pub use ids::{is_epoch_below, next_number, same_epoch};
 pub use places::{boot_in, is_linked, reached, site_at};
 pub use promised::{PollAnswer, Promised};
+pub use role_steps;

@@ -11,5 +11,6 @@ mod table;
 
 pub use faults::{FieldFault, ReadError};
 pub use fields::Fields;
+pub use locus_ids;
 pub use put::{put_slice, put_u8, put_u16, put_u32};
 pub use table::Table;

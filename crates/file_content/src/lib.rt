@@ -9,6 +9,7 @@ mod reading;
 mod writing;
 
 pub use changed::{pages_needed, pages_within, with_pages};
+pub use locus_ids;
 pub use pages::{page_of, pages_of, pages_replaced, pages_written};
 pub use reading::{part, part_of};
 pub use writing::written;

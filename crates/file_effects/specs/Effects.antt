@@ -1,7 +1,7 @@
 -- What an operation on a content gives and leaves.
 use Rattle.std.specs.Prelude.{ℕ, ◌+◌, Bool, true, false, not, ◌&&◌, ◌||◌, cond, nat_le, nat_lt, List, [], length, Option, None, Some}
 use Rattle.std.specs.Str.{bytes_eq}
-use Rattle.locus_ids.specs.declared.refusal.Refusal.TheVariants.{TooLong}
+use Rattle.file_content.specs.of_locus_ids.declared.refusal.Refusal.TheVariants.{TooLong}
 use Rattle.dir_format.specs.of_trace_book.declared.operation.Op.{Op}
 use Rattle.dir_format.specs.of_trace_book.declared.operation.Op.TheVariants as op
 use Rattle.dir_format.specs.of_trace_book.declared.operation.Outcome.{Outcome}
@@ -10,7 +10,7 @@ use Rattle.dir_format.specs.Grammar.{dir_bytes}
 use Rattle.dir_format.specs.of_trace_book.Names.{is_name}
 use Rattle.dir_format.specs.Contents.{entries_of, is_dir}
 use Rattle.dir_format.specs.Effects.{DirEffect, dir_effect}
-use Rattle.locus_ids.specs.Sizes.{directory_bytes_max, file_bytes_max, inodes_max}
+use Rattle.file_content.specs.of_locus_ids.Sizes.{directory_bytes_max, file_bytes_max, inodes_max}
 use Rattle.file_content.specs.Contents.{written, part, cut}
 use Rattle.file_content.specs.Pages.{pages_written, pages_replaced}
 

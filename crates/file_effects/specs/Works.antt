@@ -1,10 +1,10 @@
 -- What becomes of an open instance by its operations, commits and aborts.
 use Rattle.std.specs.Prelude.{ℕ, ◌+◌, Bool, true, false, ◌&&◌, ◌||◌, cond, nat_lt, List, [], length, Option, None, Some}
 use Rattle.std.specs.Option.{is_none}
-use Rattle.locus_ids.specs.declared.ids.Stamp.{Stamp}
-use Rattle.locus_ids.specs.declared.ids.Mode.{Mode}
-use Rattle.locus_ids.specs.declared.ids.Mode.TheVariants as mode
-use Rattle.locus_ids.specs.declared.refusal.Refusal.TheVariants.{NoSpace, Spent}
+use Rattle.file_content.specs.of_locus_ids.declared.ids.Stamp.{Stamp}
+use Rattle.file_content.specs.of_locus_ids.declared.ids.Mode.{Mode}
+use Rattle.file_content.specs.of_locus_ids.declared.ids.Mode.TheVariants as mode
+use Rattle.file_content.specs.of_locus_ids.declared.refusal.Refusal.TheVariants.{NoSpace, Spent}
 use Rattle.dir_format.specs.of_trace_book.declared.operation.Outcome.{Outcome}
 use Rattle.dir_format.specs.of_trace_book.declared.operation.Outcome.TheVariants as outcome
 use Rattle.file_content.specs.Pages.{pages_within, with_pages, pages_needed}

@@ -1,4 +1,4 @@
-use locus_ids::{Bytes, ItemList, Stamp};
+use file_content::locus_ids::{Bytes, ItemList, Stamp};
 
 /// What has become of an open instance since it was granted.
 #[derive(Drop)]

@@ -8,3 +8,4 @@ pub mod Room
 pub mod Pulling
 pub mod CalmAskingAsked
 pub use Rattle.order_laws.specs as of_order_laws
+pub use Rattle.rest_laws.specs as of_rest_laws

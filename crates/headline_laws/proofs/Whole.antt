@@ -6,14 +6,14 @@ use Rattle.schedule_lines.specs.declared.line.ScheduleLine.{ScheduleLine}
 use Rattle.the_run.specs.Runs.{run}
 use Rattle.lawful_trace.specs.Lawful.{IsLawful}
 use Rattle.row_laws.specs.Shown.{trace_of}
-use Rattle.whole_run_laws.proofs.of_call_row_laws.TreeSum.{tree_lawful}
-use Rattle.whole_run_laws.proofs.of_orderly_traces.Forms.{blocks_form}
-use Rattle.whole_run_laws.proofs.of_orderly_traces.OwnLeaves.{leaves_are_own}
+use Rattle.prompt_laws.proofs.of_whole_run_laws.of_call_row_laws.TreeSum.{tree_lawful}
+use Rattle.prompt_laws.proofs.of_whole_run_laws.of_orderly_traces.Forms.{blocks_form}
+use Rattle.prompt_laws.proofs.of_whole_run_laws.of_orderly_traces.OwnLeaves.{leaves_are_own}
 use Rattle.tree_laws.specs.Following.{RowsAreLawful}
-use Rattle.whole_run_laws.proofs.of_rest_laws.MendStepMeeting.{rows_meet}
-use Rattle.whole_run_laws.proofs.of_rest_laws.Run.{schedule_rows}
-use Rattle.whole_run_laws.proofs.of_rest_laws.Shown.{shown_entries}
-use Rattle.whole_run_laws.proofs.CutRun.{schedule_counted}
+use Rattle.prompt_laws.proofs.of_whole_run_laws.of_rest_laws.MendStepMeeting.{rows_meet}
+use Rattle.prompt_laws.proofs.of_whole_run_laws.of_rest_laws.Run.{schedule_rows}
+use Rattle.prompt_laws.proofs.of_whole_run_laws.of_rest_laws.Shown.{shown_entries}
+use Rattle.prompt_laws.proofs.of_whole_run_laws.CutRun.{schedule_counted}
 use Rattle.row_laws.proofs.ArmsKept.{run_keeps_calls}
 use Rattle.promise_laws.proofs.of_convergence_laws.of_calm_laws.Calm.{round_carries}
 use Rattle.promise_laws.proofs.of_convergence_laws.of_calm_laws.CalmAnswerAnswered.{calm_left, rounds_answer}
@@ -21,7 +21,7 @@ use Rattle.promise_laws.proofs.of_convergence_laws.DirectoriesRescued.{rescued, 
 use Rattle.promise_laws.proofs.of_convergence_laws.TraceConverging.{converging}
 use Rattle.promise_laws.proofs.of_convergence_laws.TraceFlagged.{none_flagged}
 use Rattle.promise_laws.proofs.of_convergence_laws.TraceRescued.{undisturbed_by_trace, rescue_by_trace}
-use Rattle.whole_run_laws.proofs.Rounds.{large_rounds}
+use Rattle.prompt_laws.proofs.of_whole_run_laws.Rounds.{large_rounds}
 use Rattle.headline_laws.specs.TheRun.{TheRun}
 use Rattle.headline_laws.specs.Rows.{RowsHold}
 use Rattle.headline_laws.specs.Replies.{RepliesHold}

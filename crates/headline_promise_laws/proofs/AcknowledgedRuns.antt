@@ -26,7 +26,7 @@ use Rattle.tree_model.specs.Histories.{history}
 use Rattle.lawful_trace.specs.Lawful.{MayCome}
 use Rattle.lawful_trace.specs.Progress.{now_wants}
 use Rattle.the_run.specs.Runs.{run}
-use Rattle.rest_laws.specs.of_row_laws.Shown.{trace_of}
+use Rattle.stop_promise_laws.specs.of_rest_laws.of_row_laws.Shown.{trace_of}
 use Rattle.promises.specs.Past.{CallSoFar, Copy, nothing_yet, is_on}
 use Rattle.promises.specs.After.{is_id}
 use Rattle.promises.specs.Headline.{stamps_in, files_of, acknowledged_by, keeps_acknowledged}

@@ -34,7 +34,7 @@ use Rattle.lawful_trace.specs.Places as places
 use Rattle.lawful_trace.specs.Places.{line_at}
 use Rattle.lawful_trace.specs.SiteRows as rows
 use Rattle.the_run.specs.Runs.{run}
-use Rattle.rest_laws.specs.of_row_laws.Shown.{EachRecord, trace_of}
+use Rattle.stop_promise_laws.specs.of_rest_laws.of_row_laws.Shown.{EachRecord, trace_of}
 use Rattle.row_laws.specs.Rows.{AskedRecord, IsAskedFor as IsAskedRow, IsPlaced}
 use Rattle.row_laws.specs.Voids.{LinesFit}
 use Rattle.row_laws.proofs.AskedRun.{run_asked, run_placed}

@@ -18,10 +18,10 @@ use Rattle.lawful_trace.specs.Prompt.{is_unanswered}
 use Rattle.the_run.specs.Runs.{run}
 use Rattle.row_laws.proofs.Fitting.{schedule_few}
 use Rattle.tree_laws.specs.Following.{RowsAreLawful}
-use Rattle.rest_laws.specs.of_row_laws.Shown.{EachRecord, trace_of}
-use Rattle.rest_laws.proofs.Run.{schedule_rows}
-use Rattle.rest_laws.proofs.Shown.{shown_entries}
-use Rattle.rest_laws.proofs.StoreStepFirst.{four_groups}
+use Rattle.stop_promise_laws.specs.of_rest_laws.of_row_laws.Shown.{EachRecord, trace_of}
+use Rattle.stop_promise_laws.proofs.of_rest_laws.Run.{schedule_rows}
+use Rattle.stop_promise_laws.proofs.of_rest_laws.Shown.{shown_entries}
+use Rattle.stop_promise_laws.proofs.of_rest_laws.StoreStepFirst.{four_groups}
 use Rattle.headline_laws.specs.of_prompt_laws.Speaks.{SpeaksOfWhatIs, RecordSpeaks, IsSite}
 use Rattle.headline_laws.specs.of_prompt_laws.Given.{IsGivenRow, GivenRecord}
 use Rattle.headline_laws.specs.of_prompt_laws.Directly.{IsDirectRow, DirectRecord, is_last}

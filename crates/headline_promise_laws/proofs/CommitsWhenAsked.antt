@@ -25,7 +25,7 @@ use Rattle.tree_model.specs.Tree.{tree_of}
 use Rattle.lawful_trace.specs.Progress.{wants_after, wants_next}
 use Rattle.lawful_trace.specs.TreeRows.{IsCallIn, is_writing as writes}
 use Rattle.the_run.specs.Runs.{run}
-use Rattle.rest_laws.specs.of_row_laws.Shown.{EachRecord, trace_of}
+use Rattle.stop_promise_laws.specs.of_rest_laws.of_row_laws.Shown.{EachRecord, trace_of}
 use Rattle.promises.specs.Past.{CallSoFar, Instance, Past, asks, epoch_at, is_writer, nothing_yet}
 use Rattle.promises.specs.After.{is_home_of, is_id}
 use Rattle.promises.specs.Beside.{commits_when_asked, is_commit_asked}

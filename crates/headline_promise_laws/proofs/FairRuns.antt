@@ -62,7 +62,7 @@ use Rattle.schedule_lines.specs.Cluster.{config_of}
 use Rattle.schedule_lines.specs.Schedule.{AreInOrder}
 use Rattle.schedule_lines.specs.declared.line.ScheduleLine.{ScheduleLine}
 use Rattle.the_run.specs.Runs.{run}
-use Rattle.rest_laws.specs.of_row_laws.Shown.{trace_of}
+use Rattle.stop_promise_laws.specs.of_rest_laws.of_row_laws.Shown.{trace_of}
 
 walks_use : (id : CallId) (now : Option EpochId) (e : EpochId) (i : Serial) → begins_walk now id ≡ begins.Uses e i → ⊥
 walks_use id None e i k = cc

@@ -6,7 +6,7 @@ use Rattle.schedule_lines.specs.Cluster.{config_of}
 use Rattle.tree_model.specs.Folds.{Trace}
 use Rattle.schedule_lines.specs.Schedule.{AreInOrder}
 use Rattle.the_run.specs.Runs.{run}
-use Rattle.rest_laws.specs.of_row_laws.Shown.{trace_of}
+use Rattle.stop_promise_laws.specs.of_rest_laws.of_row_laws.Shown.{trace_of}
 use Rattle.promises.specs.Past.{nothing_yet}
 use Rattle.promises.specs.Headline.{flags_rightly}
 use Rattle.promises.specs.Traces.{each}

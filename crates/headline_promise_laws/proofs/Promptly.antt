@@ -25,7 +25,7 @@ use Rattle.lawful_trace.specs.Progress.{answers, left_epoch, left_since, wants_a
 use Rattle.lawful_trace.specs.Prompt.{answers_call, comes_first, due, due_among, is_due, is_reply_due, is_unanswered, lesser}
 use Rattle.the_run.specs.Kept.{Among}
 use Rattle.the_run.specs.Runs.{run}
-use Rattle.rest_laws.specs.of_row_laws.Shown.{EachRecord, trace_of}
+use Rattle.stop_promise_laws.specs.of_rest_laws.of_row_laws.Shown.{EachRecord, trace_of}
 use Rattle.promises.specs.Past.{CallSoFar, Past, asks, nothing_yet, site_at}
 use Rattle.promises.specs.After.{is_id}
 use Rattle.promises.specs.Beside.{comes_promptly, is_owed_reply}

@@ -30,7 +30,7 @@ use Rattle.the_run.specs.Runs.{acts_line, run, run_in}
 use Rattle.the_run.specs.Worlds.{World, told_onto}
 use Rattle.the_run.specs.Worlds.{Line as RunLine}
 use Rattle.role_steps.specs.Views.{Shown, Told}
-use Rattle.rest_laws.specs.of_row_laws.Shown.{EachRecord, shown, trace_of}
+use Rattle.stop_promise_laws.specs.of_rest_laws.of_row_laws.Shown.{EachRecord, shown, trace_of}
 use Rattle.row_laws.proofs.AskedRun.{run_placed}
 use Rattle.row_laws.proofs.ByLine.{by_lines}
 use Rattle.row_laws.proofs.Fitting.{schedule_fits}

@@ -1,7 +1,7 @@
 -- A record that comes as it may is consistent with those before it.
 use Rattle.std.specs.Prelude.{List, [], ◌∷◌}
 use Rattle.locus_ids.specs.declared.config.Config.{Config}
-use Rattle.schedule_lines.specs.declared.line.ScheduleLine.{ScheduleLine}
+use Rattle.disk_calls.specs.of_schedule_lines.declared.line.ScheduleLine.{ScheduleLine}
 use Rattle.tree_model.specs.Folds.{Trace}
 use Rattle.lawful_trace.specs.Lawful.{EachComes, IsConsistent}
 

@@ -9,8 +9,8 @@ use Rattle.locus_ids.specs.declared.config.Config.{Config}
 use Rattle.locus_ids.specs.declared.ids.EpochId.{EpochId}
 use Rattle.call_rules.specs.of_commit_graph.Vectors.{numbers_from}
 use Rattle.trace_book.specs.declared.entry.Entry.{Entry}
-use Rattle.schedule_lines.specs.declared.line.ScheduleLine.{ScheduleLine}
-use Rattle.schedule_lines.specs.declared.line.ScheduleLine.TheVariants.{Passed}
+use Rattle.disk_calls.specs.of_schedule_lines.declared.line.ScheduleLine.{ScheduleLine}
+use Rattle.disk_calls.specs.of_schedule_lines.declared.line.ScheduleLine.TheVariants.{Passed}
 use Rattle.tree_model.specs.Folds.{Trace, before_line, last_line}
 use Rattle.tree_model.specs.Epochs.{boot_of}
 use Rattle.lawful_trace.specs.Places.{line_at, lines_before, initiator, starts_at}

@@ -11,10 +11,10 @@ use Rattle.locus_ids.specs.declared.config.Config.{Config}
 use Rattle.call_rules.specs.of_commit_graph.Vectors.{numbers_from}
 use Rattle.trace_book.specs.declared.entry.Entry.{Entry}
 use Rattle.trace_book.specs.declared.record.Record.{Record}
-use Rattle.schedule_lines.specs.declared.line.ScheduleLine.{ScheduleLine}
-use Rattle.schedule_lines.specs.declared.line.ScheduleLine.TheVariants.{Passed, Header, Event}
-use Rattle.schedule_lines.specs.Cluster.{config_of, no_cluster, with_line}
-use Rattle.schedule_lines.specs.Schedule.{is_event, has_begun}
+use Rattle.disk_calls.specs.of_schedule_lines.declared.line.ScheduleLine.{ScheduleLine}
+use Rattle.disk_calls.specs.of_schedule_lines.declared.line.ScheduleLine.TheVariants.{Passed, Header, Event}
+use Rattle.disk_calls.specs.of_schedule_lines.Cluster.{config_of, no_cluster, with_line}
+use Rattle.disk_calls.specs.of_schedule_lines.Schedule.{is_event, has_begun}
 use Rattle.tree_model.specs.Folds.{Trace, before_line}
 use Rattle.lawful_trace.specs.Places.{line_at, lines_before}
 use Rattle.lawful_trace.specs.LineRows.{is_void, is_void_line, is_void_after, how_many, tale, must_tell, is_told_by, is_told, are_told}

@@ -10,7 +10,7 @@ use Rattle.trace_book.specs.declared.record.Record.{Record}
 use Rattle.trace_book.specs.declared.record.Record.TheVariants.{Up, Stopped, Leave, Join, Start, Accept, Look, Grant, Refuse, Act, Commit, Release, Adopt, Answer, Packet, Void, Budget}
 use Rattle.trace_book.specs.declared.record.StopCause.{StopCause}
 use Rattle.trace_book.specs.declared.record.StopCause.TheVariants as cause
-use Rattle.schedule_lines.specs.declared.line.ScheduleLine.{ScheduleLine}
+use Rattle.disk_calls.specs.of_schedule_lines.declared.line.ScheduleLine.{ScheduleLine}
 use Rattle.tree_model.specs.Folds.{Trace, last_line}
 use Rattle.tree_model.specs.Epochs.{is_up}
 use Rattle.lawful_trace.specs.Places.{line_at}

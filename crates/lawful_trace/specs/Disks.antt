@@ -9,10 +9,10 @@ use Rattle.call_rules.specs.of_commit_graph.Versions.{content_of}
 use Rattle.trace_book.specs.declared.record.Record.{Record}
 use Rattle.trace_book.specs.declared.record.Record.TheVariants.{Up, Stopped, Commit, Adopt}
 use Rattle.trace_book.specs.declared.record.StopCause.TheVariants as cause
-use Rattle.schedule_lines.specs.declared.line.Leave.{Leave}
-use Rattle.schedule_lines.specs.declared.line.ScheduleLine.{ScheduleLine}
-use Rattle.schedule_lines.specs.declared.line.ScheduleLine.TheVariants.{Event}
-use Rattle.schedule_lines.specs.declared.line.Line.TheVariants as line
+use Rattle.disk_calls.specs.of_schedule_lines.declared.line.Leave.{Leave}
+use Rattle.disk_calls.specs.of_schedule_lines.declared.line.ScheduleLine.{ScheduleLine}
+use Rattle.disk_calls.specs.of_schedule_lines.declared.line.ScheduleLine.TheVariants.{Event}
+use Rattle.disk_calls.specs.of_schedule_lines.declared.line.Line.TheVariants as line
 use Rattle.disk_calls.specs.of_file_content.Pages.{pages_of, pages_from, ascending}
 pub use Rattle.disk_calls.specs.Versions.{Writing, calls_of_writing}
 use Rattle.disk_calls.specs.Gates.{Cut, Stops as Stopping, Fails as Failing}

@@ -3,9 +3,9 @@ use Rattle.std.specs.Prelude.{◌≡◌, ◌+◌, Bool, true, false, ◌&&◌, L
 use Rattle.std.specs.List.{AllByRecursion}
 use Rattle.locus_ids.specs.declared.config.Config.{Config}
 use Rattle.trace_book.specs.declared.record.Record.{Record}
-use Rattle.schedule_lines.specs.declared.line.ScheduleLine.{ScheduleLine}
-use Rattle.schedule_lines.specs.declared.line.ScheduleLine.TheVariants.{Passed, Header, Event}
-use Rattle.schedule_lines.specs.Cluster.{config_of}
+use Rattle.disk_calls.specs.of_schedule_lines.declared.line.ScheduleLine.{ScheduleLine}
+use Rattle.disk_calls.specs.of_schedule_lines.declared.line.ScheduleLine.TheVariants.{Passed, Header, Event}
+use Rattle.disk_calls.specs.of_schedule_lines.Cluster.{config_of}
 use Rattle.tree_model.specs.Folds.{Trace}
 use Rattle.lawful_trace.specs.Disks.{writer_of, fits_calls}
 use Rattle.lawful_trace.specs.LineRows.{is_told}

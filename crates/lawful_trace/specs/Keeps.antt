@@ -1,6 +1,6 @@
 -- What is promised of the trace of a schedule.
 use Rattle.std.specs.Prelude.{List}
-use Rattle.schedule_lines.specs.declared.line.ScheduleLine.{ScheduleLine}
+use Rattle.disk_calls.specs.of_schedule_lines.declared.line.ScheduleLine.{ScheduleLine}
 use Rattle.tree_model.specs.Folds.{Trace}
 use Rattle.lawful_trace.specs.Lawful.{IsLawful}
 use Rattle.lawful_trace.specs.Calm.{CalmRoundsAnswer}

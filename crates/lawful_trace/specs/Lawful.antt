@@ -5,8 +5,8 @@ use Rattle.locus_ids.specs.declared.config.Config.{Config}
 use Rattle.trace_book.specs.declared.entry.Entry.{Entry}
 use Rattle.trace_book.specs.declared.record.Record.{Record}
 use Rattle.trace_book.specs.declared.record.Record.TheVariants.{Up, Stopped, Leave, Join, Start, Accept, Look, Grant, Refuse, Act, Commit, Release, Adopt, Answer, Packet, Void, Budget}
-use Rattle.schedule_lines.specs.declared.line.ScheduleLine.{ScheduleLine}
-use Rattle.schedule_lines.specs.Cluster.{config_of}
+use Rattle.disk_calls.specs.of_schedule_lines.declared.line.ScheduleLine.{ScheduleLine}
+use Rattle.disk_calls.specs.of_schedule_lines.Cluster.{config_of}
 use Rattle.tree_model.specs.Folds.{Trace, last_line}
 use Rattle.lawful_trace.specs.SiteRows.{MayBoot, IsBootAsked, StopRow, StopLine, MayLeave, IsLeaveAsked, MayJoin, IsJoinAsked}
 use Rattle.lawful_trace.specs.TreeRows.{MayStart, MayLook, MayGrant, MayRefuse, MayAct, MayCommit, MayRelease, MayAdopt}

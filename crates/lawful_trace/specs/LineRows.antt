@@ -8,10 +8,10 @@ use Rattle.trace_book.specs.declared.record.Record.{Record}
 use Rattle.trace_book.specs.declared.record.Record.TheVariants.{Up, Stopped, Leave, Accept, Void}
 use Rattle.trace_book.specs.declared.call.Call.{Call}
 use Rattle.trace_book.specs.declared.call.Call.TheVariants as call
-use Rattle.schedule_lines.specs.declared.line.Line.{Line}
-use Rattle.schedule_lines.specs.declared.line.Line.TheVariants as line
-use Rattle.schedule_lines.specs.declared.line.ScheduleLine.{ScheduleLine}
-use Rattle.schedule_lines.specs.declared.line.ScheduleLine.TheVariants.{Passed, Header, Event}
+use Rattle.disk_calls.specs.of_schedule_lines.declared.line.Line.{Line}
+use Rattle.disk_calls.specs.of_schedule_lines.declared.line.Line.TheVariants as line
+use Rattle.disk_calls.specs.of_schedule_lines.declared.line.ScheduleLine.{ScheduleLine}
+use Rattle.disk_calls.specs.of_schedule_lines.declared.line.ScheduleLine.TheVariants.{Passed, Header, Event}
 use Rattle.tree_model.specs.Folds.{Trace, before_line}
 use Rattle.tree_model.specs.Epochs.{is_up, epoch_of}
 use Rattle.tree_model.specs.Calls.{waiting, waiting_of}

@@ -6,10 +6,10 @@ use Rattle.locus_ids.specs.declared.sites.Members.{Members}
 use Rattle.trace_book.specs.declared.entry.Entry.{Entry}
 use Rattle.trace_book.specs.declared.record.Record.{Record}
 use Rattle.trace_book.specs.declared.record.Record.TheVariants.{Budget, Stopped, Leave}
-use Rattle.schedule_lines.specs.declared.line.ScheduleLine.{ScheduleLine}
-use Rattle.schedule_lines.specs.declared.line.ScheduleLine.TheVariants.{Passed, Event}
-use Rattle.schedule_lines.specs.declared.line.Line.TheVariants as line
-use Rattle.schedule_lines.specs.Cluster.{config_of}
+use Rattle.disk_calls.specs.of_schedule_lines.declared.line.ScheduleLine.{ScheduleLine}
+use Rattle.disk_calls.specs.of_schedule_lines.declared.line.ScheduleLine.TheVariants.{Passed, Event}
+use Rattle.disk_calls.specs.of_schedule_lines.declared.line.Line.TheVariants as line
+use Rattle.disk_calls.specs.of_schedule_lines.Cluster.{config_of}
 use Rattle.tree_model.specs.Folds.{Trace, before_line}
 use Rattle.tree_model.specs.Epochs.{boot_of, epoch_of, members_of}
 use Rattle.tree_model.specs.Packs.{boot_in, is_member, all_sites}

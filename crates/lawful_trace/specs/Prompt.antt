@@ -10,10 +10,10 @@ use Rattle.trace_book.specs.declared.record.Record.TheVariants.{Up, Stopped, Joi
 use Rattle.trace_book.specs.declared.call.Call.{Call}
 use Rattle.trace_book.specs.declared.call.Call.TheVariants.{Mend}
 use Rattle.call_rules.specs.Scripts.{gives_reply}
-use Rattle.schedule_lines.specs.declared.line.ScheduleLine.{ScheduleLine}
-use Rattle.schedule_lines.specs.declared.line.ScheduleLine.TheVariants.{Event}
-use Rattle.schedule_lines.specs.declared.line.Line.TheVariants as line
-use Rattle.schedule_lines.specs.Cluster.{config_of}
+use Rattle.disk_calls.specs.of_schedule_lines.declared.line.ScheduleLine.{ScheduleLine}
+use Rattle.disk_calls.specs.of_schedule_lines.declared.line.ScheduleLine.TheVariants.{Event}
+use Rattle.disk_calls.specs.of_schedule_lines.declared.line.Line.TheVariants as line
+use Rattle.disk_calls.specs.of_schedule_lines.Cluster.{config_of}
 use Rattle.tree_model.specs.declared.accepted.Waiting.{Waiting}
 use Rattle.tree_model.specs.Folds.{Trace, last_line}
 use Rattle.tree_model.specs.Calls.{waiting}

@@ -8,9 +8,9 @@ use Rattle.locus_ids.specs.declared.config.Config.{Config}
 use Rattle.call_rules.specs.of_commit_graph.Vectors.{numbers_from}
 use Rattle.trace_book.specs.declared.record.StopCause.{StopCause}
 use Rattle.trace_book.specs.declared.record.StopCause.TheVariants as cause
-use Rattle.schedule_lines.specs.declared.line.ScheduleLine.{ScheduleLine}
-use Rattle.schedule_lines.specs.declared.line.ScheduleLine.TheVariants.{Event}
-use Rattle.schedule_lines.specs.declared.line.Line.TheVariants as line
+use Rattle.disk_calls.specs.of_schedule_lines.declared.line.ScheduleLine.{ScheduleLine}
+use Rattle.disk_calls.specs.of_schedule_lines.declared.line.ScheduleLine.TheVariants.{Event}
+use Rattle.disk_calls.specs.of_schedule_lines.declared.line.Line.TheVariants as line
 use Rattle.tree_model.specs.Folds.{Trace, before_line}
 use Rattle.tree_model.specs.Epochs.{is_up, boot_of, epoch_of, has_joined, last_joined, is_above_joined, members_of}
 use Rattle.tree_model.specs.Packs.{boot_in}

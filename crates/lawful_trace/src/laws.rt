@@ -1,7 +1,7 @@
 ghost use Rattle.std.specs.Prelude.{◌≡◌, false, List, [], ◌∷◌, ◌++◌};
-ghost use Rattle.schedule_lines.specs.declared.line.ScheduleLine.{ScheduleLine};
-ghost use Rattle.schedule_lines.specs.Cluster.{config_of};
-ghost use Rattle.schedule_lines.specs.Schedule.{has_begun};
+ghost use Rattle.disk_calls.specs.of_schedule_lines.declared.line.ScheduleLine.{ScheduleLine};
+ghost use Rattle.disk_calls.specs.of_schedule_lines.Cluster.{config_of};
+ghost use Rattle.disk_calls.specs.of_schedule_lines.Schedule.{has_begun};
 ghost use Rattle.lawful_trace.specs.Growth.{IsNextLine};
 ghost use Rattle.tree_model.specs.Folds.{Trace};
 ghost use Rattle.lawful_trace.specs.Lawful.{IsConsistent, IsLawful};

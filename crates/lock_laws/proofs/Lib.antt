@@ -21,3 +21,4 @@ pub mod GrantsRun
 pub use Rattle.vector_laws.proofs as of_vector_laws
 pub use Rattle.vector_laws.proofs.of_law_walks as of_law_walks
 pub use Rattle.vector_laws.proofs.of_run_laws as of_run_laws
+pub use Rattle.vector_laws.proofs.of_the_run as of_the_run

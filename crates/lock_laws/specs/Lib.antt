@@ -8,3 +8,4 @@ pub mod Asked
 pub use Rattle.vector_laws.specs as of_vector_laws
 pub use Rattle.vector_laws.specs.of_law_walks as of_law_walks
 pub use Rattle.vector_laws.specs.of_run_laws as of_run_laws
+pub use Rattle.vector_laws.specs.of_the_run as of_the_run

@@ -17,3 +17,4 @@ pub use Rattle.store_laws.specs.of_holding_laws as of_holding_laws
 pub use Rattle.store_laws.specs.of_order_laws as of_order_laws
 pub use Rattle.store_laws.specs.of_sync_laws as of_sync_laws
 pub use Rattle.store_laws.specs.of_user_laws as of_user_laws
+pub use Rattle.kept_laws.specs.of_make_laws as of_make_laws

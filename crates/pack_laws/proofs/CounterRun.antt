@@ -2,7 +2,7 @@
 use Rattle.std.proofs.Common.{◌≤◌, List}
 use Rattle.locus_ids.specs.declared.config.Config.{Config}
 use Rattle.schedule_lines.specs.declared.line.ScheduleLine.{ScheduleLine}
-use Rattle.the_run.specs.Runs.{run_in}
+use Rattle.lock_laws.specs.of_the_run.Runs.{run_in}
 use Rattle.lock_laws.specs.of_vector_laws.Written.{past_of}
 use Rattle.lock_laws.proofs.of_vector_laws.FactsRun.{run_numbered}
 use Rattle.pack_laws.proofs.InstanceAgree.{run_agrees}

@@ -9,13 +9,13 @@ use Rattle.trace_book.specs.Text.{entry_text, record_text, number, gap}
 use Rattle.wire_messages.specs.declared.packet.Packet.{Packet}
 use Rattle.role_steps.specs.Tables.{total}
 use Rattle.role_steps.specs.Views.{SiteView, Told, Shown, Outcome, Receives}
-use Rattle.the_run.specs.Disks.{Booted, Whole, CutOff, boots}
-use Rattle.the_run.specs.Steps.{step}
-use Rattle.the_run.specs.Worlds.{World, Limit, Line, links_of, script_of, happened, happened_of, unless_over, limit_passed, told_onto, told_size, packet_size, puts, arms, passed, stops_with, acts}
-use Rattle.the_run.specs.Runs.{boots_as, run_in}
-use Rattle.the_run.specs.Kept.{Kept}
-use Rattle.the_run.proofs.Events.{acts_keeps}
-use Rattle.the_run.proofs.Runs.{every_run}
+use Rattle.lock_laws.specs.of_the_run.Disks.{Booted, Whole, CutOff, boots}
+use Rattle.lock_laws.specs.of_the_run.Steps.{step}
+use Rattle.lock_laws.specs.of_the_run.Worlds.{World, Limit, Line, links_of, script_of, happened, happened_of, unless_over, limit_passed, told_onto, told_size, packet_size, puts, arms, passed, stops_with, acts}
+use Rattle.lock_laws.specs.of_the_run.Runs.{boots_as, run_in}
+use Rattle.lock_laws.specs.of_the_run.Kept.{Kept}
+use Rattle.lock_laws.proofs.of_the_run.Events.{acts_keeps}
+use Rattle.lock_laws.proofs.of_the_run.Runs.{every_run}
 use Rattle.lock_laws.specs.of_vector_laws.Written.{past_of}
 use Rattle.pack_laws.specs.CounterNumbers.{calls_in, calls_recorded, calls_told, commits_recorded, commits_told, commits_in}
 

@@ -7,7 +7,7 @@ use Rattle.schedule_lines.specs.declared.line.ScheduleLine.{ScheduleLine}
 use Rattle.trace_book.specs.declared.record.Record.{Record}
 use Rattle.trace_book.specs.declared.record.Record.TheVariants as says
 use Rattle.role_steps.specs.Views.{Told, Shown}
-use Rattle.the_run.specs.Runs.{run_in}
+use Rattle.lock_laws.specs.of_the_run.Runs.{run_in}
 use Rattle.lock_laws.specs.of_vector_laws.Written.{past_of}
 use Rattle.lock_laws.specs.of_vector_laws.HistoryCommits.{SitedRecord, SitedTold, CommitsAreSited, SitesAreKnown}
 use Rattle.lock_laws.proofs.of_vector_laws.HistorySited.{run_sited}

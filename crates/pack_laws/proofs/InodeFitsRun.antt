@@ -19,15 +19,15 @@ use Rattle.role_steps.specs.Views.{SiteView, Told, Shown, DiskWrite, Outcome, Ev
 use Rattle.role_steps.specs.Storage.{copy_key}
 use Rattle.role_steps.specs.declared.copies.FileCopy.{FileCopy}
 use Rattle.role_steps.proofs.Sending.{every_append, every_map}
-use Rattle.the_run.specs.Disks.{Disk, Booted, Whole, CutOff, boots, cut_disk, is_on_disk}
-use Rattle.the_run.specs.Steps.{step}
-use Rattle.the_run.specs.Worlds.{World, Place, Running, Stopped, Numbered, number_of, links_of, place_at, place_in, place_site, script_of, happened, numbered_from, disk_of, puts, arms, passed, stops_with, cause_of, acts, fresh, root_copy, formatted, first_place, first_world}
-use Rattle.the_run.specs.Runs.{boots_as, packet_record, run_in}
-use Rattle.the_run.specs.Kept.{WasSent, IsOwn, Kept}
-use Rattle.the_run.proofs.Boots.{at_each, acts_cases, every_newest, every_numbered, every_weaker}
-use Rattle.the_run.proofs.Events.{happened_keeps, puts_other, puts_same}
-use Rattle.the_run.proofs.InsideSync.{every_row, every_without}
-use Rattle.the_run.proofs.Runs.{every_run}
+use Rattle.lock_laws.specs.of_the_run.Disks.{Disk, Booted, Whole, CutOff, boots, cut_disk, is_on_disk}
+use Rattle.lock_laws.specs.of_the_run.Steps.{step}
+use Rattle.lock_laws.specs.of_the_run.Worlds.{World, Place, Running, Stopped, Numbered, number_of, links_of, place_at, place_in, place_site, script_of, happened, numbered_from, disk_of, puts, arms, passed, stops_with, cause_of, acts, fresh, root_copy, formatted, first_place, first_world}
+use Rattle.lock_laws.specs.of_the_run.Runs.{boots_as, packet_record, run_in}
+use Rattle.lock_laws.specs.of_the_run.Kept.{WasSent, IsOwn, Kept}
+use Rattle.lock_laws.proofs.of_the_run.Boots.{at_each, acts_cases, every_newest, every_numbered, every_weaker}
+use Rattle.lock_laws.proofs.of_the_run.Events.{happened_keeps, puts_other, puts_same}
+use Rattle.lock_laws.proofs.of_the_run.InsideSync.{every_row, every_without}
+use Rattle.lock_laws.proofs.of_the_run.Runs.{every_run}
 use Rattle.lock_laws.proofs.of_run_laws.Run.{found_among}
 use Rattle.lock_laws.specs.of_vector_laws.Held.{IsOf, StillRecord, Still, OnDisk, copies_on}
 use Rattle.lock_laws.specs.of_vector_laws.Written.{past_of}

@@ -35,9 +35,9 @@ use Rattle.role_steps.specs.declared.rounds.Round.{Round}
 use Rattle.role_steps.specs.declared.synchronizing.SyncTable.{SyncTable}
 use Rattle.role_steps.specs.declared.synchronizing.FileRow.{FileRow}
 use Rattle.role_steps.proofs.Sending.{every_append, every_cond, every_map, every_flat_map}
-use Rattle.the_run.specs.Steps.{in_order, from_user, group_of, at_table_of, is_opened_in, takes_inside, takes_framed, takes, is_dropped, adopts_of, adopts_in, tries_at, starts_mends_of, ends_event, whole, repeats_inside, repeats_of, repeats, ticks_after, call_frame, epoch_id, takes_call, step}
-use Rattle.the_run.proofs.InsideSync.{every_row, every_without, Found, row_found, first_found}
-use Rattle.the_run.proofs.StepSends.{order_sent}
+use Rattle.lock_laws.specs.of_the_run.Steps.{in_order, from_user, group_of, at_table_of, is_opened_in, takes_inside, takes_framed, takes, is_dropped, adopts_of, adopts_in, tries_at, starts_mends_of, ends_event, whole, repeats_inside, repeats_of, repeats, ticks_after, call_frame, epoch_id, takes_call, step}
+use Rattle.lock_laws.proofs.of_the_run.InsideSync.{every_row, every_without, Found, row_found, first_found}
+use Rattle.lock_laws.proofs.of_the_run.StepSends.{order_sent}
 use Rattle.lock_laws.proofs.of_vector_laws.SyncFacts.{every_flat}
 use Rattle.pack_laws.specs.InodeFits.{ReportedFits, BodyFits, PacketFits, CopyFits, PullFits, TableFits, ViewFits, OutFits}
 use Rattle.pack_laws.proofs.InodeRolesSend.{on_pull_fits, on_notify_fits, on_page_fits, pull_repeats_fits, users_repeats_fits, on_call_fits, on_open_done_fits, on_op_done_fits, on_close_done_fits, on_look_done_fits}

@@ -30,7 +30,7 @@ use Rattle.role_steps.specs.declared.instances.Instance.{Instance}
 use Rattle.role_steps.specs.declared.instances.Stage.{Stage}
 use Rattle.role_steps.specs.declared.instances.Stage.TheVariants as stage
 use Rattle.role_steps.proofs.Sending.{every_append, every_cond, every_flat_map}
-use Rattle.the_run.proofs.InsideSync.{every_row, Found, row_found}
+use Rattle.lock_laws.proofs.of_the_run.InsideSync.{every_row, Found, row_found}
 use Rattle.lock_laws.proofs.of_vector_laws.SyncFacts.{every_latest}
 use Rattle.pack_laws.specs.InodeFits.{Fits, AskedFits, BodyFits, PacketFits, CopyFits, InstanceFits, StoreFits, OutFits}
 

@@ -40,7 +40,7 @@ use Rattle.role_steps.specs.declared.synchronizing.OpenStage.TheVariants as stag
 use Rattle.role_steps.specs.declared.synchronizing.LastLook.{LastLook}
 use Rattle.role_steps.specs.declared.synchronizing.Early.{Early}
 use Rattle.role_steps.proofs.Sending.{every_append, every_cond, every_map}
-use Rattle.the_run.proofs.InsideSync.{every_row, Found, row_found}
+use Rattle.lock_laws.proofs.of_the_run.InsideSync.{every_row, Found, row_found}
 use Rattle.lock_laws.proofs.of_vector_laws.SyncFacts.{FoundAt, row_at, every_latest, every_flat}
 use Rattle.pack_laws.specs.InodeFits.{Fits, ReportedFits, AskedFits, AnswerFits, BodyFits, PacketFits, RowFits, StageFits, OpenFits, LookFits, TableFits, OutFits}
 

@@ -17,9 +17,9 @@ use Rattle.wire_messages.specs.declared.body.Opening.{Opening}
 use Rattle.role_steps.specs.Own.{Every}
 use Rattle.role_steps.specs.Views.{Told, Shown, Begins, serial_key}
 use Rattle.role_steps.specs.Opens.{mode_of}
-use Rattle.the_run.specs.Worlds.{World}
-use Rattle.the_run.specs.Runs.{run_in}
-use Rattle.the_run.specs.Kept.{Among}
+use Rattle.lock_laws.specs.of_the_run.Worlds.{World}
+use Rattle.lock_laws.specs.of_the_run.Runs.{run_in}
+use Rattle.lock_laws.specs.of_the_run.Kept.{Among}
 use Rattle.lock_laws.proofs.of_run_laws.Run.{found_among}
 use Rattle.lock_laws.specs.of_vector_laws.Written.{past_of, Begun, GrantedRecord, Granted as WasGrantedBy, WasTold, WasBegun, WasGranted, InstancesAgree}
 use Rattle.pack_laws.specs.InstanceBook.{Note, Asked, Placed, Began, Book, AskedBy, IsFor, BeganFact, Sound}

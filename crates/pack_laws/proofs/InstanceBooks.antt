@@ -28,8 +28,8 @@ use Rattle.role_steps.specs.declared.synchronizing.OpenStage.TheVariants as stag
 use Rattle.role_steps.specs.declared.synchronizing.Early.{Early}
 use Rattle.role_steps.specs.declared.users.Asking.{Asking}
 use Rattle.role_steps.specs.declared.users.Asking.TheVariants as asking
-use Rattle.the_run.specs.Kept.{Among}
-use Rattle.the_run.proofs.Boots.{every_weaker}
+use Rattle.lock_laws.specs.of_the_run.Kept.{Among}
+use Rattle.lock_laws.proofs.of_the_run.Boots.{every_weaker}
 use Rattle.pack_laws.specs.InstanceBook.{Note, Listed, Asked, Placed, Began, Book, IsOf, AskedBy, PlacedFact, BeganFact, NoteFact, Once, Sound, Grown}
 use Rattle.pack_laws.specs.InstanceFacts.{AnswerFact, BodyFact, PacketFact, NoFact, Factless, MadeFact, WasPlaced, WasDenied, RecordFact, ToldFact, AskingFact, WaitingFact, UsersFact, InstanceFact, StoreFact, StageFact, OpenFact, EarlyOf, EarlyFact, TableFact, TablesFact, InEpochFact, ViewFact}
 

@@ -32,9 +32,9 @@ use Rattle.role_steps.specs.declared.rounds.Round.{Round}
 use Rattle.role_steps.specs.declared.synchronizing.SyncTable.{SyncTable}
 use Rattle.role_steps.specs.declared.synchronizing.FileRow.{FileRow}
 use Rattle.role_steps.proofs.Sending.{every_cond, every_map, every_flat_map}
-use Rattle.the_run.specs.Kept.{Among}
-use Rattle.the_run.specs.Steps.{adopts_of, starts_mends_of, ends_event}
-use Rattle.the_run.proofs.InsideSync.{Found}
+use Rattle.lock_laws.specs.of_the_run.Kept.{Among}
+use Rattle.lock_laws.specs.of_the_run.Steps.{adopts_of, starts_mends_of, ends_event}
+use Rattle.lock_laws.proofs.of_the_run.InsideSync.{Found}
 use Rattle.lock_laws.proofs.of_vector_laws.SyncFacts.{row_at, FoundAt}
 use Rattle.lock_laws.specs.of_run_laws.Naming.{Deeds, ViewOk}
 use Rattle.pack_laws.specs.InstanceBook.{Note, Listed, Asked, Placed, Began, Book, IsOf, Sound}

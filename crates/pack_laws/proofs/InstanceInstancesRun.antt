@@ -17,16 +17,16 @@ use Rattle.role_steps.specs.Tables.{row}
 use Rattle.role_steps.specs.Views.{SiteView, Told, Shown, DiskWrite, Outcome, Event, Calls, Receives, Ticks, Parts, Merges, GivesUp, all_sites}
 use Rattle.role_steps.specs.declared.copies.FileCopy.{FileCopy}
 use Rattle.role_steps.proofs.Sending.{every_append, every_map}
-use Rattle.the_run.specs.Disks.{Disk, Booted, Whole, CutOff, boots, cut_disk, is_on_disk}
-use Rattle.the_run.specs.Laws.{boot_on, boot_number}
-use Rattle.the_run.specs.Steps.{step}
-use Rattle.the_run.specs.Worlds.{World, Place, Running, Stopped, Numbered, Line, number_of, links_of, place_at, place_in, place_site, script_of, happened, numbered_from, disk_of, puts, arms, passed, stops_with, cut_told, cause_of, acts, fresh, first_place, first_world}
-use Rattle.the_run.specs.Runs.{boots_as, packet_record, run_in}
-use Rattle.the_run.specs.Kept.{Among, WasSent, IsOwn, Kept}
-use Rattle.the_run.proofs.Boots.{at_each, puts_rises, acts_cases, every_newest, every_numbered, every_weaker, Reached, boots_reached}
-use Rattle.the_run.proofs.Events.{happened_keeps, puts_other, puts_same}
-use Rattle.the_run.proofs.InsideSync.{every_without}
-use Rattle.the_run.proofs.Runs.{every_run}
+use Rattle.lock_laws.specs.of_the_run.Disks.{Disk, Booted, Whole, CutOff, boots, cut_disk, is_on_disk}
+use Rattle.lock_laws.specs.of_the_run.Laws.{boot_on, boot_number}
+use Rattle.lock_laws.specs.of_the_run.Steps.{step}
+use Rattle.lock_laws.specs.of_the_run.Worlds.{World, Place, Running, Stopped, Numbered, Line, number_of, links_of, place_at, place_in, place_site, script_of, happened, numbered_from, disk_of, puts, arms, passed, stops_with, cut_told, cause_of, acts, fresh, first_place, first_world}
+use Rattle.lock_laws.specs.of_the_run.Runs.{boots_as, packet_record, run_in}
+use Rattle.lock_laws.specs.of_the_run.Kept.{Among, WasSent, IsOwn, Kept}
+use Rattle.lock_laws.proofs.of_the_run.Boots.{at_each, puts_rises, acts_cases, every_newest, every_numbered, every_weaker, Reached, boots_reached}
+use Rattle.lock_laws.proofs.of_the_run.Events.{happened_keeps, puts_other, puts_same}
+use Rattle.lock_laws.proofs.of_the_run.InsideSync.{every_without}
+use Rattle.lock_laws.proofs.of_the_run.Runs.{every_run}
 use Rattle.lock_laws.specs.of_run_laws.Naming.{Deeds, DeedsOf, Good}
 use Rattle.lock_laws.proofs.of_run_laws.Run.{good_kept, first_good, found_among, was_sent}
 use Rattle.lock_laws.proofs.of_run_laws.Steps.{EventNames}

@@ -16,7 +16,7 @@ use Rattle.role_steps.specs.declared.rounds.InEpoch.{InEpoch}
 use Rattle.role_steps.specs.declared.rounds.Round.{Round}
 use Rattle.role_steps.specs.declared.synchronizing.SyncTable.{SyncTable}
 use Rattle.role_steps.proofs.Counted.{CountsFrom, sites_count}
-use Rattle.the_run.specs.Kept.{Among}
+use Rattle.lock_laws.specs.of_the_run.Kept.{Among}
 use Rattle.lock_laws.proofs.GrantSites.{is_synced}
 use Rattle.pack_laws.specs.InstanceBook.{Placed, Book}
 use Rattle.pack_laws.specs.InstanceFacts.{TableFact, TablesFact}

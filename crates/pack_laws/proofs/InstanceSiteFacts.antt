@@ -30,9 +30,9 @@ use Rattle.role_steps.specs.declared.rounds.InEpoch.{InEpoch}
 use Rattle.role_steps.specs.declared.rounds.Round.{Round}
 use Rattle.role_steps.specs.declared.synchronizing.SyncTable.{SyncTable}
 use Rattle.role_steps.proofs.Sending.{every_append, every_cond, every_flat_map}
-use Rattle.the_run.specs.Kept.{Among}
-use Rattle.the_run.specs.Steps.{from_user, group_of, at_table_of, is_opened_in, takes_inside, with_pulls}
-use Rattle.the_run.proofs.InsideSync.{Found, first_found}
+use Rattle.lock_laws.specs.of_the_run.Kept.{Among}
+use Rattle.lock_laws.specs.of_the_run.Steps.{from_user, group_of, at_table_of, is_opened_in, takes_inside, with_pulls}
+use Rattle.lock_laws.proofs.of_the_run.InsideSync.{Found, first_found}
 use Rattle.lock_laws.proofs.of_vector_laws.SyncFacts.{FoundAt, row_at}
 use Rattle.pack_laws.specs.InstanceBook.{Note, Listed, Asked, Placed, Began, Book, IsOf, AskedBy, Sound, Grown}
 use Rattle.pack_laws.specs.InstanceFacts.{OpenSsFact, AnswerFact, BodyFact, PacketFact, Factless, ToldFact, UsersFact, own_serial, TableFact, TablesFact, PassedNote, Passed, InsideFact, InEpochFact, RoundFact, ViewFact, Fine}

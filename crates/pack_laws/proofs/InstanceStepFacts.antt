@@ -25,12 +25,12 @@ use Rattle.role_steps.specs.Epochs.{frame_in, leaves, poll_packet, starts_merge,
 use Rattle.role_steps.specs.declared.rounds.InEpoch.{InEpoch}
 use Rattle.role_steps.specs.declared.rounds.Round.{Round}
 use Rattle.role_steps.proofs.Sending.{every_append, every_map, every_flat_map}
-use Rattle.the_run.specs.Joins.{Plain}
-use Rattle.the_run.specs.Steps.{in_order, is_framed, is_forming, is_dropped, takes_inside, takes_framed, takes, adopts_in, tries_at, ends_event, whole, repeats_inside, repeats_of, repeats, ticks_after, call_frame, epoch_id, takes_call, step}
-use Rattle.the_run.proofs.InsideSites.{adopts_of_plain, tries_plain}
-use Rattle.the_run.proofs.InsideRoles.{on_call_still}
-use Rattle.the_run.proofs.StepSends.{order_sent}
-use Rattle.the_run.proofs.Joining.{plain_quiet}
+use Rattle.lock_laws.specs.of_the_run.Joins.{Plain}
+use Rattle.lock_laws.specs.of_the_run.Steps.{in_order, is_framed, is_forming, is_dropped, takes_inside, takes_framed, takes, adopts_in, tries_at, ends_event, whole, repeats_inside, repeats_of, repeats, ticks_after, call_frame, epoch_id, takes_call, step}
+use Rattle.lock_laws.proofs.of_the_run.InsideSites.{adopts_of_plain, tries_plain}
+use Rattle.lock_laws.proofs.of_the_run.InsideRoles.{on_call_still}
+use Rattle.lock_laws.proofs.of_the_run.StepSends.{order_sent}
+use Rattle.lock_laws.proofs.of_the_run.Joining.{plain_quiet}
 use Rattle.lock_laws.specs.of_run_laws.Naming.{Deeds, Names, Now, ViewOk, Fine as EpochFine, Inner}
 use Rattle.lock_laws.proofs.of_run_laws.Moves.{inner_view, inner_fine}
 use Rattle.lock_laws.proofs.of_run_laws.InsideSteps.{quiet_inner, tries_inner, adopts_of_inner, call_inner}

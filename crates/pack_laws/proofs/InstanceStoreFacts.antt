@@ -37,8 +37,8 @@ use Rattle.role_steps.specs.declared.instances.Stage.{Stage}
 use Rattle.role_steps.specs.declared.instances.Stage.TheVariants as stage
 use Rattle.role_steps.proofs.Rows.{passed_row, found_row}
 use Rattle.role_steps.proofs.Sending.{every_append, every_cond, every_flat_map}
-use Rattle.the_run.specs.Kept.{Among}
-use Rattle.the_run.proofs.InsideSync.{Found, row_found}
+use Rattle.lock_laws.specs.of_the_run.Kept.{Among}
+use Rattle.lock_laws.proofs.of_the_run.InsideSync.{Found, row_found}
 use Rattle.lock_laws.proofs.of_vector_laws.SyncFacts.{every_latest}
 use Rattle.pack_laws.specs.InstanceBook.{Note, Began, Book, IsFor, BeganFact, Sound}
 use Rattle.pack_laws.specs.InstanceFacts.{OpenSsFact, PacketFact, NoFact, Factless, ToldFact, InstanceFact, HasInstance, StoreFact, Fine}

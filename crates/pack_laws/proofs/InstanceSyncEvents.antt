@@ -30,8 +30,8 @@ use Rattle.role_steps.specs.declared.synchronizing.OpenStage.TheVariants as stag
 use Rattle.role_steps.specs.declared.synchronizing.LastLook.{LastLook}
 use Rattle.role_steps.specs.declared.synchronizing.Early.{Early}
 use Rattle.role_steps.proofs.Sending.{every_append, every_cond, every_map, every_flat_map}
-use Rattle.the_run.specs.Kept.{Among}
-use Rattle.the_run.proofs.InsideSync.{every_row, Found, row_found}
+use Rattle.lock_laws.specs.of_the_run.Kept.{Among}
+use Rattle.lock_laws.proofs.of_the_run.InsideSync.{every_row, Found, row_found}
 use Rattle.pack_laws.specs.InstanceBook.{Listed, Book, AskedBy, Sound}
 use Rattle.pack_laws.specs.InstanceFacts.{PacketFact, NoFact, Factless, OpenFact, own_serial, EarlyOf, EarlyFact, LookFact, TableFact}
 use Rattle.pack_laws.proofs.InstanceBooks.{no_fact, factless, earlies_later}

@@ -19,8 +19,8 @@ use Rattle.role_steps.specs.declared.synchronizing.OpenRow.{OpenRow}
 use Rattle.role_steps.specs.declared.synchronizing.OpenStage.{OpenStage}
 use Rattle.role_steps.specs.declared.synchronizing.OpenStage.TheVariants as stage
 use Rattle.role_steps.proofs.Sending.{every_append}
-use Rattle.the_run.specs.Kept.{Among}
-use Rattle.the_run.proofs.InsideSync.{Found, row_found}
+use Rattle.lock_laws.specs.of_the_run.Kept.{Among}
+use Rattle.lock_laws.proofs.of_the_run.InsideSync.{Found, row_found}
 use Rattle.lock_laws.proofs.of_vector_laws.SyncFacts.{FoundAt, row_at, every_latest}
 use Rattle.pack_laws.specs.InstanceBook.{Note, Listed, Placed, Began, Book, AskedBy, IsFor, PlacedFact, BeganFact, Sound}
 use Rattle.pack_laws.specs.InstanceFacts.{OpenedFact, MakeAsked, AnswerFact, PacketFact, MadeFact, GrantFact, WasPlaced, ToldFact, StageFact, OpenFact, own_serial, HasRow, TableFact, Fine}

@@ -37,8 +37,8 @@ use Rattle.role_steps.specs.declared.users.Asking.TheVariants as asking
 use Rattle.role_steps.specs.declared.users.WaitingCall.{WaitingCall}
 use Rattle.role_steps.specs.declared.users.UserInstance.{UserInstance}
 use Rattle.role_steps.proofs.Sending.{every_map}
-use Rattle.the_run.specs.Kept.{Among}
-use Rattle.the_run.proofs.InsideSync.{every_row, every_without}
+use Rattle.lock_laws.specs.of_the_run.Kept.{Among}
+use Rattle.lock_laws.proofs.of_the_run.InsideSync.{every_row, every_without}
 use Rattle.lock_laws.proofs.of_vector_laws.SyncFacts.{every_flat}
 use Rattle.pack_laws.specs.InstanceBook.{Note, Asked, Book, Sound}
 use Rattle.pack_laws.specs.InstanceFacts.{BodyFact, PacketFact, ToldFact, AskingFact, WaitingFact, UsersFact, Fine}

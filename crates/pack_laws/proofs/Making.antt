@@ -8,7 +8,7 @@ use Rattle.trace_book.specs.declared.record.Record.{Record}
 use Rattle.trace_book.specs.declared.record.Record.TheVariants as says
 use Rattle.role_steps.specs.Own.{Every}
 use Rattle.role_steps.specs.Views.{Told, Shown, Reserves}
-use Rattle.the_run.specs.Runs.{run_in}
+use Rattle.lock_laws.specs.of_the_run.Runs.{run_in}
 use Rattle.lock_laws.specs.of_vector_laws.Written.{past_of, WrittenAs, IsWrittenBy, IsCommitOf, JoinsAll, IsNumbered, NumberedRecord, NumberedTold, CommitsAreNumbered}
 use Rattle.lock_laws.proofs.of_vector_laws.FactsRun.{run_numbered}
 use Rattle.pack_laws.proofs.InstanceAgree.{run_agrees}

@@ -22,7 +22,7 @@ use Rattle.role_steps.specs.declared.synchronizing.SyncTable.{SyncTable}
 use Rattle.role_steps.specs.declared.synchronizing.FileRow.{FileRow}
 use Rattle.role_steps.specs.declared.synchronizing.VersionRow.{VersionRow}
 use Rattle.role_steps.specs.declared.synchronizing.Holding.{Holding}
-use Rattle.the_run.proofs.InsideSync.{every_row, Found, row_found}
+use Rattle.lock_laws.proofs.of_the_run.InsideSync.{every_row, Found, row_found}
 use Rattle.pack_laws.specs.Packs.{HasPack, InPacks, LiesAt}
 use Rattle.pack_laws.specs.Making.{NotEmpty}
 use Rattle.pack_laws.specs.Packed.{Follows, HolderPacked, RowPacked, TablePacked}

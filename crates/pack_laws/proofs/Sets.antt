@@ -16,7 +16,7 @@ use Rattle.role_steps.specs.Views.{pack_sites, members_of, is_member, first_site
 use Rattle.role_steps.specs.Versions.{holding_site, holders_of, is_among, chosen_site}
 use Rattle.role_steps.specs.declared.synchronizing.FileRow.{FileRow}
 use Rattle.role_steps.specs.declared.synchronizing.Holding.{Holding}
-use Rattle.the_run.proofs.InsideSync.{Found}
+use Rattle.lock_laws.proofs.of_the_run.InsideSync.{Found}
 use Rattle.pack_laws.specs.Packs.{HasPack, InPacks}
 use Rattle.pack_laws.specs.Packed.{HolderPacked}
 

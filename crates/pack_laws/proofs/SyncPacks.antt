@@ -36,7 +36,7 @@ use Rattle.role_steps.specs.declared.synchronizing.OpenStage.TheVariants as stag
 use Rattle.role_steps.specs.declared.synchronizing.LastLook.{LastLook}
 use Rattle.role_steps.specs.declared.synchronizing.Early.{Early}
 use Rattle.role_steps.proofs.Sending.{every_append, every_cond}
-use Rattle.the_run.proofs.InsideSync.{every_row, Found, row_found}
+use Rattle.lock_laws.proofs.of_the_run.InsideSync.{every_row, Found, row_found}
 use Rattle.lock_laws.proofs.of_vector_laws.SyncFacts.{FoundAt, row_at, every_latest, every_flat}
 use Rattle.lock_laws.specs.of_vector_laws.Facts.{WaitingFact, EarlyFact}
 use Rattle.pack_laws.specs.Packs.{HasPack, InPacks, LiesAt, ToldPacked}

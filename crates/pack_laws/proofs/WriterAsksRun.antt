@@ -19,15 +19,15 @@ use Rattle.role_steps.specs.declared.copies.FileCopy.{FileCopy}
 use Rattle.role_steps.specs.declared.users.Asking.{Asking}
 use Rattle.role_steps.specs.declared.users.Asking.TheVariants as asking
 use Rattle.role_steps.specs.declared.users.WaitingCall.{WaitingCall}
-use Rattle.the_run.specs.Disks.{Disk, Booted, Whole, CutOff, boots, cut_disk}
-use Rattle.the_run.specs.Steps.{step}
-use Rattle.the_run.specs.Worlds.{World, Place, Running, Stopped, Numbered, links_of, place_at, place_in, place_site, script_of as places_of, happened, cut_told, newest_onto, numbered_from, disk_of, puts, arms, passed, stops_with, cause_of, acts, fresh, formatted, first_place}
-use Rattle.the_run.specs.Runs.{boots_as, packet_record, run_in}
-use Rattle.the_run.specs.Kept.{Among, Kept}
-use Rattle.the_run.proofs.Boots.{at_each, acts_cases, every_newest, every_weaker}
-use Rattle.the_run.proofs.Events.{happened_keeps, puts_other, puts_same}
-use Rattle.the_run.proofs.Runs.{every_run}
-use Rattle.the_run.proofs.StepSends.{step_sends}
+use Rattle.lock_laws.specs.of_the_run.Disks.{Disk, Booted, Whole, CutOff, boots, cut_disk}
+use Rattle.lock_laws.specs.of_the_run.Steps.{step}
+use Rattle.lock_laws.specs.of_the_run.Worlds.{World, Place, Running, Stopped, Numbered, links_of, place_at, place_in, place_site, script_of as places_of, happened, cut_told, newest_onto, numbered_from, disk_of, puts, arms, passed, stops_with, cause_of, acts, fresh, formatted, first_place}
+use Rattle.lock_laws.specs.of_the_run.Runs.{boots_as, packet_record, run_in}
+use Rattle.lock_laws.specs.of_the_run.Kept.{Among, Kept}
+use Rattle.lock_laws.proofs.of_the_run.Boots.{at_each, acts_cases, every_newest, every_weaker}
+use Rattle.lock_laws.proofs.of_the_run.Events.{happened_keeps, puts_other, puts_same}
+use Rattle.lock_laws.proofs.of_the_run.Runs.{every_run}
+use Rattle.lock_laws.proofs.of_the_run.StepSends.{step_sends}
 use Rattle.lock_laws.proofs.of_run_laws.Run.{found_among}
 use Rattle.pack_laws.specs.InstanceLaws.{AsksOpen}
 use Rattle.pack_laws.proofs.InstanceAgree.{run_serials}

@@ -14,8 +14,8 @@ use Rattle.trace_book.specs.declared.record.Record.TheVariants as says
 use Rattle.role_steps.specs.Own.{Every}
 use Rattle.role_steps.specs.Opens.{mode_of}
 use Rattle.role_steps.specs.Views.{Told, Shown, serial_key}
-use Rattle.the_run.specs.Worlds.{World}
-use Rattle.the_run.specs.Runs.{run_in}
+use Rattle.lock_laws.specs.of_the_run.Worlds.{World}
+use Rattle.lock_laws.specs.of_the_run.Runs.{run_in}
 use Rattle.lock_laws.specs.of_vector_laws.Written.{past_of, WasTold}
 use Rattle.pack_laws.specs.InstanceBook.{Book, AskedBy, IsFor, Sound}
 use Rattle.pack_laws.specs.InstanceFacts.{MadeFact, GrantFact, RecordFact, ToldFact, WorldFact, Booked}

@@ -15,14 +15,14 @@ use Rattle.wire_messages.specs.declared.body.Body.TheVariants as body
 use Rattle.role_steps.specs.Own.{Every}
 use Rattle.role_steps.specs.Views.{SiteView, Told, Shown, Begins, DiskWrite, Outcome, Receives, serial_key}
 use Rattle.role_steps.proofs.Sending.{every_map}
-use Rattle.the_run.specs.Disks.{Booted, Whole, CutOff, boots, cut_disk, is_on_disk}
-use Rattle.the_run.specs.Steps.{step}
-use Rattle.the_run.specs.Worlds.{World, Running, Numbered, links_of, script_of, happened, cut_told, newest_onto, numbered_from, disk_of, puts, arms, passed, stops_with, cause_of, acts}
-use Rattle.the_run.specs.Runs.{boots_as, packet_record, run_in}
-use Rattle.the_run.specs.Kept.{Among, Kept}
-use Rattle.the_run.proofs.Boots.{acts_cases, every_weaker}
-use Rattle.the_run.proofs.Events.{happened_keeps}
-use Rattle.the_run.proofs.Runs.{every_run}
+use Rattle.lock_laws.specs.of_the_run.Disks.{Booted, Whole, CutOff, boots, cut_disk, is_on_disk}
+use Rattle.lock_laws.specs.of_the_run.Steps.{step}
+use Rattle.lock_laws.specs.of_the_run.Worlds.{World, Running, Numbered, links_of, script_of, happened, cut_told, newest_onto, numbered_from, disk_of, puts, arms, passed, stops_with, cause_of, acts}
+use Rattle.lock_laws.specs.of_the_run.Runs.{boots_as, packet_record, run_in}
+use Rattle.lock_laws.specs.of_the_run.Kept.{Among, Kept}
+use Rattle.lock_laws.proofs.of_the_run.Boots.{acts_cases, every_weaker}
+use Rattle.lock_laws.proofs.of_the_run.Events.{happened_keeps}
+use Rattle.lock_laws.proofs.of_the_run.Runs.{every_run}
 use Rattle.lock_laws.proofs.of_run_laws.Run.{found_among}
 use Rattle.lock_laws.specs.of_vector_laws.Written.{past_of}
 use Rattle.lock_laws.specs.of_vector_laws.Facts.{onto}

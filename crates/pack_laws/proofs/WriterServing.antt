@@ -23,7 +23,7 @@ use Rattle.role_steps.specs.OperationEffects.{Mending}
 use Rattle.role_steps.specs.Pulling.{on_notify, on_page, pull_repeats}
 use Rattle.role_steps.specs.declared.copies.FileCopy.{FileCopy}
 use Rattle.role_steps.specs.declared.pulls.Pull.{Pull}
-use Rattle.the_run.specs.Joins.{NoJoin, NoWrite}
+use Rattle.lock_laws.specs.of_the_run.Joins.{NoJoin, NoWrite}
 use Rattle.lock_laws.specs.of_law_walks.Kinds.{IsOfTable, IsStoreRequest, IsOfStore, IsOfReader}
 use Rattle.lock_laws.specs.of_law_walks.Laws.{Law, body_law, TablesKeep, StoresKeep, VersionsKeep, TableAnswers, TablePart}
 use Rattle.lock_laws.proofs.of_law_walks.Premises.{table_tells, store_tells, plain_no_join, version_no_join, body_tables, body_stores}

@@ -31,10 +31,10 @@ use Rattle.role_steps.specs.declared.rounds.Round.{Round}
 use Rattle.role_steps.specs.declared.synchronizing.SyncTable.{SyncTable}
 use Rattle.role_steps.specs.declared.synchronizing.FileRow.{FileRow}
 use Rattle.role_steps.proofs.Sending.{every_append, every_cond, every_map, every_flat_map}
-use Rattle.the_run.specs.Steps.{from_user, group_of, is_before, in_order, at_table_of, is_opened_in, takes_inside, is_dropped, takes_framed, takes, adopts_of, adopts_in, tries_at, starts_mends_of, ends_event, whole, repeats_inside, repeats_of, repeats, ticks_after, call_frame, epoch_id, takes_call, step}
-use Rattle.the_run.proofs.Boots.{every_weaker}
-use Rattle.the_run.proofs.InsideSync.{every_row, Found, row_found, first_found}
-use Rattle.the_run.proofs.StepSends.{order_sent}
+use Rattle.lock_laws.specs.of_the_run.Steps.{from_user, group_of, is_before, in_order, at_table_of, is_opened_in, takes_inside, is_dropped, takes_framed, takes, adopts_of, adopts_in, tries_at, starts_mends_of, ends_event, whole, repeats_inside, repeats_of, repeats, ticks_after, call_frame, epoch_id, takes_call, step}
+use Rattle.lock_laws.proofs.of_the_run.Boots.{every_weaker}
+use Rattle.lock_laws.proofs.of_the_run.InsideSync.{every_row, Found, row_found, first_found}
+use Rattle.lock_laws.proofs.of_the_run.StepSends.{order_sent}
 use Rattle.pack_laws.specs.WriterAsking.{Serials, UsersFact, Noted, PacketFact, BodyFact, NoAsk, Askless, TableOk, StillTable, ViewFact, Fine}
 use Rattle.pack_laws.proofs.WriterServing.{sync_plain, sync_repeats_plain, on_opened_still, on_open_still, on_look_still, on_report_still, on_closed_still, have_ok, on_have_still, on_open_ss_still, on_close_still, on_closed_ok_still, on_look_ss_still, on_pull_still, on_op_still, on_notify_still, on_page_still, store_repeats_plain, pull_repeats_plain}
 use Rattle.pack_laws.proofs.WriterUserAsks.{UsersFine, Gives, users_repeats_fact, on_call_gives, on_open_done_gives, on_op_done_gives, on_close_done_gives, on_look_done_gives, users_left}

@@ -51,7 +51,7 @@ use Rattle.role_steps.specs.declared.users.Asking.TheVariants as asking
 use Rattle.role_steps.specs.declared.users.WaitingCall.{WaitingCall}
 use Rattle.role_steps.specs.declared.users.UserInstance.{UserInstance}
 use Rattle.role_steps.specs.declared.users.DescriptorRow.{DescriptorRow}
-use Rattle.the_run.proofs.InsideSync.{every_row, every_without, Found, row_found}
+use Rattle.lock_laws.proofs.of_the_run.InsideSync.{every_row, every_without, Found, row_found}
 use Rattle.lock_laws.proofs.of_vector_laws.SyncFacts.{every_flat}
 use Rattle.lock_laws.specs.Writing.{changes, ToWrite, OpensToWrite, IsWrite, IsWriteOn}
 use Rattle.pack_laws.specs.WriterAsking.{Brings, NotToRead, Serials, AskingFact, script_of, CallFact, WaitingFact, DescriptorFact, UsersFact, Noted, PacketFact, BodyFact}

@@ -11,7 +11,7 @@ use Rattle.schedule_lines.specs.declared.line.ScheduleLine.{ScheduleLine}
 use Rattle.trace_book.specs.declared.record.Record.{Record}
 use Rattle.trace_book.specs.declared.record.Record.TheVariants as says
 use Rattle.role_steps.specs.Views.{Told, Shown, Begins}
-use Rattle.the_run.specs.Runs.{run_in}
+use Rattle.lock_laws.specs.of_the_run.Runs.{run_in}
 use Rattle.lock_laws.specs.of_vector_laws.Written.{past_of, WasTold, Begun, WasBegun, GrantedRecord, Granted as WasGrantedBy, WasGranted, InstancesAgree}
 use Rattle.pack_laws.proofs.InstanceAgree.{run_agrees}
 use Rattle.lock_laws.specs.Going.{BegunAt, WasBegunAt, IsCommitter, RecordGoesOn, InstanceGoesOn, InstancesGoOn}

@@ -11,7 +11,7 @@ use Rattle.locus_ids.specs.Sizes.{sites_max}
 use Rattle.wire_messages.specs.declared.body.Opening.{Opening}
 use Rattle.role_steps.specs.Opens.{mode_of}
 use Rattle.role_steps.specs.Views.{boot_in, serial_key, sync_site}
-use Rattle.the_run.specs.Kept.{Among}
+use Rattle.lock_laws.specs.of_the_run.Kept.{Among}
 
 pub data Note : Type 0 where
   -- the epoch has these members

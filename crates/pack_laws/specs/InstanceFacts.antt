@@ -33,9 +33,9 @@ use Rattle.role_steps.specs.declared.synchronizing.Early.{Early}
 use Rattle.role_steps.specs.declared.users.Asking.{Asking}
 use Rattle.role_steps.specs.declared.users.Asking.TheVariants as asking
 use Rattle.role_steps.specs.declared.users.WaitingCall.{WaitingCall}
-use Rattle.the_run.specs.Kept.{Among}
-use Rattle.the_run.specs.Laws.{boot_number}
-use Rattle.the_run.specs.Worlds.{World, Place, Running, Numbered, place_at}
+use Rattle.lock_laws.specs.of_the_run.Kept.{Among}
+use Rattle.lock_laws.specs.of_the_run.Laws.{boot_number}
+use Rattle.lock_laws.specs.of_the_run.Worlds.{World, Place, Running, Numbered, place_at}
 use Rattle.lock_laws.specs.of_vector_laws.Written.{past_of}
 use Rattle.pack_laws.specs.InstanceBook.{Note, Listed, Asked, Placed, Began, Book, IsOf, AskedBy, IsFor, Sound, Grown}
 

@@ -7,8 +7,8 @@ use Rattle.wire_messages.specs.declared.body.Body.{Body}
 use Rattle.wire_messages.specs.declared.body.Body.TheVariants as body
 use Rattle.wire_messages.specs.declared.body.Opening.{Opening}
 use Rattle.role_steps.specs.Views.{Told, serial_key}
-use Rattle.the_run.specs.Kept.{Among}
-use Rattle.the_run.specs.Worlds.{World, Numbered}
+use Rattle.lock_laws.specs.of_the_run.Kept.{Among}
+use Rattle.lock_laws.specs.of_the_run.Worlds.{World, Numbered}
 use Rattle.lock_laws.specs.of_vector_laws.Written.{WasBegun}
 
 -- the packet asks an open of this file, under this serial number

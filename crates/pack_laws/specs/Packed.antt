@@ -19,7 +19,7 @@ use Rattle.role_steps.specs.declared.synchronizing.OpenRow.{OpenRow}
 use Rattle.role_steps.specs.declared.synchronizing.OpenStage.{OpenStage}
 use Rattle.role_steps.specs.declared.synchronizing.OpenStage.TheVariants as stage
 use Rattle.role_steps.specs.declared.synchronizing.LastLook.{LastLook}
-use Rattle.the_run.specs.Worlds.{World, Place, Running, Numbered, place_at}
+use Rattle.lock_laws.specs.of_the_run.Worlds.{World, Place, Running, Numbered, place_at}
 use Rattle.lock_laws.specs.of_vector_laws.Held.{copies_on}
 use Rattle.lock_laws.specs.of_vector_laws.Facts.{EarlyFact}
 use Rattle.lock_laws.specs.of_vector_laws.Written.{past_of}

@@ -8,7 +8,7 @@ use Rattle.trace_book.specs.declared.record.Record.TheVariants as says
 use Rattle.role_steps.specs.Own.{Every}
 use Rattle.role_steps.specs.Views.{Told, Shown, Begins, Reserves, pack_sites}
 use Rattle.role_steps.specs.declared.copies.FileCopy.{FileCopy}
-use Rattle.the_run.specs.Worlds.{World, Place, place_at}
+use Rattle.lock_laws.specs.of_the_run.Worlds.{World, Place, place_at}
 use Rattle.lock_laws.specs.of_vector_laws.Held.{copies_on}
 use Rattle.pack_laws.specs.Making.{IsOwnNumber, Originates}
 use Rattle.lock_laws.specs.of_vector_laws.Written.{past_of}

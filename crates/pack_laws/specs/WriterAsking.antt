@@ -21,9 +21,9 @@ use Rattle.role_steps.specs.declared.users.Asking.{Asking}
 use Rattle.role_steps.specs.declared.users.Asking.TheVariants as asking
 use Rattle.role_steps.specs.declared.users.WaitingCall.{WaitingCall}
 use Rattle.role_steps.specs.declared.users.DescriptorRow.{DescriptorRow}
-use Rattle.the_run.specs.Joins.{NoJoin, NoWrite}
-use Rattle.the_run.specs.Kept.{Among}
-use Rattle.the_run.specs.Worlds.{World, Numbered}
+use Rattle.lock_laws.specs.of_the_run.Joins.{NoJoin, NoWrite}
+use Rattle.lock_laws.specs.of_the_run.Kept.{Among}
+use Rattle.lock_laws.specs.of_the_run.Worlds.{World, Numbered}
 use Rattle.pack_laws.specs.InstanceLaws.{AsksOpen}
 use Rattle.lock_laws.specs.Writing.{changes, OpensToWrite, IsWriteOn}
 

@@ -10,8 +10,8 @@ use Rattle.wire_messages.specs.declared.packet.Packet.{Packet}
 use Rattle.wire_messages.specs.declared.body.Body.{Body}
 use Rattle.wire_messages.specs.declared.body.Body.TheVariants as body
 use Rattle.role_steps.specs.Views.{Told, Shown, serial_key}
-use Rattle.the_run.specs.Kept.{Among}
-use Rattle.the_run.specs.Worlds.{Numbered}
+use Rattle.lock_laws.specs.of_the_run.Kept.{Among}
+use Rattle.lock_laws.specs.of_the_run.Worlds.{Numbered}
 use Rattle.lock_laws.specs.of_vector_laws.Written.{WasTold}
 use Rattle.lock_laws.specs.Going.{WasBegunAt}
 use Rattle.lock_laws.specs.Locks.{IsOfAFile}

@@ -3,7 +3,7 @@
 ghost use Rattle.std.specs.Prelude.{List};
 ghost use Rattle.locus_ids.specs.declared.config.Config.{Config};
 ghost use Rattle.schedule_lines.specs.declared.line.ScheduleLine.{ScheduleLine};
-ghost use Rattle.the_run.specs.Runs.{run_in};
+ghost use Rattle.lock_laws.specs.of_the_run.Runs.{run_in};
 ghost use Rattle.lock_laws.specs.of_vector_laws.Written.{past_of, InstancesAgree};
 ghost use Rattle.pack_laws.specs.InstanceLaws.{SerialsAreOnce, PlacesAreOnce, BegunOnce};
 

@@ -6,3 +6,4 @@ pub use Rattle.rest_laws.specs.of_pack_laws as of_pack_laws
 pub use Rattle.rest_laws.specs.of_row_laws as of_row_laws
 pub use Rattle.rest_laws.specs.of_store_laws as of_store_laws
 pub use Rattle.rest_laws.specs.of_vector_laws as of_vector_laws
+pub use Rattle.rest_laws.specs as of_rest_laws

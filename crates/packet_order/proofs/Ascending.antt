@@ -7,7 +7,7 @@ use Rattle.std.proofs.lemmas.Bool.{cases_lt}
 use Rattle.locus_ids.specs.Sizes.{sites_max}
 use Rattle.wire_messages.specs.declared.packet.Packet.{Packet}
 use Rattle.wire_messages.specs.Bodies.{kind_number}
-use Rattle.role_steps.specs.Tables.{put_before, sorted_onto}
+use Rattle.epoch_rules.specs.of_role_steps.Tables.{put_before, sorted_onto}
 use Rattle.the_run.specs.Steps.{is_before, in_order}
 use Rattle.packet_order.specs.Orders.{key}
 use Rattle.packet_order.proofs.Placing.{drop_at, get_some}

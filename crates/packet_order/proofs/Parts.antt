@@ -1,11 +1,11 @@
 -- An outbox's packets, in the order of their places.
 use Rattle.std.proofs.Common.{◌≡◌, ℕ, zero, suc, ◌+◌, ◌<◌, ◌==◌, List, [], ◌∷◌, ◌++◌, length, map, take, drop, set, get_or, slice_get, Option, Some, None, true, false, refl, sym, ap, ◌∙◌, arith}
 use Rattle.std.specs.List.{flat_map}
-use Rattle.role_steps.proofs.of_plain_facts.Options.{some_same}
+use Rattle.epoch_rules.proofs.of_role_steps.of_plain_facts.Options.{some_same}
 use Rattle.trace_book.specs.declared.record.Record.{Record}
 use Rattle.wire_messages.specs.Outboxes.{Outgoing}
 use Rattle.wire_messages.specs.declared.packet.Packet.{Packet}
-use Rattle.role_steps.specs.Tables.{put_before, sorted_onto}
+use Rattle.epoch_rules.specs.of_role_steps.Tables.{put_before, sorted_onto}
 use Rattle.the_run.specs.Steps.{is_before, in_order}
 use Rattle.packet_order.specs.Orders.{picked, with_picked, in_place, sorted_out, packets_in, records_in, together, unsent, ArePlaces}
 use Rattle.packet_order.proofs.Placing.{length_picked}

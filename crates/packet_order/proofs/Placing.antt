@@ -2,7 +2,7 @@
 use Rattle.std.proofs.Common.{◌≡◌, ℕ, zero, suc, ◌+◌, ◌<◌, ◌≤◌, List, [], ◌∷◌, length, drop, get_or, Option, Some, None, slice_get, true, false, Bool, refl, sym, ap, ◌∙◌, subst, arith, add-one}
 use Rattle.std.specs.List.{insert}
 use Rattle.wire_messages.specs.declared.packet.Packet.{Packet}
-use Rattle.role_steps.specs.Tables.{put_before, sorted_onto}
+use Rattle.epoch_rules.specs.of_role_steps.Tables.{put_before, sorted_onto}
 use Rattle.the_run.specs.Steps.{is_before, in_order}
 use Rattle.packet_order.specs.Orders.{with_picked, picked, ArePlaces, place_before}
 

@@ -1,7 +1,7 @@
 -- Where the number of the kind, the receiver and the body stand in a packet's bytes.
 use Rattle.std.proofs.Common.{◌≡◌, ℕ, zero, suc, ◌+◌, ◌<◌, ◌≤◌, List, [], ◌∷◌, ◌++◌, append_assoc, add-one, length, map, drop, get_or, slice_get, Option, Some, true, false, Bool, refl, sym, ap, ◌∙◌, subst, arith}
 use Rattle.std.specs.List.{insert}
-use Rattle.role_steps.specs.Tables.{sorted_onto}
+use Rattle.epoch_rules.specs.of_role_steps.Tables.{sorted_onto}
 use Rattle.the_run.specs.Steps.{in_order, is_before}
 use Rattle.packet_order.specs.Orders.{picked, place_before, ArePlaces}
 use Rattle.packet_order.proofs.Placing.{drop_at, get_some, place_here, place_later, place_within_of, places_at, places_insert, sorting_step}

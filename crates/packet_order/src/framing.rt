@@ -1,10 +1,10 @@
 // Which packets a site drops.
 ghost use Rattle.std.specs.Prelude.{◌≡◌};
-ghost use Rattle.role_steps.specs.Views.{SiteView};
+ghost use Rattle.epoch_rules.specs.of_role_steps.Views.{SiteView};
 ghost use Rattle.the_run.specs.Steps.{is_forming, is_framed, is_dropped};
 
+use epoch_rules::role_steps::InEpoch;
 use epoch_rules::{boot_in, same_epoch};
-use role_steps::InEpoch;
 use wire_messages::{Body, Packet};
 
 /// The packet forms an epoch.

@@ -7,7 +7,7 @@ use Rattle.trace_book.specs.declared.entry.Entry.{Entry}
 use Rattle.trace_book.specs.declared.record.Record.{Record}
 use Rattle.trace_book.specs.declared.record.Record.TheVariants as rec
 use Rattle.tree_model.specs.Folds.{Trace}
-use Rattle.lawful_trace.specs.Lawful.{MayCome}
+use Rattle.promises.specs.of_lawful_trace.Lawful.{MayCome}
 use Rattle.promises.specs.Past.{Past, nothing_yet}
 use Rattle.promises.specs.After.{after}
 use Rattle.promises.specs.Rows.{may_follow}

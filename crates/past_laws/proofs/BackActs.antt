@@ -30,9 +30,9 @@ use Rattle.tree_model.specs.Same.{is_given, same_kind, same_version}
 use Rattle.tree_model.specs.State as state
 use Rattle.tree_model.specs.Tree.{tree_of}
 use Rattle.tree_model.specs.Working as working
-use Rattle.lawful_trace.specs.Progress.{wants_next}
-use Rattle.lawful_trace.specs.Tables.{call_of_act, call_of_release, close_of, has_named, is_call, unless_named, use_number, uses_of}
-use Rattle.lawful_trace.specs.TreeRows.{MayAct, MayRelease, granted_group, is_stored_within}
+use Rattle.promises.specs.of_lawful_trace.Progress.{wants_next}
+use Rattle.promises.specs.of_lawful_trace.Tables.{call_of_act, call_of_release, close_of, has_named, is_call, unless_named, use_number, uses_of}
+use Rattle.promises.specs.of_lawful_trace.TreeRows.{MayAct, MayRelease, granted_group, is_stored_within}
 use Rattle.promises.specs.Past.{Past, Epoch, CallSoFar, Instance as OpenInstance, acts, asks, ends, epoch_at, is_close, is_named, is_number, is_on}
 use Rattle.promises.specs.After.{is_id}
 use Rattle.promises.specs.Rows.{is_asked, is_synced, may_follow}

@@ -17,8 +17,8 @@ use Rattle.tree_model.specs.Calls.{waiting}
 use Rattle.tree_model.specs.Epochs.{is_in}
 use Rattle.tree_model.specs.Folds.{Trace}
 use Rattle.tree_model.specs.Working.{list_of}
-use Rattle.lawful_trace.specs.CallRows.{MayAnswer, is_this}
-use Rattle.lawful_trace.specs.Progress.{answers, left_epoch, left_since, now_wants, unless_left, wants_after, wants_next}
+use Rattle.promises.specs.of_lawful_trace.CallRows.{MayAnswer, is_this}
+use Rattle.promises.specs.of_lawful_trace.Progress.{answers, left_epoch, left_since, now_wants, unless_left, wants_after, wants_next}
 use Rattle.promises.specs.Past.{CallSoFar, Past, asks, site_at}
 use Rattle.promises.specs.After.{is_id, last_by}
 use Rattle.promises.specs.Rows.{gives, is_changed, is_due, is_home, is_scripted, may_answer, waits_at}

@@ -18,10 +18,10 @@ use Rattle.tree_model.specs.Given.{served_by}
 use Rattle.tree_model.specs.Same.{is_served}
 use Rattle.tree_model.specs.Epochs.{is_in}
 use Rattle.tree_model.specs.Tree.{kept_in as kept_by, tree_of}
-use Rattle.lawful_trace.specs.CallRows.{MayAccept}
-use Rattle.lawful_trace.specs.Progress.{answers, is_packed_in, wants_after}
-use Rattle.lawful_trace.specs.Tables.{descriptor}
-use Rattle.lawful_trace.specs.TreeRows.{MayLook, is_next_or_again, is_served as is_served_in}
+use Rattle.promises.specs.of_lawful_trace.CallRows.{MayAccept}
+use Rattle.promises.specs.of_lawful_trace.Progress.{answers, is_packed_in, wants_after}
+use Rattle.promises.specs.of_lawful_trace.Tables.{descriptor}
+use Rattle.promises.specs.of_lawful_trace.TreeRows.{MayLook, is_next_or_again, is_served as is_served_in}
 use Rattle.promises.specs.Past.{CallSoFar, Past, asks_after, epoch_at, is_number, kept_in, site_at}
 use Rattle.promises.specs.After.{is_id}
 use Rattle.promises.specs.Rows.{is_synced, may_accept, may_look, next_call, waits_at}

@@ -16,7 +16,7 @@ use Rattle.tree_model.specs.Histories.{history}
 use Rattle.tree_model.specs.Lists.{latest}
 use Rattle.tree_model.specs.State as state
 use Rattle.tree_model.specs.Tree.{tree_of, next, joined, left}
-use Rattle.lawful_trace.specs.TreeRows.{granted_group, granted_group_after}
+use Rattle.promises.specs.of_lawful_trace.TreeRows.{granted_group, granted_group_after}
 use Rattle.promises.specs.Past.{Past, Instance as OpenInstance, epoch_at, is_named}
 use Rattle.promises.specs.After.{after}
 use Rattle.past_laws.specs.Agreement.{Agrees, past}

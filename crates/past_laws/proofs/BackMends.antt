@@ -23,15 +23,15 @@ use Rattle.tree_model.specs.Folds.{Trace}
 use Rattle.tree_model.specs.Histories.{history}
 use Rattle.tree_model.specs.Mending.{joined_all, kept_vectors, wants_rescue_in}
 use Rattle.tree_model.specs.of_dir_format.Contents.{entries_of}
-use Rattle.dir_reconcile.specs.Rescues.{rescue_wanted}
+use Rattle.tree_model.specs.of_dir_reconcile.Rescues.{rescue_wanted}
 use Rattle.tree_model.specs.Opening.{is_only}
 use Rattle.tree_model.specs.Packs.{no_sites, sync_site}
 use Rattle.tree_model.specs.Same.{same_kind}
 use Rattle.tree_model.specs.State.{TreeState, held_at, kept_of}
 use Rattle.tree_model.specs.Tree.{tree_of}
 use Rattle.tree_model.specs.Working.{are_several, list_of}
-use Rattle.lawful_trace.specs.CallRows.{CallRow, MayMend, is_mend_in, next_call as next_of, is_mend_wanted as is_wanted, mend_waits}
-use Rattle.lawful_trace.specs.Lawful.{MayCome}
+use Rattle.promises.specs.of_lawful_trace.CallRows.{CallRow, MayMend, is_mend_in, next_call as next_of, is_mend_wanted as is_wanted, mend_waits}
+use Rattle.promises.specs.of_lawful_trace.Lawful.{MayCome}
 use Rattle.promises.specs.Past.{CallSoFar, Instance, Making, Past, epoch_at, held_in, is_number, making_of, site_at, sync_of}
 use Rattle.promises.specs.Rows.{is_mend_wanted, may_call, may_mend, may_mend_in, next_call, waits_at}
 use Rattle.promises.specs.Same.{same_list}

@@ -37,9 +37,9 @@ use Rattle.past_laws.proofs.TreesLists.{found_wider, first_only, found_passes, a
 use Rattle.locus_ids.specs.declared.ids.Serial.{Serial}
 use Rattle.call_rules.specs.declared.want.Want.{Want}
 use Rattle.tree_model.specs.Given.{refuses, is_unnumbered}
-use Rattle.lawful_trace.specs.Progress.{wants_after, wants_next, is_packed_in}
-use Rattle.lawful_trace.specs.Tables.{descriptor}
-use Rattle.lawful_trace.specs.TreeRows.{IsCallIn, MayOpen, is_open_of, MayStart, MayGrant, MayRefuse}
+use Rattle.promises.specs.of_lawful_trace.Progress.{wants_after, wants_next, is_packed_in}
+use Rattle.promises.specs.of_lawful_trace.Tables.{descriptor}
+use Rattle.promises.specs.of_lawful_trace.TreeRows.{IsCallIn, MayOpen, is_open_of, MayStart, MayGrant, MayRefuse}
 use Rattle.promises.specs.Rows.{may_follow, is_step_of, is_refused, is_synced, asks_open, brought_in}
 use Rattle.past_laws.proofs.CallsAsks.{is_request, asks_by, wants_by, request_same}
 use Rattle.past_laws.proofs.TreesAt.{id_at}

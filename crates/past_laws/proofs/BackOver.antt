@@ -18,11 +18,11 @@ use Rattle.call_rules.specs.declared.want.Want.TheVariants as want
 use Rattle.tree_model.specs.declared.accepted.Waiting.{Waiting}
 use Rattle.tree_model.specs.Calls.{call_named}
 use Rattle.tree_model.specs.Folds.{Trace}
-use Rattle.lawful_trace.specs.CallRows.{is_this}
-use Rattle.lawful_trace.specs.Lawful.{MayCome}
-use Rattle.lawful_trace.specs.Progress.{answers, left_epoch, wants_after, wants_as, wants_next}
-use Rattle.lawful_trace.specs.Tables.{begun, call_of_act, call_of_release, has_named, is_call, names_instance}
-use Rattle.lawful_trace.specs.TreeRows.{is_next_or_again}
+use Rattle.promises.specs.of_lawful_trace.CallRows.{is_this}
+use Rattle.promises.specs.of_lawful_trace.Lawful.{MayCome}
+use Rattle.promises.specs.of_lawful_trace.Progress.{answers, left_epoch, wants_after, wants_as, wants_next}
+use Rattle.promises.specs.of_lawful_trace.Tables.{begun, call_of_act, call_of_release, has_named, is_call, names_instance}
+use Rattle.promises.specs.of_lawful_trace.TreeRows.{is_next_or_again}
 use Rattle.promises.specs.Past.{Past}
 use Rattle.past_laws.specs.Agreement.{Agrees, SaysGiven, past}
 use Rattle.past_laws.specs.Along.{EachComesSo, IsNamed}

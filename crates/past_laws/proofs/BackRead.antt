@@ -27,7 +27,7 @@ use Rattle.call_rules.specs.declared.answer.Answer.{Answer}
 use Rattle.call_rules.specs.declared.answer.Answer.TheVariants as answer
 use Rattle.call_rules.specs.declared.want.Want.{Want}
 use Rattle.call_rules.specs.declared.want.Want.TheVariants as want
-use Rattle.lawful_trace.specs.Tables.{names_instance}
+use Rattle.promises.specs.of_lawful_trace.Tables.{names_instance}
 use Rattle.past_laws.proofs.BackSilent.{no_look, opened_is, opened_silent}
 use Rattle.past_laws.proofs.CallsAsks.{is_request, packed_request}
 use Rattle.past_laws.proofs.Names.{false_true}

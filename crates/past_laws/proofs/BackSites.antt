@@ -21,8 +21,8 @@ use Rattle.tree_model.specs.Histories.{held as held_by}
 use Rattle.tree_model.specs.Packs.{boot_in}
 use Rattle.tree_model.specs.State.{has_stamp}
 use Rattle.tree_model.specs.Working.{list_of}
-use Rattle.lawful_trace.specs.SiteRows.{MayBoot, MayJoin, MayLeave, StopRow}
-use Rattle.lawful_trace.specs.TreeRows.{MayAdopt, is_above, is_stored_at}
+use Rattle.promises.specs.of_lawful_trace.SiteRows.{MayBoot, MayJoin, MayLeave, StopRow}
+use Rattle.promises.specs.of_lawful_trace.TreeRows.{MayAdopt, is_above, is_stored_at}
 use Rattle.promises.specs.Past.{Copy, Epoch, Past, candidates, epoch_at, is_number, making_of, site_at, stamp_in, unformed}
 use Rattle.promises.specs.After.{is_epoch}
 use Rattle.promises.specs.Rows.{is_above_held, is_there, may_adopt, may_follow}

@@ -10,8 +10,8 @@ use Rattle.trace_book.specs.declared.descriptor.Descriptor.{Descriptor}
 use Rattle.trace_book.specs.declared.record.Record.TheVariants as says
 use Rattle.tree_model.specs.Epochs.{epoch_of, is_in}
 use Rattle.tree_model.specs.Folds.{Trace}
-use Rattle.lawful_trace.specs.Lawful.{MayCome}
-use Rattle.lawful_trace.specs.Tables.{begins_now, descriptor, uses_by, uses_of, use_number, close_of, is_call}
+use Rattle.promises.specs.of_lawful_trace.Lawful.{MayCome}
+use Rattle.promises.specs.of_lawful_trace.Tables.{begins_now, descriptor, uses_by, uses_of, use_number, close_of, is_call}
 use Rattle.promises.specs.Past.{Past, Epoch, Instance, CallSoFar, is_on, is_close, is_named, site_at}
 use Rattle.promises.specs.After.{change, told_by, uses}
 use Rattle.past_laws.specs.Agreement.{Agrees}

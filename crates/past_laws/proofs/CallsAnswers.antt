@@ -18,9 +18,9 @@ use Rattle.tree_model.specs.Calls.{version_at}
 use Rattle.tree_model.specs.Folds.{Trace}
 use Rattle.tree_model.specs.State.{instance_in}
 use Rattle.tree_model.specs.Tree.{tree_of, kept_in as kept_by}
-use Rattle.lawful_trace.specs.Lawful.{MayCome}
-use Rattle.lawful_trace.specs.Progress.{Answers, answers, granted_answer, outcome_answer, look_answer as answer_by, closed, close_answer as close_by}
-use Rattle.lawful_trace.specs.Tables.{is_call, call_of_act, call_of_release}
+use Rattle.promises.specs.of_lawful_trace.Lawful.{MayCome}
+use Rattle.promises.specs.of_lawful_trace.Progress.{Answers, answers, granted_answer, outcome_answer, look_answer as answer_by, closed, close_answer as close_by}
+use Rattle.promises.specs.of_lawful_trace.Tables.{is_call, call_of_act, call_of_release}
 use Rattle.promises.specs.Past.{Past, CallSoFar, Instance, epoch_at, kept_in}
 use Rattle.promises.specs.After.{is_id, change, told_by, answered, look_answer, is_actor, is_ender, close_answer}
 use Rattle.past_laws.specs.Agreement.{Agrees}

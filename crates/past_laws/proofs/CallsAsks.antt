@@ -34,8 +34,8 @@ use Rattle.tree_model.specs.Calls.{call_named}
 use Rattle.tree_model.specs.Epochs.{is_in}
 use Rattle.tree_model.specs.Folds.{Trace}
 use Rattle.tree_model.specs.Packs.{all_sites, is_member, has_pack, sync_site}
-use Rattle.lawful_trace.specs.Progress.{is_packed_in, wants_as, wants_after}
-use Rattle.lawful_trace.specs.Tables.{descriptor, begun}
+use Rattle.promises.specs.of_lawful_trace.Progress.{is_packed_in, wants_as, wants_after}
+use Rattle.promises.specs.of_lawful_trace.Tables.{descriptor, begun}
 use Rattle.promises.specs.Past.{Past, Epoch, CallSoFar, sync_of, is_packed, asks_after}
 use Rattle.promises.specs.After.{is_id, is_epoch}
 use Rattle.past_laws.specs.Agreement.{Agrees, waiting_as}

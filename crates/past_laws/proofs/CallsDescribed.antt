@@ -18,8 +18,8 @@ use Rattle.tree_model.specs.declared.accepted.Waiting.{Waiting}
 use Rattle.tree_model.specs.Calls.{call_named, granted_to, opening_of, version_of}
 use Rattle.tree_model.specs.Epochs.{epoch_of}
 use Rattle.tree_model.specs.Folds.{Trace}
-use Rattle.lawful_trace.specs.Lawful.{MayCome}
-use Rattle.lawful_trace.specs.Tables.{begins_now, closed_by, held_again, is_opening, is_read_of, kept_by, opened_as, opened_by, descriptor, is_close, reads_by, uses_by, uses_of, close_of, has_named}
+use Rattle.promises.specs.of_lawful_trace.Lawful.{MayCome}
+use Rattle.promises.specs.of_lawful_trace.Tables.{begins_now, closed_by, held_again, is_opening, is_read_of, kept_by, opened_as, opened_by, descriptor, is_close, reads_by, uses_by, uses_of, close_of, has_named}
 use Rattle.past_laws.specs.Standing.{IsUntouched, StandsFor, UsersStand}
 use Rattle.past_laws.proofs.Names.{both_parts, false_true, none_some, some_same, number_eq, number_own, call_eq, call_own, epoch_eq, epoch_own, serial_eq, serial_own}
 use Rattle.past_laws.proofs.CallsGranted.{With, granted_stays}

@@ -22,12 +22,12 @@ use Rattle.tree_model.specs.declared.accepted.Waiting.{Waiting}
 use Rattle.tree_model.specs.Calls.{call_named, accepted_as, waiting, opening_of, version_at, version_of}
 use Rattle.tree_model.specs.Epochs.{epoch_of}
 use Rattle.tree_model.specs.Folds.{Trace}
-use Rattle.lawful_trace.specs.CallRows.{next_call, is_this}
-use Rattle.lawful_trace.specs.Lawful.{MayCome}
+use Rattle.promises.specs.of_lawful_trace.CallRows.{next_call, is_this}
+use Rattle.promises.specs.of_lawful_trace.Lawful.{MayCome}
 use Rattle.tree_model.specs.State.{instance_in}
 use Rattle.tree_model.specs.Tree.{tree_of}
-use Rattle.lawful_trace.specs.Progress.{answers, granted_answer, outcome_answer, close_answer}
-use Rattle.lawful_trace.specs.Tables.{begins_now, begun, descriptor, is_opening, kept_by, opened_as, uses_by, uses_of, close_of, is_call, call_of_act, call_of_release}
+use Rattle.promises.specs.of_lawful_trace.Progress.{answers, granted_answer, outcome_answer, close_answer}
+use Rattle.promises.specs.of_lawful_trace.Tables.{begins_now, begun, descriptor, is_opening, kept_by, opened_as, uses_by, uses_of, close_of, is_call, call_of_act, call_of_release}
 use Rattle.promises.specs.Past.{Past, CallSoFar, is_on, is_close, site_at, epoch_at, kept_in, table}
 use Rattle.promises.specs.After.{is_id, told_by, change, begun_call, replied_to}
 use Rattle.past_laws.specs.Agreement.{Agrees, waiting_as}

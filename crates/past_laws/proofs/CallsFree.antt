@@ -25,9 +25,9 @@ use Rattle.call_rules.specs.Scripts.{wants}
 use Rattle.tree_model.specs.declared.accepted.Waiting.{Waiting}
 use Rattle.tree_model.specs.Calls.{call_named, waiting_of, is_of, opening_of}
 use Rattle.tree_model.specs.Folds.{Trace}
-use Rattle.lawful_trace.specs.Lawful.{MayCome}
-use Rattle.lawful_trace.specs.Progress.{answers, is_packed_in, left_epoch, unless_left, wants_next}
-use Rattle.lawful_trace.specs.Tables.{descriptor, closed_by, held_again, names_instance, opened_by, reads_by}
+use Rattle.promises.specs.of_lawful_trace.Lawful.{MayCome}
+use Rattle.promises.specs.of_lawful_trace.Progress.{answers, is_packed_in, left_epoch, unless_left, wants_next}
+use Rattle.promises.specs.of_lawful_trace.Tables.{descriptor, closed_by, held_again, names_instance, opened_by, reads_by}
 use Rattle.promises.specs.Past.{Past, CallSoFar, table}
 use Rattle.promises.specs.After.{is_id, told_by}
 use Rattle.past_laws.specs.Agreement.{Agrees, SaysGiven, waiting_as}

@@ -19,7 +19,7 @@ use Rattle.tree_model.specs.Histories.{history}
 use Rattle.tree_model.specs.Opening.{open_refusal, is_placed}
 use Rattle.tree_model.specs.State.{TreeState, is_granted, is_grant_of, is_granted_here, is_make}
 use Rattle.tree_model.specs.Tree.{next, tree_of, joined, left, grant_of, granted}
-use Rattle.lawful_trace.specs.Lawful.{MayCome}
+use Rattle.promises.specs.of_lawful_trace.Lawful.{MayCome}
 use Rattle.past_laws.proofs.Names.{false_true, none_some, both_parts, epoch_eq, serial_eq}
 
 abbrev pub With : ℕ → Record → Trace → Trace

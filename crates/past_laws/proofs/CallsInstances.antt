@@ -10,8 +10,8 @@ use Rattle.trace_book.specs.declared.record.Record.{Record}
 use Rattle.trace_book.specs.declared.record.Record.TheVariants as says
 use Rattle.file_effects.specs.declared.work.Work.{Work}
 use Rattle.tree_model.specs.Folds.{Trace}
-use Rattle.lawful_trace.specs.Lawful.{MayCome}
-use Rattle.lawful_trace.specs.Tables.{descriptor, uses_of, use_number, close_of, has_named, is_call}
+use Rattle.promises.specs.of_lawful_trace.Lawful.{MayCome}
+use Rattle.promises.specs.of_lawful_trace.Tables.{descriptor, uses_of, use_number, close_of, has_named, is_call}
 use Rattle.promises.specs.Past.{Past, Instance}
 use Rattle.promises.specs.After.{told_by}
 use Rattle.past_laws.specs.Standing.{HasTurn, InstanceStands}

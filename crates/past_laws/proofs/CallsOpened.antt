@@ -19,8 +19,8 @@ use Rattle.file_effects.specs.declared.work.Work.{Work}
 use Rattle.tree_model.specs.declared.instance.Granted.{Granted}
 use Rattle.tree_model.specs.Calls.{granted_to}
 use Rattle.tree_model.specs.Folds.{Trace}
-use Rattle.lawful_trace.specs.Lawful.{MayCome}
-use Rattle.lawful_trace.specs.Tables.{descriptor, use_number, is_call}
+use Rattle.promises.specs.of_lawful_trace.Lawful.{MayCome}
+use Rattle.promises.specs.of_lawful_trace.Tables.{descriptor, use_number, is_call}
 use Rattle.promises.specs.Past.{Past, Epoch, Instance, CallSoFar, Copy, Make, is_named, is_writer, epoch_at, unformed}
 use Rattle.promises.specs.Tree.{work_after}
 use Rattle.promises.specs.After.{is_epoch, is_home_of, change, told_by, answered, is_ender, close_answer, opened_as, process_of, acted, released, with_epoch}

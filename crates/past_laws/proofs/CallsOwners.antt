@@ -18,9 +18,9 @@ use Rattle.tree_model.specs.Given.{instance_gives, instance_ends}
 use Rattle.tree_model.specs.Histories.{history}
 use Rattle.tree_model.specs.State.{instance_in, is_named as is_tree_named}
 use Rattle.tree_model.specs.Tree.{tree_of}
-use Rattle.lawful_trace.specs.Lawful.{MayCome}
-use Rattle.lawful_trace.specs.Tables.{uses_of, use_number, close_of, has_named, is_call, unless_named, call_of_act, call_of_release}
-use Rattle.lawful_trace.specs.TreeRows.{granted_group}
+use Rattle.promises.specs.of_lawful_trace.Lawful.{MayCome}
+use Rattle.promises.specs.of_lawful_trace.Tables.{uses_of, use_number, close_of, has_named, is_call, unless_named, call_of_act, call_of_release}
+use Rattle.promises.specs.of_lawful_trace.TreeRows.{granted_group}
 use Rattle.promises.specs.Past.{Past, Epoch, CallSoFar, Instance, acts, ends, first_or, epoch_at, unformed, is_on, is_close, is_named}
 use Rattle.promises.specs.After.{is_id, is_epoch, is_actor, is_ender}
 use Rattle.past_laws.specs.Agreement.{Agrees, instance_of}

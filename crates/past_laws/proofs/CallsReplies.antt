@@ -19,9 +19,9 @@ use Rattle.tree_model.specs.Calls.{call_named, granted_to, opening_of, version_o
 use Rattle.tree_model.specs.Folds.{Trace}
 use Rattle.tree_model.specs.Epochs.{is_in}
 use Rattle.tree_model.specs.Working.{list_of}
-use Rattle.lawful_trace.specs.Lawful.{MayCome}
-use Rattle.lawful_trace.specs.Progress.{answers, is_packed_in, left_epoch, wants_next}
-use Rattle.lawful_trace.specs.Tables.{begun, descriptor, use_number, uses_of, names_instance, has_named, is_call, is_opening, kept_by, opened_as as kept_opening}
+use Rattle.promises.specs.of_lawful_trace.Lawful.{MayCome}
+use Rattle.promises.specs.of_lawful_trace.Progress.{answers, is_packed_in, left_epoch, wants_next}
+use Rattle.promises.specs.of_lawful_trace.Tables.{begun, descriptor, use_number, uses_of, names_instance, has_named, is_call, is_opening, kept_by, opened_as as kept_opening}
 use Rattle.promises.specs.Past.{Past, Epoch, Instance, CallSoFar, is_on, is_close, is_named}
 use Rattle.promises.specs.After.{is_id, is_reading, change, told_by, named_by, once_named, left_unmended}
 use Rattle.past_laws.specs.Agreement.{Agrees, SaysGiven, waiting_as}

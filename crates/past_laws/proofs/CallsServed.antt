@@ -21,8 +21,8 @@ use Rattle.tree_model.specs.Histories.{history}
 use Rattle.tree_model.specs.Same.{is_served}
 use Rattle.tree_model.specs.State.{stamps_of}
 use Rattle.tree_model.specs.Tree.{tree_of, kept_in as kept_by}
-use Rattle.lawful_trace.specs.Lawful.{MayCome}
-use Rattle.lawful_trace.specs.Progress.{found_in, look_answer as answer_by}
+use Rattle.promises.specs.of_lawful_trace.Lawful.{MayCome}
+use Rattle.promises.specs.of_lawful_trace.Progress.{found_in, look_answer as answer_by}
 use Rattle.promises.specs.Past.{Past, Epoch, Copy, Making, epoch_at, unformed, candidates, kept_in}
 use Rattle.promises.specs.After.{is_epoch, look_answer}
 use Rattle.past_laws.specs.Agreement.{Agrees}

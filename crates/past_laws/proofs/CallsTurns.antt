@@ -14,8 +14,8 @@ use Rattle.trace_book.specs.declared.descriptor.Beginning.{Beginning}
 use Rattle.trace_book.specs.declared.descriptor.Beginning.TheVariants as begins
 use Rattle.trace_book.specs.declared.record.Record.TheVariants as says
 use Rattle.tree_model.specs.Folds.{Trace}
-use Rattle.lawful_trace.specs.CallRows.{next_call}
-use Rattle.lawful_trace.specs.Tables.{begins_now, uses_by, uses_of, use_number, is_call}
+use Rattle.promises.specs.of_lawful_trace.CallRows.{next_call}
+use Rattle.promises.specs.of_lawful_trace.Tables.{begins_now, uses_by, uses_of, use_number, is_call}
 use Rattle.promises.specs.Past.{Past, Epoch, Instance, CallSoFar, is_on, is_close, is_named}
 use Rattle.promises.specs.After.{is_epoch, uses, turn_of}
 use Rattle.past_laws.specs.Agreement.{Agrees}

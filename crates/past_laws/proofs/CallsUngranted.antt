@@ -31,10 +31,10 @@ use Rattle.call_rules.specs.declared.want.Want.TheVariants as want
 use Rattle.tree_model.specs.declared.accepted.Waiting.{Waiting}
 use Rattle.tree_model.specs.Calls.{call_named, opening_of}
 use Rattle.tree_model.specs.Folds.{Trace}
-use Rattle.lawful_trace.specs.Lawful.{MayCome}
-use Rattle.lawful_trace.specs.Progress.{answers, is_packed_in, wants_as}
-use Rattle.lawful_trace.specs.Tables.{begins_now, begun, descriptor}
-use Rattle.lawful_trace.specs.TreeRows.{is_open_of}
+use Rattle.promises.specs.of_lawful_trace.Lawful.{MayCome}
+use Rattle.promises.specs.of_lawful_trace.Progress.{answers, is_packed_in, wants_as}
+use Rattle.promises.specs.of_lawful_trace.Tables.{begins_now, begun, descriptor}
+use Rattle.promises.specs.of_lawful_trace.TreeRows.{is_open_of}
 use Rattle.promises.specs.Past.{Past}
 use Rattle.past_laws.specs.Agreement.{Agrees}
 use Rattle.past_laws.proofs.CallsFields.{new_none}

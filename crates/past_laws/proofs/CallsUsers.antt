@@ -18,9 +18,9 @@ use Rattle.tree_model.specs.declared.accepted.Waiting.{Waiting}
 use Rattle.tree_model.specs.Calls.{call_named, accepted_as, waiting, waiting_of, is_of, opening_of}
 use Rattle.tree_model.specs.Epochs.{boot_of, calls_accepted}
 use Rattle.tree_model.specs.Folds.{Trace}
-use Rattle.lawful_trace.specs.CallRows.{CallRow, next_call, is_this}
-use Rattle.lawful_trace.specs.Lawful.{MayCome}
-use Rattle.lawful_trace.specs.Tables.{begins_now, is_close, uses_by, uses_of, close_of, names_instance, has_named, is_opening}
+use Rattle.promises.specs.of_lawful_trace.CallRows.{CallRow, next_call, is_this}
+use Rattle.promises.specs.of_lawful_trace.Lawful.{MayCome}
+use Rattle.promises.specs.of_lawful_trace.Tables.{begins_now, is_close, uses_by, uses_of, close_of, names_instance, has_named, is_opening}
 use Rattle.past_laws.specs.Standing.{IsLow, is_mend, is_alone, UsersStand}
 use Rattle.past_laws.proofs.Names.{false_true, none_some, some_same, number_eq, number_own, call_eq, call_turned}
 use Rattle.past_laws.proofs.CallsLists.{each_more, each_filter, each_both, each_passing, each_found, many_left}

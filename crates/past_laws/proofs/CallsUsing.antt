@@ -15,7 +15,7 @@ use Rattle.trace_book.specs.declared.descriptor.Descriptor.{Descriptor}
 use Rattle.trace_book.specs.declared.descriptor.OneVersion.{OneVersion}
 use Rattle.call_rules.specs.Descriptors.{is_in, begins_again, begins_change, begins_close, begins_read, begins_walk, begins_open, beginning, held_or, lowest_free, stale_or}
 use Rattle.call_rules.specs.Words.{is_too_long}
-use Rattle.lawful_trace.specs.Tables.{uses_by}
+use Rattle.promises.specs.of_lawful_trace.Tables.{uses_by}
 use Rattle.past_laws.specs.Standing.{BeginsWell}
 use Rattle.past_laws.proofs.Names.{false_true, epoch_eq, serial_eq}
 

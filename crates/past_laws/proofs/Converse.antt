@@ -8,7 +8,7 @@ use Rattle.trace_book.specs.declared.entry.Entry.{Entry}
 use Rattle.trace_book.specs.declared.record.Record.{Record}
 use Rattle.trace_book.specs.declared.record.Record.TheVariants as rec
 use Rattle.tree_model.specs.Folds.{Trace}
-use Rattle.lawful_trace.specs.TreeRows.{granted_group}
+use Rattle.promises.specs.of_lawful_trace.TreeRows.{granted_group}
 use Rattle.promises.specs.Past.{Instance, Past, epoch_at, is_named}
 use Rattle.promises.specs.Rows.{may_follow}
 use Rattle.past_laws.specs.Agreement.{Agrees, past, speaks_of_sites}

@@ -21,8 +21,8 @@ use Rattle.tree_model.specs.Calls.{accepted_as, call_named}
 use Rattle.tree_model.specs.Epochs.{epoch_of, has_joined, is_in, members_of}
 use Rattle.tree_model.specs.Folds.{Trace}
 use Rattle.tree_model.specs.Histories.{history}
-use Rattle.lawful_trace.specs.CallRows.{ends_mending, has_lost_mend, is_lost_mend}
-use Rattle.lawful_trace.specs.Lawful.{MayCome}
+use Rattle.promises.specs.of_lawful_trace.CallRows.{ends_mending, has_lost_mend, is_lost_mend}
+use Rattle.promises.specs.of_lawful_trace.Lawful.{MayCome}
 use Rattle.promises.specs.Past.{CallSoFar, Epoch, Past, epoch_at, is_named, nothing_yet, site_at}
 use Rattle.promises.specs.After.{after, answered, change, close_answer, is_ender, is_epoch, left_unmended, released, replied_to, with_all_known, with_epoch}
 use Rattle.past_laws.specs.Agreement.{Agrees, EpochsAgree, SaysGiven, speaks_of_sites, waiting_as}

@@ -24,8 +24,8 @@ use Rattle.tree_model.specs.Opening.{sites_made}
 use Rattle.tree_model.specs.Packs.{packs_of}
 use Rattle.tree_model.specs.State as state
 use Rattle.tree_model.specs.Tree.{tree_of}
-use Rattle.lawful_trace.specs.Lawful.{MayCome}
-use Rattle.lawful_trace.specs.TreeRows.{MayCommit, is_writing as writes}
+use Rattle.promises.specs.of_lawful_trace.Lawful.{MayCome}
+use Rattle.promises.specs.of_lawful_trace.TreeRows.{MayCommit, is_writing as writes}
 use Rattle.promises.specs.Past.{CallSoFar, Epoch, Instance, Making, Past, epoch_at, groups, is_named, is_writer, nothing_yet}
 use Rattle.promises.specs.After.{after, close_answer, is_ender, is_epoch, is_home_of, is_id, replied_to, with_making, writers_of}
 use Rattle.promises.specs.Rows.{is_writing}

@@ -22,8 +22,8 @@ use Rattle.tree_model.specs.Files.{committing, first_call, kind_made, kind_of_fi
 use Rattle.tree_model.specs.Folds.{Trace}
 use Rattle.tree_model.specs.Opening.{sites_made}
 use Rattle.tree_model.specs.Packs.{no_sites, packs_of}
-use Rattle.lawful_trace.specs.Lawful.{MayCome}
-use Rattle.lawful_trace.specs.TreeRows.{MayCommit}
+use Rattle.promises.specs.of_lawful_trace.Lawful.{MayCome}
+use Rattle.promises.specs.of_lawful_trace.TreeRows.{MayCommit}
 use Rattle.promises.specs.Past.{CallSoFar, Instance, Making, Past, first_or, making_of}
 use Rattle.promises.specs.After.{after, is_id, with_making}
 use Rattle.past_laws.specs.Agreement.{Agrees, waiting_as}

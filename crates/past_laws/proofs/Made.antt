@@ -27,14 +27,14 @@ use Rattle.tree_model.specs.State.{has_stamp}
 use Rattle.tree_model.specs.Tree.{tree_of}
 use Rattle.tree_model.specs.Working.{list_of}
 use Rattle.call_rules.specs.declared.answer.Answer.{Answer}
-use Rattle.lawful_trace.specs.Progress.{outcome_answer}
-use Rattle.lawful_trace.specs.TreeRows.{MayCommit, is_writing}
+use Rattle.promises.specs.of_lawful_trace.Progress.{outcome_answer}
+use Rattle.promises.specs.of_lawful_trace.TreeRows.{MayCommit, is_writing}
 use Rattle.trace_book.specs.declared.reply.Reply.{Reply}
 use Rattle.locus_ids.specs.declared.ids.Stamp.{Stamp}
 use Rattle.commit_graph.specs.Versions.{same_file}
 use Rattle.past_laws.proofs.Names.{both, both_parts, epoch_own, file_eq, number_own}
 use Rattle.tree_model.specs.Folds.{Trace}
-use Rattle.lawful_trace.specs.Lawful.{MayCome}
+use Rattle.promises.specs.of_lawful_trace.Lawful.{MayCome}
 use Rattle.promises.specs.Past.{CallSoFar, Copy, Epoch, Instance, Making, Past, Site, epoch_at, first_site, groups, is_named, is_writer, no_site, nothing_yet, site_at, table}
 use Rattle.promises.specs.After.{acted, after, answered, begun_call, change, close_answer, is_actor, is_ender, is_epoch, is_home_of, is_id, left_unmended, opened_as, process_of, released, replied_to, uses, with_all_known, with_epoch, with_making, named_by, once_named}
 use Rattle.promises.specs.Tree.{work_after}

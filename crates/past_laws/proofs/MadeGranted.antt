@@ -18,7 +18,7 @@ use Rattle.tree_model.specs.Histories.{history}
 use Rattle.tree_model.specs.Opening.{is_given_by, is_new_file, is_placed, is_site, making_site, open_refusal, place_refusal}
 use Rattle.tree_model.specs.State.{TreeState, is_granted, is_make, kept_of, openers}
 use Rattle.tree_model.specs.Tree.{tree_of}
-use Rattle.lawful_trace.specs.TreeRows.{MayGrant}
+use Rattle.promises.specs.of_lawful_trace.TreeRows.{MayGrant}
 use Rattle.promises.specs.Past.{Past}
 use Rattle.past_laws.specs.Agreement.{Agrees}
 use Rattle.past_laws.specs.Made.{is_made}

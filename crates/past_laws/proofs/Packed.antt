@@ -25,9 +25,9 @@ use Rattle.tree_model.specs.Epochs.{is_in}
 use Rattle.tree_model.specs.Folds.{Trace}
 use Rattle.tree_model.specs.Packs.{has_pack, no_sites, packs_of}
 use Rattle.tree_model.specs.State.{has_stamp}
-use Rattle.lawful_trace.specs.Lawful.{MayCome}
-use Rattle.lawful_trace.specs.Progress.{outcome_answer}
-use Rattle.lawful_trace.specs.TreeRows.{MayAdopt}
+use Rattle.promises.specs.of_lawful_trace.Lawful.{MayCome}
+use Rattle.promises.specs.of_lawful_trace.Progress.{outcome_answer}
+use Rattle.promises.specs.of_lawful_trace.TreeRows.{MayAdopt}
 use Rattle.past_laws.proofs.Made.{once_grant}
 use Rattle.promises.specs.Past.{CallSoFar, Copy, Epoch, Instance, Left, Making, Past, Site, epoch_at, is_named, is_writer, making_of, site_at, table}
 use Rattle.promises.specs.After.{acted, after, answered, begun_call, change, close_answer, is_actor, is_ender, is_epoch, is_home_of, is_id, left_unmended, opened_as, process_of, released, replied_to, uses, with_all_known, with_epoch, with_making, named_by, once_named}

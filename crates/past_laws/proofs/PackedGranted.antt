@@ -26,7 +26,7 @@ use Rattle.tree_model.specs.Packs.{all_sites, has_pack, is_good_set, is_member_o
 use Rattle.tree_model.specs.Same.{same_version}
 use Rattle.tree_model.specs.State.{TreeState, has_stamp_of, held_at, kept_of, openers}
 use Rattle.tree_model.specs.Tree.{tree_of}
-use Rattle.lawful_trace.specs.TreeRows.{MayGrant}
+use Rattle.promises.specs.of_lawful_trace.TreeRows.{MayGrant}
 use Rattle.promises.specs.Past.{CallSoFar, Copy, Past, copies_in, epoch_at, stamp_in}
 use Rattle.promises.specs.After.{is_epoch, is_id}
 use Rattle.past_laws.specs.Agreement.{Agrees}

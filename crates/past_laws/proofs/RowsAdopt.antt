@@ -14,7 +14,7 @@ use Rattle.tree_model.specs.Epochs.{is_in}
 use Rattle.tree_model.specs.Folds.{Trace}
 use Rattle.tree_model.specs.Histories.{held as held_by}
 use Rattle.tree_model.specs.State.{has_stamp}
-use Rattle.lawful_trace.specs.TreeRows.{MayAdopt, is_above, is_stored_at}
+use Rattle.promises.specs.of_lawful_trace.TreeRows.{MayAdopt, is_above, is_stored_at}
 use Rattle.promises.specs.Past.{Copy, Instance, Past, candidates, epoch_at, making_of, site_at, stamp_in}
 use Rattle.promises.specs.After.{is_epoch}
 use Rattle.promises.specs.Rows.{is_above_held, may_adopt, may_follow}

@@ -18,10 +18,10 @@ use Rattle.call_rules.specs.declared.want.Want.TheVariants as want
 use Rattle.tree_model.specs.Epochs.{epoch_of, last_joined, is_in}
 use Rattle.tree_model.specs.Folds.{Trace}
 use Rattle.tree_model.specs.Working.{list_of}
-use Rattle.lawful_trace.specs.Lawful.{MayCome}
+use Rattle.promises.specs.of_lawful_trace.Lawful.{MayCome}
 use Rattle.call_rules.specs.Descriptors.{lowest_free}
-use Rattle.lawful_trace.specs.Tables.{descriptor}
-use Rattle.lawful_trace.specs.Progress.{answers, is_packed_in, wants_after, wants_next, left_epoch, left_since, unless_left}
+use Rattle.promises.specs.of_lawful_trace.Tables.{descriptor}
+use Rattle.promises.specs.of_lawful_trace.Progress.{answers, is_packed_in, wants_after, wants_next, left_epoch, left_since, unless_left}
 use Rattle.promises.specs.Past.{Past, CallSoFar, Last, Accepting, site_at, asks}
 use Rattle.promises.specs.After.{is_id, last_by}
 use Rattle.promises.specs.Rows.{may_answer, waits_at, is_home, is_due, is_just_left, is_scripted, is_changed, gives}

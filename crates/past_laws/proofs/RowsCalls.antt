@@ -20,9 +20,9 @@ use Rattle.tree_model.specs.Given.{served_by}
 use Rattle.tree_model.specs.Packs.{all_sites, is_member, has_pack, sync_site}
 use Rattle.tree_model.specs.Same.{is_served}
 use Rattle.tree_model.specs.Tree.{tree_of, kept_in as kept_by}
-use Rattle.lawful_trace.specs.CallRows.{MayAccept, next_call as next_of}
-use Rattle.lawful_trace.specs.Progress.{answers, wants_after}
-use Rattle.lawful_trace.specs.TreeRows.{MayLook, IsCallIn, is_served as is_served_in, has_joined_some, is_next_or_again}
+use Rattle.promises.specs.of_lawful_trace.CallRows.{MayAccept, next_call as next_of}
+use Rattle.promises.specs.of_lawful_trace.Progress.{answers, wants_after}
+use Rattle.promises.specs.of_lawful_trace.TreeRows.{MayLook, IsCallIn, is_served as is_served_in, has_joined_some, is_next_or_again}
 use Rattle.promises.specs.Past.{Past, Epoch, Site, CallSoFar, site_at, no_site, epoch_at, unformed, is_number, sync_of, kept_in, asks_after}
 use Rattle.promises.specs.After.{is_id, is_epoch}
 use Rattle.promises.specs.Rows.{may_accept, may_look, is_there, waits_at, next_call, is_step_of, is_synced}

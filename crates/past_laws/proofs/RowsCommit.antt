@@ -17,7 +17,7 @@ use Rattle.tree_model.specs.Folds.{Trace}
 use Rattle.tree_model.specs.Histories.{history}
 use Rattle.tree_model.specs.Tree.{tree_of}
 use Rattle.tree_model.specs.Working as old
-use Rattle.lawful_trace.specs.TreeRows.{MayCommit, is_writing as writes}
+use Rattle.promises.specs.of_lawful_trace.TreeRows.{MayCommit, is_writing as writes}
 use Rattle.promises.specs.Past.{Instance, Past, epoch_at}
 use Rattle.promises.specs.After.{is_epoch}
 use Rattle.promises.specs.Rows.{is_the_one, is_writing, may_commit, may_follow}

@@ -24,7 +24,7 @@ use Rattle.tree_model.specs.Same.{same_kind}
 use Rattle.tree_model.specs.State.{kept_of, held_at}
 use Rattle.tree_model.specs.Tree.{tree_of}
 use Rattle.tree_model.specs.Working.{are_several, list_of}
-use Rattle.lawful_trace.specs.CallRows.{MayMend, CallRow, is_mend_in, has_open, is_mend_wanted as is_wanted}
+use Rattle.promises.specs.of_lawful_trace.CallRows.{MayMend, CallRow, is_mend_in, has_open, is_mend_wanted as is_wanted}
 use Rattle.promises.specs.Past.{Past, Epoch, Instance, CallSoFar, site_at, epoch_at, unformed, is_number, sync_of, held_in, making_of}
 use Rattle.promises.specs.Tree.{wants_rescue}
 use Rattle.promises.specs.After.{is_epoch}

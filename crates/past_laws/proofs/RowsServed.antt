@@ -9,7 +9,7 @@ use Rattle.tree_model.specs.Epochs.{members_of}
 use Rattle.tree_model.specs.Folds.{Trace}
 use Rattle.tree_model.specs.Packs.{all_sites, boot_in, has_pack, is_member, is_member_of, sync_site}
 use Rattle.tree_model.specs.Working.{list_of}
-use Rattle.lawful_trace.specs.TreeRows.{has_joined_some, is_served}
+use Rattle.promises.specs.of_lawful_trace.TreeRows.{has_joined_some, is_served}
 use Rattle.promises.specs.Past.{Epoch, Past, epoch_at, is_number, sync_of, unformed}
 use Rattle.promises.specs.After.{is_epoch}
 use Rattle.promises.specs.Rows.{is_synced}

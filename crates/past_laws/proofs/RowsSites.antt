@@ -13,7 +13,7 @@ use Rattle.trace_book.specs.declared.record.Record.TheVariants as rec
 use Rattle.tree_model.specs.Epochs.{is_above_joined, is_epoch_below, is_in, last_joined, members_of}
 use Rattle.tree_model.specs.Folds.{Trace}
 use Rattle.tree_model.specs.Working.{list_of}
-use Rattle.lawful_trace.specs.SiteRows.{MayBoot, MayJoin, MayLeave, StopRow}
+use Rattle.promises.specs.of_lawful_trace.SiteRows.{MayBoot, MayJoin, MayLeave, StopRow}
 use Rattle.promises.specs.Past.{Epoch, Past, site_at}
 use Rattle.promises.specs.After.{is_epoch}
 use Rattle.promises.specs.Rows.{is_there, may_follow}

@@ -10,7 +10,7 @@ use Rattle.tree_model.specs.Folds.{Trace}
 use Rattle.tree_model.specs.Packs.{all_sites, has_pack, is_member, is_member_of}
 use Rattle.tree_model.specs.Same.{same_all, same_brought}
 use Rattle.tree_model.specs.Tree.{tree_of}
-use Rattle.lawful_trace.specs.TreeRows.{MayStart}
+use Rattle.promises.specs.of_lawful_trace.TreeRows.{MayStart}
 use Rattle.promises.specs.Past.{Past, epoch_at, is_number}
 use Rattle.promises.specs.Rows.{brought_in, may_follow}
 use Rattle.promises.specs.Same.{same_list}

@@ -48,10 +48,10 @@ use Rattle.tree_model.specs.Epochs.{is_in, has_joined}
 use Rattle.tree_model.specs.Given.{instance_gives, instance_ends, refuses, is_unnumbered}
 use Rattle.tree_model.specs.Same.{same_kind, is_given}
 use Rattle.tree_model.specs.Working as working
-use Rattle.lawful_trace.specs.Lawful.{MayCome}
-use Rattle.lawful_trace.specs.Progress.{answers, wants_after, wants_next}
-use Rattle.lawful_trace.specs.Tables.{is_call}
-use Rattle.lawful_trace.specs.TreeRows.{IsCallIn, MayOpen, granted_group, is_open_of, is_stored_within}
+use Rattle.promises.specs.of_lawful_trace.Lawful.{MayCome}
+use Rattle.promises.specs.of_lawful_trace.Progress.{answers, wants_after, wants_next}
+use Rattle.promises.specs.of_lawful_trace.Tables.{is_call}
+use Rattle.promises.specs.of_lawful_trace.TreeRows.{IsCallIn, MayOpen, granted_group, is_open_of, is_stored_within}
 use Rattle.promises.specs.Past.{acts, asks, ends, is_named}
 use Rattle.promises.specs.Same.{same_op, same_request}
 use Rattle.promises.specs.Rows.{may_follow, is_asked, is_step_of, is_refused, is_synced, asks_open}

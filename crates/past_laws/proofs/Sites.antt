@@ -22,10 +22,10 @@ use Rattle.call_rules.specs.Descriptors.{lowest_free}
 use Rattle.tree_model.specs.declared.accepted.Waiting.{Waiting}
 use Rattle.tree_model.specs.Calls.{call_named, waiting}
 use Rattle.tree_model.specs.Folds.{Trace}
-use Rattle.lawful_trace.specs.CallRows.{is_this}
-use Rattle.lawful_trace.specs.Lawful.{MayCome}
-use Rattle.lawful_trace.specs.Progress.{Answers, answers, left_epoch, unless_left, wants_as, wants_next, now_wants}
-use Rattle.lawful_trace.specs.Tables.{begun, descriptor, opened_as}
+use Rattle.promises.specs.of_lawful_trace.CallRows.{is_this}
+use Rattle.promises.specs.of_lawful_trace.Lawful.{MayCome}
+use Rattle.promises.specs.of_lawful_trace.Progress.{Answers, answers, left_epoch, unless_left, wants_as, wants_next, now_wants}
+use Rattle.promises.specs.of_lawful_trace.Tables.{begun, descriptor, opened_as}
 use Rattle.promises.specs.Past.{Past, Site, CallSoFar, epoch_at}
 use Rattle.promises.specs.After.{after, change, with_epoch, is_epoch, is_id, is_ender, answered, close_answer, replied_to}
 use Rattle.promises.specs.Past.{is_named}

@@ -16,7 +16,7 @@ use Rattle.tree_model.specs.declared.accepted.Waiting.{Waiting}
 use Rattle.tree_model.specs.Calls.{call_named, opening_of, version_of}
 use Rattle.tree_model.specs.Epochs.{calls_accepted}
 use Rattle.tree_model.specs.Folds.{Trace}
-use Rattle.lawful_trace.specs.Tables.{descriptor, closed_by, held_again as held_as, is_read_of, kept_by, opened_as, opened_by, reads_by}
+use Rattle.promises.specs.of_lawful_trace.Tables.{descriptor, closed_by, held_again as held_as, is_read_of, kept_by, opened_as, opened_by, reads_by}
 use Rattle.promises.specs.Past.{Site, Named, CallSoFar, stamp_in}
 use Rattle.promises.specs.After.{change, held_again, held_by, is_freed, is_read_by, taken_by}
 use Rattle.past_laws.specs.Agreement.{waiting_as}

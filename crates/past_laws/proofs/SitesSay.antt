@@ -10,7 +10,7 @@ use Rattle.trace_book.specs.declared.descriptor.Descriptor.{Descriptor}
 use Rattle.tree_model.specs.Epochs.{is_up, boot_of, epoch_of, last_joined, calls_accepted}
 use Rattle.tree_model.specs.Folds.{Trace}
 use Rattle.tree_model.specs.Histories.{held as held_by}
-use Rattle.lawful_trace.specs.Tables.{descriptor}
+use Rattle.promises.specs.of_lawful_trace.Tables.{descriptor}
 use Rattle.promises.specs.Past.{Past, Site, Named, first_or, no_site, stamp_in}
 use Rattle.promises.specs.After.{change}
 use Rattle.past_laws.specs.Agreement.{SitesAgree}

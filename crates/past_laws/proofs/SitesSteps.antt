@@ -14,7 +14,7 @@ use Rattle.trace_book.specs.declared.record.StopCause.{StopCause}
 use Rattle.tree_model.specs.Epochs.{is_up, boot_of, epoch_of, last_joined, calls_accepted}
 use Rattle.tree_model.specs.Folds.{Trace}
 use Rattle.tree_model.specs.Histories.{held as held_by}
-use Rattle.lawful_trace.specs.Tables.{descriptor}
+use Rattle.promises.specs.of_lawful_trace.Tables.{descriptor}
 use Rattle.promises.specs.Past.{Site, Copy, stamp_in}
 use Rattle.promises.specs.After.{change}
 use Rattle.past_laws.proofs.Names.{number_eq, false_true, file_eq, file_test}

@@ -11,9 +11,9 @@ use Rattle.call_rules.specs.Opening.{is_steady}
 use Rattle.call_rules.specs.declared.answer.Answer.TheVariants.{Refused}
 use Rattle.tree_model.specs.Calls.{version_at}
 use Rattle.tree_model.specs.Folds.{Trace}
-use Rattle.lawful_trace.specs.CallRows.{CallRow, next_call}
-use Rattle.lawful_trace.specs.Lawful.{MayCome}
-use Rattle.lawful_trace.specs.Progress.{granted_answer, outcome_answer}
+use Rattle.promises.specs.of_lawful_trace.CallRows.{CallRow, next_call}
+use Rattle.promises.specs.of_lawful_trace.Lawful.{MayCome}
+use Rattle.promises.specs.of_lawful_trace.Progress.{granted_answer, outcome_answer}
 use Rattle.promises.specs.Past.{Past, CallSoFar, epoch_at, kept_in, unformed, is_named}
 use Rattle.promises.specs.After.{after, change, is_actor, is_ender, is_epoch, is_id, answered, close_answer, look_answer, replied_to}
 use Rattle.past_laws.specs.Agreement.{Agrees, is_of_cluster, speaks_of_sites}

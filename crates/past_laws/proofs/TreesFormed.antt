@@ -15,7 +15,7 @@ use Rattle.tree_model.specs.Packs.{sync_site}
 use Rattle.tree_model.specs.State as state
 use Rattle.tree_model.specs.Tree.{tree_of}
 use Rattle.tree_model.specs.Working.{list_of}
-use Rattle.lawful_trace.specs.TreeRows.{is_served, has_joined_some}
+use Rattle.promises.specs.of_lawful_trace.TreeRows.{is_served, has_joined_some}
 use Rattle.promises.specs.Past.{Past, Epoch, CallSoFar, is_number}
 use Rattle.promises.specs.After.{is_id, process_of}
 use Rattle.past_laws.specs.Agreement.{EpochsAgree, CallsAgree, waiting_as}

@@ -16,7 +16,7 @@ use Rattle.tree_model.specs.Folds.{Trace}
 use Rattle.tree_model.specs.Histories.{history}
 use Rattle.tree_model.specs.State.{TreeState}
 use Rattle.tree_model.specs.Tree.{tree_of, next, granted, grant_of}
-use Rattle.lawful_trace.specs.Lawful.{MayCome}
+use Rattle.promises.specs.of_lawful_trace.Lawful.{MayCome}
 use Rattle.promises.specs.Past.{Past, Epoch, epoch_at}
 use Rattle.promises.specs.After.{after, process_of, opened_as}
 use Rattle.past_laws.specs.Agreement.{Agrees}

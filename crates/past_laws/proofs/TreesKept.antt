@@ -23,7 +23,7 @@ use Rattle.tree_model.specs.State.{TreeState, is_make, is_granted_here}
 use Rattle.trace_book.specs.Same.{same_call, same_epoch}
 use Rattle.promises.specs.Past.{Past, Epoch, Instance, Left, Make, Copy, first_or, epoch_at, unformed, site_at, table, is_writer, is_named}
 use Rattle.promises.specs.After.{change, is_epoch, is_home_of, is_id, acted, answered, is_actor, is_ender, close_answer, released, opened_as, process_of, has_now, with_making, begun_call, after, once_named}
-use Rattle.lawful_trace.specs.Progress.{outcome_answer}
+use Rattle.promises.specs.of_lawful_trace.Progress.{outcome_answer}
 use Rattle.past_laws.proofs.TreesAt.{at_kept, left_kept, joined_kept, accepted_kept, answered_kept, answers_kept}
 
 -- the part doesn't see what the record changes of an epoch

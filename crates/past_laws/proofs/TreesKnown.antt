@@ -23,7 +23,7 @@ use Rattle.tree_model.specs.Same.{same_brought}
 use Rattle.tree_model.specs.State.{TreeState, with_brought, with_all, copy_of, is_copy_of, is_brought_below}
 use Rattle.tree_model.specs.Tree.{tree_of, next, joined as joined_in, left, with_root, published, released as released_in}
 use Rattle.tree_model.specs.Working.{list_of}
-use Rattle.lawful_trace.specs.Lawful.{MayCome}
+use Rattle.promises.specs.of_lawful_trace.Lawful.{MayCome}
 use Rattle.promises.specs.Past.{Past, Epoch, Copy, epoch_at, unformed, site_at, stamp_in, first_or, is_named}
 use Rattle.promises.specs.Rows.{brought_in, is_there}
 use Rattle.promises.specs.After.{after, with_known, with_all_known, with_epoch, is_epoch, is_copy_below, released, answered, is_ender, close_answer}

@@ -21,9 +21,9 @@ use Rattle.tree_model.specs.Histories.{history}
 use Rattle.tree_model.specs.State.{TreeState}
 use Rattle.tree_model.specs.State as state
 use Rattle.tree_model.specs.Tree.{tree_of, next, acted as acted_in, released as released_in}
-use Rattle.lawful_trace.specs.Lawful.{MayCome}
-use Rattle.lawful_trace.specs.TreeRows.{granted_group}
-use Rattle.lawful_trace.specs.Progress.{outcome_answer}
+use Rattle.promises.specs.of_lawful_trace.Lawful.{MayCome}
+use Rattle.promises.specs.of_lawful_trace.TreeRows.{granted_group}
+use Rattle.promises.specs.of_lawful_trace.Progress.{outcome_answer}
 use Rattle.promises.specs.Past.{Past, Epoch, Instance as OpenInstance, epoch_at, is_named, first_or, unformed}
 use Rattle.promises.specs.After.{after, acted, answered, is_actor, is_ender, close_answer, released, is_epoch}
 use Rattle.past_laws.specs.Agreement.{Agrees, instance_of}

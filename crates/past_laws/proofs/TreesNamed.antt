@@ -25,8 +25,8 @@ use Rattle.tree_model.specs.Histories.{history}
 use Rattle.tree_model.specs.State.{TreeState}
 use Rattle.tree_model.specs.State as state
 use Rattle.tree_model.specs.Tree.{tree_of}
-use Rattle.lawful_trace.specs.Lawful.{MayCome}
-use Rattle.lawful_trace.specs.Progress.{outcome_answer}
+use Rattle.promises.specs.of_lawful_trace.Lawful.{MayCome}
+use Rattle.promises.specs.of_lawful_trace.Progress.{outcome_answer}
 use Rattle.promises.specs.Past.{Past, Epoch, Instance as OpenInstance, epoch_at, is_named, is_writer, first_or, unformed}
 use Rattle.promises.specs.After.{after, change, opened_as, acted, answered, is_actor, is_ender, close_answer, released, has_now, with_making, is_home_of, is_epoch, once_named}
 use Rattle.promises.specs.Tree.{work_after}
@@ -48,7 +48,7 @@ use Rattle.past_laws.proofs.TreesLists.{filter_map}
 use Rattle.std.specs.Prelude.{◌-◌, take}
 use Rattle.std.specs.Option.{is_none}
 use Rattle.call_rules.specs.declared.answer.Answer.TheVariants.{Refused}
-use Rattle.lawful_trace.specs.Progress.{granted_answer}
+use Rattle.promises.specs.of_lawful_trace.Progress.{granted_answer}
 use Rattle.tree_model.specs.Given.{gives_grant}
 use Rattle.tree_model.specs.Opening.{is_placed, open_refusal}
 use Rattle.promises.specs.Past.{CallSoFar, kept_in}

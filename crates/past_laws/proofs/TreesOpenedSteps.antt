@@ -31,9 +31,9 @@ use Rattle.tree_model.specs.Lists.{change_first, without_first}
 use Rattle.tree_model.specs.State.{TreeState}
 use Rattle.tree_model.specs.State as state
 use Rattle.tree_model.specs.Tree.{tree_of, next, granted, grant_of, opened, acted as acted_in, once_acted, once_committed, has_now as has_in, released as released_in}
-use Rattle.lawful_trace.specs.Lawful.{MayCome}
-use Rattle.lawful_trace.specs.TreeRows.{granted_group, is_writing, MayCommit}
-use Rattle.lawful_trace.specs.Progress.{outcome_answer}
+use Rattle.promises.specs.of_lawful_trace.Lawful.{MayCome}
+use Rattle.promises.specs.of_lawful_trace.TreeRows.{granted_group, is_writing, MayCommit}
+use Rattle.promises.specs.of_lawful_trace.Progress.{outcome_answer}
 use Rattle.promises.specs.Past.{Past, Epoch, Instance as OpenInstance, epoch_at, is_named, is_writer, first_or, unformed}
 use Rattle.promises.specs.After.{after, change, opened_as, acted, answered, is_actor, is_ender, close_answer, released, has_now, with_making, is_home_of, is_epoch, change_epoch, once_named}
 use Rattle.promises.specs.Tree.{work_after}

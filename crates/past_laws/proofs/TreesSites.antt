@@ -14,7 +14,7 @@ use Rattle.tree_model.specs.Folds.{Trace}
 use Rattle.tree_model.specs.Histories.{history}
 use Rattle.tree_model.specs.State.{held_at}
 use Rattle.tree_model.specs.Tree.{next, tree_of}
-use Rattle.lawful_trace.specs.Lawful.{MayCome}
+use Rattle.promises.specs.of_lawful_trace.Lawful.{MayCome}
 use Rattle.promises.specs.Past.{Past, Site, Epoch, Copy, Left, CallSoFar, is_named, first_or, no_site, site_at, epoch_at, unformed, copies_in, held_in, stamp_in}
 use Rattle.promises.specs.Rows.{is_there}
 use Rattle.promises.specs.After.{change, change_epoch, departed, is_home_of, is_freed, is_id, is_epoch, is_ender, close_answer, replied_to, taken_by, after, has_now, held_again}

@@ -10,7 +10,7 @@ use Rattle.tree_model.specs.Folds.{Trace}
 use Rattle.tree_model.specs.Histories.{history}
 use Rattle.tree_model.specs.State.{TreeState}
 use Rattle.tree_model.specs.Tree.{tree_of, next}
-use Rattle.lawful_trace.specs.Lawful.{MayCome}
+use Rattle.promises.specs.of_lawful_trace.Lawful.{MayCome}
 use Rattle.promises.specs.Past.{Past, Epoch, is_number, epoch_at}
 use Rattle.promises.specs.After.{after}
 use Rattle.past_laws.specs.Agreement.{Agrees}

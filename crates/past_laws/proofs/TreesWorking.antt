@@ -17,8 +17,8 @@ use Rattle.tree_model.specs.State.{TreeState, kept_of, stamps_of, has_stamp}
 use Rattle.tree_model.specs.Working as old
 use Rattle.file_effects.specs.Effects.{Removes, Mends}
 use Rattle.file_effects.specs.Works.{commit_result, aborted}
-use Rattle.dir_reconcile.specs.declared.kept.KeptVector.{KeptVector}
-use Rattle.dir_reconcile.specs.Rescues.{rescued, rescue_wanted}
+use Rattle.tree_model.specs.of_dir_reconcile.declared.kept.KeptVector.{KeptVector}
+use Rattle.tree_model.specs.of_dir_reconcile.Rescues.{rescued, rescue_wanted}
 use Rattle.tree_model.specs.of_dir_format.Contents.{entries_of}
 use Rattle.tree_model.specs.of_dir_format.Grammar.{dir_bytes}
 use Rattle.tree_model.specs.Histories.{stamped_content}

@@ -23,9 +23,9 @@ use Rattle.tree_model.specs.Histories.{history, held as held_by}
 use Rattle.tree_model.specs.State.{held_at, is_group_of, is_grant_of}
 use Rattle.tree_model.specs.Tree.{tree_of}
 use Rattle.call_rules.specs.declared.want.Want.TheVariants.{Give}
-use Rattle.lawful_trace.specs.CallRows.{has_lost_mend, is_this}
-use Rattle.lawful_trace.specs.Progress.{answers, now_wants}
-use Rattle.lawful_trace.specs.Tables.{begun, descriptor, opened_as}
+use Rattle.promises.specs.of_lawful_trace.CallRows.{has_lost_mend, is_this}
+use Rattle.promises.specs.of_lawful_trace.Progress.{answers, now_wants}
+use Rattle.promises.specs.of_lawful_trace.Tables.{begun, descriptor, opened_as}
 use Rattle.promises.specs.Past.{Past, Site, Epoch, CallSoFar, Instance as OpenInstance, Make, Making, Copy, copies_in, is_named, site_at, epoch_at, making_of, is_number, held, held_in, table}
 use Rattle.tree_model.specs.Packs.{has_pack}
 use Rattle.promises.specs.After.{is_copy_below, is_epoch, is_id, after}

@@ -9,7 +9,7 @@ use Rattle.trace_book.specs.declared.record.Record.TheVariants as rec
 use Rattle.trace_book.specs.declared.reply.Reply.{Reply}
 use Rattle.trace_book.specs.declared.reply.Reply.TheVariants as reply
 use Rattle.tree_model.specs.Folds.{Trace}
-use Rattle.lawful_trace.specs.Lawful.{MayCome}
+use Rattle.promises.specs.of_lawful_trace.Lawful.{MayCome}
 use Rattle.past_laws.specs.Agreement.{speaks_of_sites, SaysGiven}
 use Rattle.past_laws.specs.Due.{SaysDue}
 

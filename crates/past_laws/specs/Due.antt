@@ -10,7 +10,7 @@ use Rattle.trace_book.specs.declared.record.Record.TheVariants as says
 use Rattle.trace_book.specs.declared.reply.Reply.TheVariants as reply
 use Rattle.tree_model.specs.Epochs.{last_joined}
 use Rattle.tree_model.specs.Folds.{Trace}
-use Rattle.lawful_trace.specs.Progress.{answers}
+use Rattle.promises.specs.of_lawful_trace.Progress.{answers}
 use Rattle.promises.specs.Past.{Last, Another}
 use Rattle.promises.specs.After.{last_by}
 

@@ -5,3 +5,4 @@ pub mod Standing
 pub mod Due
 pub mod Agreement
 pub mod Along
+pub use Rattle.promises.specs as of_promises

@@ -17,7 +17,7 @@ use Rattle.tree_model.specs.declared.accepted.Waiting.{Waiting}
 use Rattle.tree_model.specs.Calls.{call_named, waiting, is_of, granted_to, opening_of}
 use Rattle.tree_model.specs.Epochs.{boot_of, calls_accepted}
 use Rattle.tree_model.specs.Folds.{Trace}
-use Rattle.lawful_trace.specs.Tables.{descriptor, uses_of, use_number, close_of, has_named, is_call}
+use Rattle.promises.specs.of_lawful_trace.Tables.{descriptor, uses_of, use_number, close_of, has_named, is_call}
 use Rattle.promises.specs.Past.{Epoch, CallSoFar, Instance, is_on, is_close, is_named}
 
 -- Names of calls.

@@ -13,8 +13,8 @@ use Rattle.the_run.specs.Worlds.{Line}
 use Rattle.row_laws.specs.Shown.{trace_of}
 use Rattle.tree_laws.specs.Following.{IsFollowed, MayTell}
 use Rattle.tree_laws.specs.Printed.{entries, onto_entries}
-use Rattle.rest_laws.proofs.of_holding_laws.Holding.{stands_on_held}
-use Rattle.rest_laws.proofs.Shown.{shown_entries}
+use Rattle.whole_run_laws.proofs.of_rest_laws.of_holding_laws.Holding.{stands_on_held}
+use Rattle.whole_run_laws.proofs.of_rest_laws.Shown.{shown_entries}
 use Rattle.promise_laws.specs.Committing.{AbortsDropUncommitted, IsUncommitted}
 use Rattle.promise_laws.proofs.RunsHold.{schedule_followed}
 

@@ -23,7 +23,7 @@ use Rattle.row_laws.specs.Shown.{trace_of}
 use Rattle.pack_laws.specs.CounterNumbers.{commits_in, commits_recorded, commits_told}
 use Rattle.pack_laws.proofs.CounterText.{run_few}
 use Rattle.vector_laws.specs.Written.{past_of}
-use Rattle.rest_laws.proofs.Shown.{shown_entries}
+use Rattle.whole_run_laws.proofs.of_rest_laws.Shown.{shown_entries}
 use Rattle.promise_laws.specs.Acknowledged.{NewOnceAcknowledged, OnlyChangedRefuses, TellsStamp}
 use Rattle.promise_laws.specs.Acknowledging.{acknowledges}
 use Rattle.promise_laws.specs.Holding.{CommitsStayHeld}

@@ -58,9 +58,9 @@ use Rattle.tree_laws.specs.Printed.{entries, onto_entries}
 use Rattle.tree_laws.proofs.Names.{same_call_eq}
 use Rattle.tree_laws.proofs.Rows.{followed_rows}
 use Rattle.tree_laws.proofs.Scripts.{begun_stays, named_stays}
-use Rattle.rest_laws.proofs.of_holding_laws.Holding.{stands_on_held}
-use Rattle.rest_laws.proofs.of_holding_laws.Made.{held_stand}
-use Rattle.rest_laws.proofs.of_holding_laws.RoomOpenGranted.{GrantedSo, open_granted}
+use Rattle.whole_run_laws.proofs.of_rest_laws.of_holding_laws.Holding.{stands_on_held}
+use Rattle.whole_run_laws.proofs.of_rest_laws.of_holding_laws.Made.{held_stand}
+use Rattle.whole_run_laws.proofs.of_rest_laws.of_holding_laws.RoomOpenGranted.{GrantedSo, open_granted}
 use Rattle.promise_laws.proofs.CommitScripts.{AsksOf, no_open, script_of}
 use Rattle.promise_laws.specs.Acknowledging.{IsGrantedOn, acknowledges}
 

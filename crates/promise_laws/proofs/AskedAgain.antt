@@ -28,14 +28,14 @@ use Rattle.tree_laws.specs.Following.{IsFollowed}
 use Rattle.tree_laws.specs.Holding.{has_instances}
 use Rattle.tree_laws.specs.Instances.{instance_now}
 use Rattle.tree_laws.specs.Printed.{entries}
-use Rattle.rest_laws.proofs.of_one_tree_laws.of_order_laws.ProcessBegun.{comes_from}
-use Rattle.rest_laws.proofs.of_one_tree_laws.of_order_laws.ProcessGranting.{GrantIs, granted_is}
-use Rattle.rest_laws.proofs.of_one_tree_laws.RemovePlaced.{GrantedSo, Placed, granted_placed}
-use Rattle.rest_laws.proofs.of_store_laws.Places.{open_is}
-use Rattle.rest_laws.proofs.of_store_laws.ScriptFitted.{began_right}
-use Rattle.rest_laws.proofs.of_store_laws.ScriptLasting.{OpensSo}
-use Rattle.rest_laws.proofs.of_store_laws.ScriptNaming.{Rereads, rereads_so, script_by}
-use Rattle.rest_laws.proofs.of_store_laws.ScriptReopening.{read_so}
+use Rattle.whole_run_laws.proofs.of_rest_laws.of_one_tree_laws.of_order_laws.ProcessBegun.{comes_from}
+use Rattle.whole_run_laws.proofs.of_rest_laws.of_one_tree_laws.of_order_laws.ProcessGranting.{GrantIs, granted_is}
+use Rattle.whole_run_laws.proofs.of_rest_laws.of_one_tree_laws.RemovePlaced.{GrantedSo, Placed, granted_placed}
+use Rattle.whole_run_laws.proofs.of_rest_laws.of_store_laws.Places.{open_is}
+use Rattle.whole_run_laws.proofs.of_rest_laws.of_store_laws.ScriptFitted.{began_right}
+use Rattle.whole_run_laws.proofs.of_rest_laws.of_store_laws.ScriptLasting.{OpensSo}
+use Rattle.whole_run_laws.proofs.of_rest_laws.of_store_laws.ScriptNaming.{Rereads, rereads_so, script_by}
+use Rattle.whole_run_laws.proofs.of_rest_laws.of_store_laws.ScriptReopening.{read_so}
 
 -- what is opened to be read is granted so
 reads_mode : (m : Mode) (f : FileId) (w : Want) → is_open_of m f w ≡ true → OpensSo how.Read w → is_read m ≡ true

@@ -38,18 +38,18 @@ use Rattle.tree_laws.specs.Holding.{has_instances}
 use Rattle.tree_laws.proofs.Grants.{open_named}
 use Rattle.tree_laws.proofs.Hearing.{asks_next}
 use Rattle.tree_laws.proofs.Names.{same_serial_eq}
-use Rattle.rest_laws.specs.of_one_tree_laws.Rest.{Past}
-use Rattle.rest_laws.specs.of_store_laws.Rests.{StoreRests}
-use Rattle.rest_laws.proofs.of_store_laws.AnswerDone.{done_named}
-use Rattle.rest_laws.proofs.of_store_laws.Closes.{found_instance}
-use Rattle.rest_laws.proofs.of_store_laws.Commits.{file_own}
-use Rattle.rest_laws.proofs.of_holding_laws.Released.{released_named}
-use Rattle.rest_laws.proofs.of_store_laws.Runs.{found_in}
-use Rattle.rest_laws.proofs.of_store_laws.Tabled.{row_among}
-use Rattle.rest_laws.proofs.of_store_laws.AnswerAskers.{close_had, op_had}
-use Rattle.rest_laws.proofs.StoreStepNamed.{named_low, released_low}
-use Rattle.rest_laws.proofs.StoreStepResting.{op_rests, store_rests}
-use Rattle.rest_laws.proofs.StoreStepWriting.{may_write}
+use Rattle.whole_run_laws.specs.of_rest_laws.of_one_tree_laws.Rest.{Past}
+use Rattle.whole_run_laws.specs.of_rest_laws.of_store_laws.Rests.{StoreRests}
+use Rattle.whole_run_laws.proofs.of_rest_laws.of_store_laws.AnswerDone.{done_named}
+use Rattle.whole_run_laws.proofs.of_rest_laws.of_store_laws.Closes.{found_instance}
+use Rattle.whole_run_laws.proofs.of_rest_laws.of_store_laws.Commits.{file_own}
+use Rattle.whole_run_laws.proofs.of_rest_laws.of_holding_laws.Released.{released_named}
+use Rattle.whole_run_laws.proofs.of_rest_laws.of_store_laws.Runs.{found_in}
+use Rattle.whole_run_laws.proofs.of_rest_laws.of_store_laws.Tabled.{row_among}
+use Rattle.whole_run_laws.proofs.of_rest_laws.of_store_laws.AnswerAskers.{close_had, op_had}
+use Rattle.whole_run_laws.proofs.of_rest_laws.StoreStepNamed.{named_low, released_low}
+use Rattle.whole_run_laws.proofs.of_rest_laws.StoreStepResting.{op_rests, store_rests}
+use Rattle.whole_run_laws.proofs.of_rest_laws.StoreStepWriting.{may_write}
 use Rattle.promise_laws.specs.Committing.{IsCommitAsked, commits}
 use Rattle.promise_laws.proofs.AskedKinds.{asked_kind, OpensAgain}
 use Rattle.promise_laws.proofs.Wrote.{Wrote, WroteBy}

@@ -34,16 +34,16 @@ use Rattle.tree_laws.specs.Following.{MayTell}
 use Rattle.tree_laws.specs.Printed.{entries, onto_entries}
 use Rattle.vector_laws.specs.Held.{Still, StillRecord}
 use Rattle.whole_run_laws.proofs.CutShaped.{DiskFirst, step_writes_first}
-use Rattle.rest_laws.specs.of_one_tree_laws.Places.{WorldFact}
-use Rattle.rest_laws.specs.of_one_tree_laws.Rest.{IsRest, RestTold, Past}
-use Rattle.rest_laws.specs.of_one_tree_laws.Roles.{EventFact, RolesDo}
-use Rattle.rest_laws.proofs.of_one_tree_laws.Composing.{rest_before, rest_told}
-use Rattle.rest_laws.proofs.of_one_tree_laws.Cuts.{step_writes}
-use Rattle.rest_laws.proofs.of_one_tree_laws.Run.{kept, first_holds, event_fact, sent_fact}
-use Rattle.rest_laws.proofs.of_one_tree_laws.Staying.{stays}
-use Rattle.rest_laws.proofs.of_one_tree_laws.Worlds.{Holds}
-use Rattle.rest_laws.proofs.Roles.{roles_do}
-use Rattle.rest_laws.proofs.Shown.{shown_entries}
+use Rattle.whole_run_laws.specs.of_rest_laws.of_one_tree_laws.Places.{WorldFact}
+use Rattle.whole_run_laws.specs.of_rest_laws.of_one_tree_laws.Rest.{IsRest, RestTold, Past}
+use Rattle.whole_run_laws.specs.of_rest_laws.of_one_tree_laws.Roles.{EventFact, RolesDo}
+use Rattle.whole_run_laws.proofs.of_rest_laws.of_one_tree_laws.Composing.{rest_before, rest_told}
+use Rattle.whole_run_laws.proofs.of_rest_laws.of_one_tree_laws.Cuts.{step_writes}
+use Rattle.whole_run_laws.proofs.of_rest_laws.of_one_tree_laws.Run.{kept, first_holds, event_fact, sent_fact}
+use Rattle.whole_run_laws.proofs.of_rest_laws.of_one_tree_laws.Staying.{stays}
+use Rattle.whole_run_laws.proofs.of_rest_laws.of_one_tree_laws.Worlds.{Holds}
+use Rattle.whole_run_laws.proofs.of_rest_laws.Roles.{roles_do}
+use Rattle.whole_run_laws.proofs.of_rest_laws.Shown.{shown_entries}
 use Rattle.promise_laws.specs.Committing.{CommitsAreAsked, CommitsAsAsked, IsAskedFor}
 use Rattle.promise_laws.proofs.Asking.{HasAsked}
 use Rattle.promise_laws.proofs.RunsHold.{few_groups, schedule_rests}

@@ -31,7 +31,7 @@ use Rattle.tree_steps.proofs.Spent.{never_spent}
 use Rattle.row_laws.specs.Shown.{trace_of}
 use Rattle.tree_laws.specs.Following.{IsFollowed, MayTell}
 use Rattle.tree_laws.specs.Printed.{entries, onto_entries}
-use Rattle.rest_laws.proofs.Shown.{shown_entries}
+use Rattle.whole_run_laws.proofs.of_rest_laws.Shown.{shown_entries}
 use Rattle.promise_laws.specs.Granting.{CommitsAreNotRefused, IsNotRefused}
 use Rattle.promise_laws.proofs.AcknowledgedRuns.{schedule_short}
 use Rattle.promise_laws.proofs.Answered.{IsShort, shorter}

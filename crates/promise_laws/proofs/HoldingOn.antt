@@ -23,14 +23,14 @@ use Rattle.tree_laws.specs.Following.{IsFollowed, MayTell}
 use Rattle.tree_laws.specs.Instances.{HasAtLeast}
 use Rattle.tree_laws.specs.Printed.{entries, onto_entries}
 use Rattle.tree_laws.proofs.Rows.{followed_rows}
-use Rattle.rest_laws.specs.of_holding_laws.Below.{LawsBelow}
-use Rattle.rest_laws.specs.of_holding_laws.Held.{SitesHold}
-use Rattle.rest_laws.proofs.of_holding_laws.Ancestors.{ancestor_before, ancestor_newest}
-use Rattle.rest_laws.proofs.of_holding_laws.Below.{commits_new, laws_before, packs_hold}
-use Rattle.rest_laws.proofs.of_holding_laws.Holding.{sites_hold}
-use Rattle.rest_laws.proofs.of_holding_laws.Made.{held_stand}
-use Rattle.rest_laws.proofs.of_holding_laws.Rising.{held_rises}
-use Rattle.rest_laws.proofs.of_store_laws.Commits.{file_own}
+use Rattle.whole_run_laws.specs.of_rest_laws.of_holding_laws.Below.{LawsBelow}
+use Rattle.whole_run_laws.specs.of_rest_laws.of_holding_laws.Held.{SitesHold}
+use Rattle.whole_run_laws.proofs.of_rest_laws.of_holding_laws.Ancestors.{ancestor_before, ancestor_newest}
+use Rattle.whole_run_laws.proofs.of_rest_laws.of_holding_laws.Below.{commits_new, laws_before, packs_hold}
+use Rattle.whole_run_laws.proofs.of_rest_laws.of_holding_laws.Holding.{sites_hold}
+use Rattle.whole_run_laws.proofs.of_rest_laws.of_holding_laws.Made.{held_stand}
+use Rattle.whole_run_laws.proofs.of_rest_laws.of_holding_laws.Rising.{held_rises}
+use Rattle.whole_run_laws.proofs.of_rest_laws.of_store_laws.Commits.{file_own}
 use Rattle.promise_laws.specs.Holding.{CommitsAreHeld, CommitsStayHeld}
 
 -- a version that stands, besides

@@ -29,12 +29,12 @@ use Rattle.bound_laws.proofs.RunsAsk.{requests_kept, requests_first}
 use Rattle.bound_laws.proofs.RunsSend.{delivery_one, looks_kept, looks_first}
 use Rattle.tree_laws.specs.Printed.{entries}
 use Rattle.tree_laws.specs.Stores.{copy_for}
-use Rattle.rest_laws.specs.of_one_tree_laws.Places.{PlaceFact, SiteIn, WorldFact}
-use Rattle.rest_laws.specs.of_one_tree_laws.Rest.{EachRest, IsRest}
-use Rattle.rest_laws.proofs.of_one_tree_laws.Worlds.{Holds}
-use Rattle.rest_laws.proofs.Packs.{schedule_packs}
-use Rattle.rest_laws.proofs.Roles.{roles_do}
-use Rattle.rest_laws.proofs.Shown.{shown_entries}
+use Rattle.whole_run_laws.specs.of_rest_laws.of_one_tree_laws.Places.{PlaceFact, SiteIn, WorldFact}
+use Rattle.whole_run_laws.specs.of_rest_laws.of_one_tree_laws.Rest.{EachRest, IsRest}
+use Rattle.whole_run_laws.proofs.of_rest_laws.of_one_tree_laws.Worlds.{Holds}
+use Rattle.whole_run_laws.proofs.of_rest_laws.Packs.{schedule_packs}
+use Rattle.whole_run_laws.proofs.of_rest_laws.Roles.{roles_do}
+use Rattle.whole_run_laws.proofs.of_rest_laws.Shown.{shown_entries}
 use Rattle.convergence_laws.proofs.of_calm_laws.Facts.{RoundFacts, round_facts}
 use Rattle.convergence_laws.proofs.of_calm_laws.Moments.{GoesOn, goes_itself, goes_round_kept}
 use Rattle.convergence_laws.proofs.TraceTicked.{ticks_then, rest_earlier, holds_round}

@@ -7,13 +7,13 @@ use Rattle.the_run.specs.Runs.{run}
 use Rattle.row_laws.specs.Shown.{trace_of}
 use Rattle.row_laws.proofs.Fitting.{schedule_fits}
 use Rattle.tree_laws.specs.Following.{IsFollowed}
-use Rattle.rest_laws.specs.of_one_tree_laws.Rest.{IsRest, Past}
-use Rattle.rest_laws.proofs.of_one_tree_laws.Staying.{rest_below}
-use Rattle.rest_laws.proofs.Packs.{schedule_packs}
-use Rattle.rest_laws.proofs.Resting.{run_low, run_rests}
-use Rattle.rest_laws.proofs.Run.{run_followed}
-use Rattle.rest_laws.proofs.Shown.{shown_entries}
-use Rattle.rest_laws.proofs.StoreStepFirst.{four_groups}
+use Rattle.whole_run_laws.specs.of_rest_laws.of_one_tree_laws.Rest.{IsRest, Past}
+use Rattle.whole_run_laws.proofs.of_rest_laws.of_one_tree_laws.Staying.{rest_below}
+use Rattle.whole_run_laws.proofs.of_rest_laws.Packs.{schedule_packs}
+use Rattle.whole_run_laws.proofs.of_rest_laws.Resting.{run_low, run_rests}
+use Rattle.whole_run_laws.proofs.of_rest_laws.Run.{run_followed}
+use Rattle.whole_run_laws.proofs.of_rest_laws.Shown.{shown_entries}
+use Rattle.whole_run_laws.proofs.of_rest_laws.StoreStepFirst.{four_groups}
 use Rattle.promise_laws.specs.Holding.{CommitsStayHeld}
 use Rattle.promise_laws.proofs.HoldingOn.{stay_held}
 

@@ -32,15 +32,15 @@ use Rattle.orderly_laws.proofs.CalmRounds.{rounds_stay_calm}
 use Rattle.tree_laws.specs.Following.{RowsAreLawful}
 use Rattle.tree_laws.specs.Printed.{entries}
 use Rattle.tree_laws.proofs.Rows.{followed_rows}
-use Rattle.rest_laws.specs.of_one_tree_laws.Places.{InsideFact, SiteIn, WorldFact}
-use Rattle.rest_laws.specs.of_one_tree_laws.Rest.{IsRest}
-use Rattle.rest_laws.proofs.of_one_tree_laws.Run.{run_holds}
-use Rattle.rest_laws.proofs.of_one_tree_laws.Staying.{stays}
-use Rattle.rest_laws.proofs.Packs.{schedule_packs}
-use Rattle.rest_laws.proofs.Resting.{run_low, run_rests}
-use Rattle.rest_laws.proofs.Roles.{roles_do}
-use Rattle.rest_laws.proofs.Shown.{shown_entries}
-use Rattle.rest_laws.proofs.StoreStepResting.{op_rests}
+use Rattle.whole_run_laws.specs.of_rest_laws.of_one_tree_laws.Places.{InsideFact, SiteIn, WorldFact}
+use Rattle.whole_run_laws.specs.of_rest_laws.of_one_tree_laws.Rest.{IsRest}
+use Rattle.whole_run_laws.proofs.of_rest_laws.of_one_tree_laws.Run.{run_holds}
+use Rattle.whole_run_laws.proofs.of_rest_laws.of_one_tree_laws.Staying.{stays}
+use Rattle.whole_run_laws.proofs.of_rest_laws.Packs.{schedule_packs}
+use Rattle.whole_run_laws.proofs.of_rest_laws.Resting.{run_low, run_rests}
+use Rattle.whole_run_laws.proofs.of_rest_laws.Roles.{roles_do}
+use Rattle.whole_run_laws.proofs.of_rest_laws.Shown.{shown_entries}
+use Rattle.whole_run_laws.proofs.of_rest_laws.StoreStepResting.{op_rests}
 use Rattle.convergence_laws.specs.of_calm_laws.Carrying.{IsMember}
 use Rattle.convergence_laws.specs.of_calm_laws.of_orderly_traces.Fits.{FitsCluster}
 use Rattle.convergence_laws.proofs.of_calm_laws.Limits.{take_fit}

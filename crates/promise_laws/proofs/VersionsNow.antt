@@ -18,17 +18,17 @@ use Rattle.row_laws.specs.Shown.{trace_of}
 use Rattle.tree_laws.specs.Following.{IsFollowed, RowsAreLawful}
 use Rattle.tree_laws.specs.Printed.{entries, onto_entries}
 use Rattle.tree_laws.proofs.Rows.{followed_rows}
-use Rattle.rest_laws.specs.of_holding_laws.Below.{LawsBelow}
-use Rattle.rest_laws.specs.of_holding_laws.Held.{IsBelowKept}
-use Rattle.rest_laws.specs.of_holding_laws.Order.{AncestorsAreAnOrder}
-use Rattle.rest_laws.proofs.of_holding_laws.Ancestors.{ancestors_ordered}
-use Rattle.rest_laws.proofs.of_holding_laws.Below.{commits_new, laws_before}
-use Rattle.rest_laws.proofs.of_holding_laws.Holding.{below_kept}
-use Rattle.rest_laws.proofs.of_holding_laws.Made.{rows_made}
-use Rattle.rest_laws.proofs.of_holding_laws.Rising.{known_stands}
-use Rattle.rest_laws.proofs.of_one_tree_laws.Staying.{rest_below}
-use Rattle.rest_laws.proofs.MendStepLists.{has_filtered}
-use Rattle.rest_laws.proofs.Shown.{shown_entries}
+use Rattle.whole_run_laws.specs.of_rest_laws.of_holding_laws.Below.{LawsBelow}
+use Rattle.whole_run_laws.specs.of_rest_laws.of_holding_laws.Held.{IsBelowKept}
+use Rattle.whole_run_laws.specs.of_rest_laws.of_holding_laws.Order.{AncestorsAreAnOrder}
+use Rattle.whole_run_laws.proofs.of_rest_laws.of_holding_laws.Ancestors.{ancestors_ordered}
+use Rattle.whole_run_laws.proofs.of_rest_laws.of_holding_laws.Below.{commits_new, laws_before}
+use Rattle.whole_run_laws.proofs.of_rest_laws.of_holding_laws.Holding.{below_kept}
+use Rattle.whole_run_laws.proofs.of_rest_laws.of_holding_laws.Made.{rows_made}
+use Rattle.whole_run_laws.proofs.of_rest_laws.of_holding_laws.Rising.{known_stands}
+use Rattle.whole_run_laws.proofs.of_rest_laws.of_one_tree_laws.Staying.{rest_below}
+use Rattle.whole_run_laws.proofs.of_rest_laws.MendStepLists.{has_filtered}
+use Rattle.whole_run_laws.proofs.of_rest_laws.Shown.{shown_entries}
 use Rattle.promise_laws.specs.Moments.{IsUnderKept, VersionsHold, VersionsHoldThroughout}
 use Rattle.promise_laws.proofs.HoldingOn.{commits_held}
 use Rattle.promise_laws.proofs.RunsHold.{schedule_followed, schedule_rests}

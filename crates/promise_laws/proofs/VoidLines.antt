@@ -36,7 +36,7 @@ use Rattle.row_laws.proofs.Fitting.{schedule_fits}
 use Rattle.row_laws.proofs.StepForms.{step_forms}
 use Rattle.row_laws.proofs.Voids.{run_voids}
 use Rattle.orderly_laws.proofs.Rounds.{happened_cases}
-use Rattle.rest_laws.proofs.of_store_laws.Tabled.{row_among}
+use Rattle.whole_run_laws.proofs.of_rest_laws.of_store_laws.Tabled.{row_among}
 use Rattle.convergence_laws.proofs.of_calm_laws.of_orderly_traces.Spans.{world, next_world, before_at, take_length}
 use Rattle.promise_laws.proofs.LineTells.{Fails, NoneTold, happened_none, none_before, none_first, none_later}
 use Rattle.promise_laws.specs.Voiding.{ChangesNothing, VoidLinesChangeNothing, tells_void}

@@ -31,13 +31,13 @@ use Rattle.tree_model.specs.Folds.{Trace}
 use Rattle.tree_laws.specs.Doing.{IsReceived}
 use Rattle.tree_laws.specs.Packets.{CloseFact, OpFact, PacketFact, BodyFact}
 use Rattle.tree_laws.specs.Printed.{entries}
-use Rattle.rest_laws.specs.of_one_tree_laws.Places.{InsideFact, SiteFact, SiteIn}
-use Rattle.rest_laws.specs.of_one_tree_laws.Rest.{Past}
-use Rattle.rest_laws.specs.of_one_tree_laws.Roles.{EventFact, Ready}
-use Rattle.rest_laws.proofs.of_one_tree_laws.Cuts.{leaves_none, begins_none, part_none, poll_none, promise_none, refuse_none, install_none}
-use Rattle.rest_laws.proofs.of_one_tree_laws.Steps.{to_boot}
-use Rattle.rest_laws.proofs.of_one_tree_laws.Taken.{taken_boot, taken_epoch}
-use Rattle.rest_laws.proofs.of_vector_laws.SiteDisks.{ends_keeps}
+use Rattle.whole_run_laws.specs.of_rest_laws.of_one_tree_laws.Places.{InsideFact, SiteFact, SiteIn}
+use Rattle.whole_run_laws.specs.of_rest_laws.of_one_tree_laws.Rest.{Past}
+use Rattle.whole_run_laws.specs.of_rest_laws.of_one_tree_laws.Roles.{EventFact, Ready}
+use Rattle.whole_run_laws.proofs.of_rest_laws.of_one_tree_laws.Cuts.{leaves_none, begins_none, part_none, poll_none, promise_none, refuse_none, install_none}
+use Rattle.whole_run_laws.proofs.of_rest_laws.of_one_tree_laws.Steps.{to_boot}
+use Rattle.whole_run_laws.proofs.of_rest_laws.of_one_tree_laws.Taken.{taken_boot, taken_epoch}
+use Rattle.whole_run_laws.proofs.of_rest_laws.of_vector_laws.SiteDisks.{ends_keeps}
 use Rattle.promise_laws.proofs.Asking.{HasAsked, op_asked, close_asked}
 use Rattle.promise_laws.proofs.Wrote.{Wrote, WroteBy, op_wrote, close_wrote}
 

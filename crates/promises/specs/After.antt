@@ -27,20 +27,20 @@ use Rattle.trace_book.specs.declared.operation.Served.{Served}
 use Rattle.trace_book.specs.declared.operation.Served.TheVariants as served
 use Rattle.trace_book.specs.declared.reply.Reply.{Reply}
 use Rattle.trace_book.specs.declared.reply.Reply.TheVariants as reply
-use Rattle.file_effects.specs.Works.{begun, committed}
-use Rattle.call_rules.specs.declared.answer.Answer.{Answer}
-use Rattle.call_rules.specs.declared.answer.Answer.TheVariants.{Refused, Ended}
-use Rattle.call_rules.specs.Descriptors.{beginning, lowest_free}
-use Rattle.call_rules.specs.Opening.{is_steady}
-use Rattle.tree_model.specs.declared.instance.Granted.{Granted}
-use Rattle.tree_model.specs.Calls.{version_at}
-use Rattle.tree_model.specs.Epochs.{is_in}
-use Rattle.tree_model.specs.Files.{kind_made}
-use Rattle.tree_model.specs.Opening.{sites_made}
-use Rattle.tree_model.specs.Packs.{packs_of}
-use Rattle.tree_model.specs.State.{is_make}
-use Rattle.tree_model.specs.Histories.{stamped_content}
-use Rattle.tree_model.specs.Working.{list_of}
+use Rattle.lawful_trace.specs.of_file_effects.Works.{begun, committed}
+use Rattle.lawful_trace.specs.of_call_rules.declared.answer.Answer.{Answer}
+use Rattle.lawful_trace.specs.of_call_rules.declared.answer.Answer.TheVariants.{Refused, Ended}
+use Rattle.lawful_trace.specs.of_call_rules.Descriptors.{beginning, lowest_free}
+use Rattle.lawful_trace.specs.of_call_rules.Opening.{is_steady}
+use Rattle.lawful_trace.specs.of_tree_model.declared.instance.Granted.{Granted}
+use Rattle.lawful_trace.specs.of_tree_model.Calls.{version_at}
+use Rattle.lawful_trace.specs.of_tree_model.Epochs.{is_in}
+use Rattle.lawful_trace.specs.of_tree_model.Files.{kind_made}
+use Rattle.lawful_trace.specs.of_tree_model.Opening.{sites_made}
+use Rattle.lawful_trace.specs.of_tree_model.Packs.{packs_of}
+use Rattle.lawful_trace.specs.of_tree_model.State.{is_make}
+use Rattle.lawful_trace.specs.of_tree_model.Histories.{stamped_content}
+use Rattle.lawful_trace.specs.of_tree_model.Working.{list_of}
 use Rattle.lawful_trace.specs.Progress.{found_in, granted_answer, outcome_answer}
 use Rattle.lawful_trace.specs.CallRows.{ends_mending}
 use Rattle.promises.specs.Past.{Past, Site, Epoch, Instance, CallSoFar, Copy, Named, Make, Making, Last, Leaving, Accepting, Another, site_at, epoch_at, unformed, making_of, kept_in, is_named, is_writer, is_close, is_on, acts, ends, table}

@@ -9,13 +9,13 @@ use Rattle.trace_book.specs.declared.call.Call.{Call}
 use Rattle.trace_book.specs.declared.call.Call.TheVariants as call
 use Rattle.trace_book.specs.declared.operation.Op.TheVariants as op
 use Rattle.trace_book.specs.declared.reply.Reply.TheVariants as reply
-use Rattle.call_rules.specs.declared.answer.Answer.{Answer}
-use Rattle.call_rules.specs.declared.answer.Answer.TheVariants as answer
-use Rattle.call_rules.specs.declared.want.Want.TheVariants as want
+use Rattle.lawful_trace.specs.of_call_rules.declared.answer.Answer.{Answer}
+use Rattle.lawful_trace.specs.of_call_rules.declared.answer.Answer.TheVariants as answer
+use Rattle.lawful_trace.specs.of_call_rules.declared.want.Want.TheVariants as want
 use Rattle.promises.specs.Past.{Past, Epoch, Instance, CallSoFar, is_writer, asks}
 use Rattle.promises.specs.After.{is_home_of, is_id, told_by}
 use Rattle.promises.specs.Rows.{is_asked, is_home}
-use Rattle.call_rules.specs.Scripts.{gives_reply}
+use Rattle.lawful_trace.specs.of_call_rules.Scripts.{gives_reply}
 
 -- some call of the epoch asks next that the instance be committed or closed
 abbrev pub is_commit_asked : Config → Past → Epoch → Instance → Bool

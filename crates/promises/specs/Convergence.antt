@@ -11,18 +11,18 @@ use Rattle.file_content.specs.Pages.{pages_of}
 use Rattle.schedule_lines.specs.Cluster.{config_of}
 use Rattle.schedule_lines.specs.declared.line.ScheduleLine.{ScheduleLine}
 use Rattle.schedule_lines.specs.declared.line.ScheduleLine.TheVariants.{Passed}
-use Rattle.tree_model.specs.Files.{set_of_file, kind_of_file}
-use Rattle.tree_model.specs.Folds.{Trace}
-use Rattle.tree_model.specs.Histories.{history, held}
-use Rattle.tree_model.specs.Packs.{has_pack, is_member, sync_site}
-use Rattle.tree_model.specs.State.{openers}
-use Rattle.tree_model.specs.Tree.{tree_of, kept_in}
-use Rattle.tree_model.specs.Working.{free_pages, are_several}
+use Rattle.lawful_trace.specs.of_tree_model.Files.{set_of_file, kind_of_file}
+use Rattle.lawful_trace.specs.of_tree_model.Folds.{Trace}
+use Rattle.lawful_trace.specs.of_tree_model.Histories.{history, held}
+use Rattle.lawful_trace.specs.of_tree_model.Packs.{has_pack, is_member, sync_site}
+use Rattle.lawful_trace.specs.of_tree_model.State.{openers}
+use Rattle.lawful_trace.specs.of_tree_model.Tree.{tree_of, kept_in}
+use Rattle.lawful_trace.specs.of_tree_model.Working.{free_pages, are_several}
 use Rattle.lawful_trace.specs.Calm.{IsMoment, IsCalmRound}
 use Rattle.lawful_trace.specs.Places.{line_at, through_line}
 use Rattle.std.specs.Option.{is_some}
 use Rattle.locus_ids.specs.declared.ids.Kind.TheVariants.{Dir}
-use Rattle.tree_model.specs.Mending.{wants_rescue_in}
+use Rattle.lawful_trace.specs.of_tree_model.Mending.{wants_rescue_in}
 use Rattle.lawful_trace.specs.CallRows.{has_lost_mend}
 
 -- at no moment of the line, its start and end among them, has anybody the file open in the epoch

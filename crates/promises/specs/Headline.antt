@@ -21,8 +21,8 @@ use Rattle.trace_book.specs.declared.operation.What.TheVariants as what
 use Rattle.trace_book.specs.declared.operation.Served.TheVariants as served
 use Rattle.schedule_lines.specs.declared.line.ScheduleLine.{ScheduleLine}
 use Rattle.schedule_lines.specs.Cluster.{config_of}
-use Rattle.tree_model.specs.declared.instance.Granted.{Granted}
-use Rattle.tree_model.specs.Working.{list_of}
+use Rattle.lawful_trace.specs.of_tree_model.declared.instance.Granted.{Granted}
+use Rattle.lawful_trace.specs.of_tree_model.Working.{list_of}
 use Rattle.promises.specs.Past.{Past, Site, Epoch, CallSoFar, Copy, nothing_yet, site_at, epoch_at, candidates, kept_in, is_on}
 use Rattle.promises.specs.After.{after, is_id}
 use Rattle.promises.specs.Same.{same_list}

@@ -10,3 +10,4 @@ pub mod Headline
 pub mod Beside
 pub mod Progress
 pub mod Convergence
+pub use Rattle.lawful_trace.specs as of_lawful_trace

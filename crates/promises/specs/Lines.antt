@@ -13,7 +13,7 @@ use Rattle.trace_book.specs.declared.call.Call.TheVariants as call
 use Rattle.schedule_lines.specs.declared.line.Line.TheVariants as line
 use Rattle.schedule_lines.specs.declared.line.ScheduleLine.{ScheduleLine}
 use Rattle.schedule_lines.specs.declared.line.ScheduleLine.TheVariants.{Event}
-use Rattle.tree_model.specs.Packs.{all_sites}
+use Rattle.lawful_trace.specs.of_tree_model.Packs.{all_sites}
 use Rattle.lawful_trace.specs.Places.{line_at, is_cut}
 use Rattle.lawful_trace.specs.SiteRows.{makes_leave}
 use Rattle.lawful_trace.specs.LineRows.{is_void, tale, must_tell}

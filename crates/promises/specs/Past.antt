@@ -23,15 +23,15 @@ use Rattle.trace_book.specs.declared.call.Call.TheVariants as call
 use Rattle.trace_book.specs.declared.descriptor.Descriptor.{Descriptor}
 use Rattle.trace_book.specs.declared.descriptor.Beginning.{Beginning}
 use Rattle.trace_book.specs.declared.descriptor.Beginning.TheVariants as begins
-use Rattle.file_effects.specs.declared.work.Work.{Work}
-use Rattle.call_rules.specs.declared.answer.Answer.{Answer}
-use Rattle.call_rules.specs.declared.want.Want.{Want}
-use Rattle.call_rules.specs.Scripts.{wants}
-use Rattle.call_rules.specs.Walks.{root_of}
-use Rattle.tree_model.specs.declared.instance.Granted.{Granted}
-use Rattle.tree_model.specs.Epochs.{is_in}
-use Rattle.tree_model.specs.Histories.{format_version, format_stamp}
-use Rattle.tree_model.specs.Packs.{has_pack, packs_of, is_member, all_sites, no_sites}
+use Rattle.lawful_trace.specs.of_file_effects.declared.work.Work.{Work}
+use Rattle.lawful_trace.specs.of_call_rules.declared.answer.Answer.{Answer}
+use Rattle.lawful_trace.specs.of_call_rules.declared.want.Want.{Want}
+use Rattle.lawful_trace.specs.of_call_rules.Scripts.{wants}
+use Rattle.lawful_trace.specs.of_call_rules.Walks.{root_of}
+use Rattle.lawful_trace.specs.of_tree_model.declared.instance.Granted.{Granted}
+use Rattle.lawful_trace.specs.of_tree_model.Epochs.{is_in}
+use Rattle.lawful_trace.specs.of_tree_model.Histories.{format_version, format_stamp}
+use Rattle.lawful_trace.specs.of_tree_model.Packs.{has_pack, packs_of, is_member, all_sites, no_sites}
 
 -- The value.
 

@@ -4,7 +4,7 @@ use Rattle.std.specs.List.{list_any}
 use Rattle.schedule_lines.specs.declared.line.Line.TheVariants as line
 use Rattle.schedule_lines.specs.declared.line.ScheduleLine.{ScheduleLine}
 use Rattle.schedule_lines.specs.declared.line.ScheduleLine.TheVariants.{Event}
-use Rattle.tree_model.specs.Folds.{Trace}
+use Rattle.lawful_trace.specs.of_tree_model.Folds.{Trace}
 use Rattle.lawful_trace.specs.Calm.{CalmRoundsAnswer, tells_budget}
 use Rattle.lawful_trace.specs.Orderly.{LeavesAreOwn, OrderlyBlocksForm}
 use Rattle.lawful_trace.specs.Places.{line_at}

@@ -33,15 +33,15 @@ use Rattle.trace_book.specs.declared.operation.What.{What}
 use Rattle.trace_book.specs.declared.operation.Served.{Served}
 use Rattle.trace_book.specs.declared.reply.Reply.{Reply}
 use Rattle.trace_book.specs.declared.reply.Reply.TheVariants as reply
-use Rattle.call_rules.specs.declared.want.Want.{Want}
-use Rattle.call_rules.specs.declared.want.Want.TheVariants as want
-use Rattle.tree_model.specs.declared.instance.Granted.{Granted}
-use Rattle.tree_model.specs.Epochs.{is_in, is_epoch_below}
-use Rattle.tree_model.specs.Given.{served_by}
-use Rattle.tree_model.specs.Packs.{boot_in}
-use Rattle.tree_model.specs.Same.{same_kind, same_refusal, same_brought, is_given, is_served, same_version}
-use Rattle.tree_model.specs.State.{is_make, has_stamp}
-use Rattle.tree_model.specs.Working.{are_several, list_of}
+use Rattle.lawful_trace.specs.of_call_rules.declared.want.Want.{Want}
+use Rattle.lawful_trace.specs.of_call_rules.declared.want.Want.TheVariants as want
+use Rattle.lawful_trace.specs.of_tree_model.declared.instance.Granted.{Granted}
+use Rattle.lawful_trace.specs.of_tree_model.Epochs.{is_in, is_epoch_below}
+use Rattle.lawful_trace.specs.of_tree_model.Given.{served_by}
+use Rattle.lawful_trace.specs.of_tree_model.Packs.{boot_in}
+use Rattle.lawful_trace.specs.of_tree_model.Same.{same_kind, same_refusal, same_brought, is_given, is_served, same_version}
+use Rattle.lawful_trace.specs.of_tree_model.State.{is_make, has_stamp}
+use Rattle.lawful_trace.specs.of_tree_model.Working.{are_several, list_of}
 use Rattle.lawful_trace.specs.CallRows.{is_mend_in}
 use Rattle.lawful_trace.specs.TreeRows.{is_open_of}
 use Rattle.promises.specs.Past.{Past, Site, Epoch, Instance, CallSoFar, Copy, Last, Leaving, Accepting, site_at, epoch_at, making_of, held_in, candidates, kept_in, packing, sync_of, is_number, is_named, acts, ends, asks, asks_after}

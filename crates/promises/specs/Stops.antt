@@ -20,7 +20,7 @@ use Rattle.schedule_lines.specs.declared.line.ScheduleLine.TheVariants.{Event}
 use Rattle.lawful_trace.specs.Places.{line_at}
 use Rattle.lawful_trace.specs.SiteRows.{boots}
 use Rattle.lawful_trace.specs.Prompt.{delivers, ticks}
-use Rattle.tree_model.specs.Packs.{all_sites}
+use Rattle.lawful_trace.specs.of_tree_model.Packs.{all_sites}
 use Rattle.promises.specs.Past.{Past, Epoch, Instance, Copy, nothing_yet, site_at, held}
 use Rattle.promises.specs.After.{after, is_home_of, writers_of}
 use Rattle.promises.specs.Rows.{may_adopt}

@@ -24,23 +24,23 @@ use Rattle.trace_book.specs.declared.operation.Op.TheVariants as op
 use Rattle.trace_book.specs.declared.operation.Outcome.{Outcome}
 use Rattle.trace_book.specs.declared.operation.Outcome.TheVariants as outcome
 use Rattle.file_content.specs.Pages.{pages_of}
-use Rattle.dir_format.specs.Contents.{entries_of}
-use Rattle.dir_format.specs.Grammar.{dir_bytes}
-use Rattle.dir_reconcile.specs.declared.kept.KeptVector.{KeptVector}
-use Rattle.dir_reconcile.specs.Rescues.{rescued, rescue_wanted}
-use Rattle.dir_format.specs.declared.entry.Entry.{Entry}
-use Rattle.file_effects.specs.Effects.{Deed, As, Removes, Mends, Effect}
-use Rattle.file_effects.specs.Works.{counted, aborted, commit_result}
-use Rattle.file_effects.specs.declared.work.Work.{Work}
-use Rattle.tree_model.specs.declared.instance.Granted.{Granted}
-use Rattle.tree_model.specs.Histories.{stamped_content}
-use Rattle.tree_model.specs.Mending.{joined_all}
-use Rattle.tree_model.specs.Packs.{packs_of, is_within, is_member, all_sites}
+use Rattle.lawful_trace.specs.of_dir_format.Contents.{entries_of}
+use Rattle.lawful_trace.specs.of_dir_format.Grammar.{dir_bytes}
+use Rattle.lawful_trace.specs.of_dir_reconcile.declared.kept.KeptVector.{KeptVector}
+use Rattle.lawful_trace.specs.of_dir_reconcile.Rescues.{rescued, rescue_wanted}
+use Rattle.lawful_trace.specs.of_dir_format.declared.entry.Entry.{Entry}
+use Rattle.lawful_trace.specs.of_file_effects.Effects.{Deed, As, Removes, Mends, Effect}
+use Rattle.lawful_trace.specs.of_file_effects.Works.{counted, aborted, commit_result}
+use Rattle.lawful_trace.specs.of_file_effects.declared.work.Work.{Work}
+use Rattle.lawful_trace.specs.of_tree_model.declared.instance.Granted.{Granted}
+use Rattle.lawful_trace.specs.of_tree_model.Histories.{stamped_content}
+use Rattle.lawful_trace.specs.of_tree_model.Mending.{joined_all}
+use Rattle.lawful_trace.specs.of_tree_model.Packs.{packs_of, is_within, is_member, all_sites}
 use Rattle.promises.specs.Same.{same_list}
-use Rattle.tree_model.specs.Same.{same_version}
-use Rattle.tree_model.specs.State.{has_stamp}
-use Rattle.tree_model.specs.Opening.{sites_made, range_of}
-use Rattle.tree_model.specs.Working.{are_several, merges, list_of, max_counter, effect_of, in_room, operated_by}
+use Rattle.lawful_trace.specs.of_tree_model.Same.{same_version}
+use Rattle.lawful_trace.specs.of_tree_model.State.{has_stamp}
+use Rattle.lawful_trace.specs.of_tree_model.Opening.{sites_made, range_of}
+use Rattle.lawful_trace.specs.of_tree_model.Working.{are_several, merges, list_of, max_counter, effect_of, in_room, operated_by}
 use Rattle.locus_ids.specs.Sizes.{pack_pages}
 use Rattle.promises.specs.Past.{Past, Epoch, Instance, CallSoFar, Copy, Make, held_in, copies_in, kept_in, sync_of, is_number}
 

@@ -15,16 +15,16 @@ use Rattle.tree_model.specs.Epochs.{boot_of}
 use Rattle.tree_model.specs.Folds.{Trace}
 use Rattle.tree_laws.specs.Doing.{AllTold}
 use Rattle.tree_laws.specs.Printed.{entries}
-use Rattle.rest_laws.specs.of_order_laws.Joining.{PacksAreOfSites}
-use Rattle.rest_laws.specs.of_row_laws.Voids.{LinesFit}
-use Rattle.rest_laws.proofs.Roles.{roles_do}
-use Rattle.one_tree_laws.specs.Places.{AllAt, AllOf, IsOf}
-use Rattle.one_tree_laws.specs.Rest.{AllRest, IsRest, more}
-use Rattle.one_tree_laws.specs.Roles.{RolesDo}
-use Rattle.one_tree_laws.proofs.Run.{first_holds}
-use Rattle.one_tree_laws.proofs.Staying.{stays}
-use Rattle.one_tree_laws.proofs.Steps.{step_fine}
-use Rattle.one_tree_laws.proofs.Worlds.{Holds}
+use Rattle.whole_run_laws.specs.of_rest_laws.of_order_laws.Joining.{PacksAreOfSites}
+use Rattle.whole_run_laws.specs.of_rest_laws.of_row_laws.Voids.{LinesFit}
+use Rattle.whole_run_laws.proofs.of_rest_laws.Roles.{roles_do}
+use Rattle.whole_run_laws.specs.of_one_tree_laws.Places.{AllAt, AllOf, IsOf}
+use Rattle.whole_run_laws.specs.of_one_tree_laws.Rest.{AllRest, IsRest, more}
+use Rattle.whole_run_laws.specs.of_one_tree_laws.Roles.{RolesDo}
+use Rattle.whole_run_laws.proofs.of_one_tree_laws.Run.{first_holds}
+use Rattle.whole_run_laws.proofs.of_one_tree_laws.Staying.{stays}
+use Rattle.whole_run_laws.proofs.of_one_tree_laws.Steps.{step_fine}
+use Rattle.whole_run_laws.proofs.of_one_tree_laws.Worlds.{Holds}
 use Rattle.prompt_laws.proofs.Members.{EventTold, JoinRecord, JoinTold, OutTold, Told_boots}
 use Rattle.prompt_laws.proofs.MembersRun.{Lists, ListsTold, Rises, WasTold, first_lists, lists_kept, none_told, out, own_needs, rises_more, sent_event, told_later}
 use Rattle.prompt_laws.proofs.Run.{EachLine, IsLone, IsLoneRecord, Tells, run_tells}

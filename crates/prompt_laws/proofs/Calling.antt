@@ -34,11 +34,11 @@ use Rattle.tree_laws.proofs.Fresh.{IsNamed, calls_are_low, next_is_new, numbered
 use Rattle.tree_laws.proofs.Having.{Untaken, named_or_untaken}
 use Rattle.tree_laws.proofs.Hearing.{Hears, asking_named, hears}
 use Rattle.tree_laws.proofs.Names.{same_call_own}
-use Rattle.one_tree_laws.specs.Places.{AllAt}
-use Rattle.one_tree_laws.specs.Rest.{more}
-use Rattle.one_tree_laws.specs.of_user_laws.Turning.{it, IsNumbered}
-use Rattle.one_tree_laws.proofs.of_user_laws.Accepting.{begins_same, freed, freed_same, frees_is}
-use Rattle.one_tree_laws.proofs.of_user_laws.Replying.{free_is}
+use Rattle.whole_run_laws.specs.of_one_tree_laws.Places.{AllAt}
+use Rattle.whole_run_laws.specs.of_one_tree_laws.Rest.{more}
+use Rattle.whole_run_laws.specs.of_one_tree_laws.of_user_laws.Turning.{it, IsNumbered}
+use Rattle.whole_run_laws.proofs.of_one_tree_laws.of_user_laws.Accepting.{begins_same, freed, freed_same, frees_is}
+use Rattle.whole_run_laws.proofs.of_one_tree_laws.of_user_laws.Replying.{free_is}
 use Rattle.prompt_laws.specs.Directly.{accepts, is_last}
 use Rattle.prompt_laws.proofs.Facts.{ToldFact, in_epoch, plain_stands}
 use Rattle.prompt_laws.proofs.Heads.{Gives, goes_told}

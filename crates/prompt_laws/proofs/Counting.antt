@@ -31,12 +31,12 @@ use Rattle.row_laws.proofs.AskedRun.{own_given, Courses, courses_kept, first_cou
 use Rattle.row_laws.proofs.Causes.{comes_own, sent_polls}
 use Rattle.row_laws.proofs.Scripts.{rises_with, armed_here, armed_other}
 use Rattle.row_laws.proofs.ArmsRun.{disk_next}
-use Rattle.rest_laws.specs.of_one_tree_laws.Rest.{Past}
-use Rattle.rest_laws.specs.of_one_tree_laws.Roles.{EventFact, RolesDo}
-use Rattle.rest_laws.proofs.of_one_tree_laws.Staying.{stays}
-use Rattle.rest_laws.proofs.of_one_tree_laws.Cuts.{step_writes}
-use Rattle.rest_laws.proofs.of_one_tree_laws.Worlds.{Holds}
-use Rattle.rest_laws.proofs.of_one_tree_laws.Run.{kept, first_holds, event_fact, sent_fact}
+use Rattle.whole_run_laws.specs.of_rest_laws.of_one_tree_laws.Rest.{Past}
+use Rattle.whole_run_laws.specs.of_rest_laws.of_one_tree_laws.Roles.{EventFact, RolesDo}
+use Rattle.whole_run_laws.proofs.of_rest_laws.of_one_tree_laws.Staying.{stays}
+use Rattle.whole_run_laws.proofs.of_rest_laws.of_one_tree_laws.Cuts.{step_writes}
+use Rattle.whole_run_laws.proofs.of_rest_laws.of_one_tree_laws.Worlds.{Holds}
+use Rattle.whole_run_laws.proofs.of_rest_laws.of_one_tree_laws.Run.{kept, first_holds, event_fact, sent_fact}
 use Rattle.whole_run_laws.specs.CutCounts.{SameArming, GatesAs, CountsAt, CountsAreTheRuns}
 use Rattle.whole_run_laws.proofs.CutShaped.{step_writes_first}
 use Rattle.whole_run_laws.proofs.CutTraced.{LeavesDisks, quiet_leaves, void_leaves, gives_leaves}

@@ -11,11 +11,11 @@ use Rattle.the_run.specs.Steps.{call_frame, epoch_id, step}
 use Rattle.the_run.specs.Worlds.{Line, told_onto}
 use Rattle.tree_laws.specs.Doing.{AllTold}
 use Rattle.tree_laws.specs.Following.{IsFollowed}
-use Rattle.one_tree_laws.specs.Places.{AllAt, InsideFact, SiteFact, SiteIn}
-use Rattle.one_tree_laws.specs.Roles.{EventFact, MayCall}
-use Rattle.one_tree_laws.specs.of_user_laws.Turning.{IsNumbered}
-use Rattle.one_tree_laws.proofs.Composing.{at_append}
-use Rattle.one_tree_laws.proofs.UserStepCalling.{process_above, words_low}
+use Rattle.whole_run_laws.specs.of_one_tree_laws.Places.{AllAt, InsideFact, SiteFact, SiteIn}
+use Rattle.whole_run_laws.specs.of_one_tree_laws.Roles.{EventFact, MayCall}
+use Rattle.whole_run_laws.specs.of_one_tree_laws.of_user_laws.Turning.{IsNumbered}
+use Rattle.whole_run_laws.proofs.of_one_tree_laws.Composing.{at_append}
+use Rattle.whole_run_laws.proofs.of_one_tree_laws.UserStepCalling.{process_above, words_low}
 use Rattle.prompt_laws.proofs.Calling.{called_facts}
 use Rattle.prompt_laws.proofs.Facts.{ToldFact}
 use Rattle.prompt_laws.proofs.Leaving.{leave_facts}

@@ -35,14 +35,14 @@ use Rattle.row_laws.proofs.ByLine.{every_line}
 use Rattle.row_laws.proofs.Causes.{comes_own, sent_polls}
 use Rattle.row_laws.proofs.StepForms.{step_forms}
 use Rattle.row_laws.proofs.Versions.{VersionOf, a_version, version_of}
-use Rattle.rest_laws.proofs.of_row_laws.Fitting.{schedule_fits}
-use Rattle.rest_laws.proofs.Packs.{schedule_packs}
-use Rattle.rest_laws.proofs.Resting.{run_low, run_rests}
-use Rattle.rest_laws.proofs.Roles.{roles_do}
-use Rattle.rest_laws.proofs.StoreStepFirst.{four_groups}
-use Rattle.one_tree_laws.specs.Rest.{IsRest, more}
-use Rattle.one_tree_laws.specs.Roles.{RolesDo}
-use Rattle.one_tree_laws.proofs.Composing.{rest_before}
+use Rattle.whole_run_laws.proofs.of_rest_laws.of_row_laws.Fitting.{schedule_fits}
+use Rattle.whole_run_laws.proofs.of_rest_laws.Packs.{schedule_packs}
+use Rattle.whole_run_laws.proofs.of_rest_laws.Resting.{run_low, run_rests}
+use Rattle.whole_run_laws.proofs.of_rest_laws.Roles.{roles_do}
+use Rattle.whole_run_laws.proofs.of_rest_laws.StoreStepFirst.{four_groups}
+use Rattle.whole_run_laws.specs.of_one_tree_laws.Rest.{IsRest, more}
+use Rattle.whole_run_laws.specs.of_one_tree_laws.Roles.{RolesDo}
+use Rattle.whole_run_laws.proofs.of_one_tree_laws.Composing.{rest_before}
 use Rattle.whole_run_laws.specs.CutCounts.{CountsAs}
 use Rattle.whole_run_laws.proofs.CutEvents.{Counts}
 use Rattle.whole_run_laws.proofs.CutShaped.{DiskFirst, step_writes_first}

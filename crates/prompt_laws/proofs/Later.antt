@@ -25,8 +25,8 @@ use Rattle.the_run.specs.Disks.{Armed, is_on_disk}
 use Rattle.the_run.specs.Steps.{call_frame, epoch_id, step}
 use Rattle.the_run.specs.Worlds.{cause_of, cut_told}
 use Rattle.lawful_trace.specs.Prompt.{comes_first_at}
-use Rattle.rest_laws.specs.of_vector_laws.Held.{IsOf, OnDisk}
-use Rattle.rest_laws.proofs.of_vector_laws.SiteDisks.{step_disk}
+use Rattle.whole_run_laws.specs.of_rest_laws.of_vector_laws.Held.{IsOf, OnDisk}
+use Rattle.whole_run_laws.proofs.of_rest_laws.of_vector_laws.SiteDisks.{step_disk}
 use Rattle.prompt_laws.proofs.Heads.{Gives, Mild, MildTold, accepted_by, goes_told}
 use Rattle.prompt_laws.proofs.Splits.{Head, Splits, step_splits}
 

@@ -37,9 +37,9 @@ use Rattle.tree_laws.proofs.Boots.{every_both, found_every}
 use Rattle.tree_laws.proofs.Mending.{mends_at_sync}
 use Rattle.tree_laws.proofs.Names.{same_call_eq, same_epoch_own}
 use Rattle.tree_laws.proofs.Waiting.{accepted}
-use Rattle.one_tree_laws.specs.Places.{AllAt}
-use Rattle.one_tree_laws.specs.Rest.{more}
-use Rattle.one_tree_laws.proofs.UserStepGroups.{synced_low}
+use Rattle.whole_run_laws.specs.of_one_tree_laws.Places.{AllAt}
+use Rattle.whole_run_laws.specs.of_one_tree_laws.Rest.{more}
+use Rattle.whole_run_laws.proofs.of_one_tree_laws.UserStepGroups.{synced_low}
 use Rattle.prompt_laws.specs.Directly.{is_last, tells_left}
 use Rattle.prompt_laws.specs.Given.{IsGiven}
 use Rattle.prompt_laws.proofs.Facts.{ToldFact}

@@ -24,10 +24,10 @@ use Rattle.tree_model.specs.Folds.{Trace, last_line}
 use Rattle.lawful_trace.specs.Prompt.{comes_first_at, is_first_at, is_over}
 use Rattle.lawful_trace.specs.LineRows.{is_void}
 use Rattle.tree_laws.specs.Printed.{entries}
-use Rattle.rest_laws.specs.of_row_laws.Shown.{EachRecord, trace_of}
-use Rattle.rest_laws.proofs.Shown.{shown_entries}
-use Rattle.one_tree_laws.proofs.Composing.{onto_append}
-use Rattle.one_tree_laws.specs.Rest.{more}
+use Rattle.whole_run_laws.specs.of_rest_laws.of_row_laws.Shown.{EachRecord, trace_of}
+use Rattle.whole_run_laws.proofs.of_rest_laws.Shown.{shown_entries}
+use Rattle.whole_run_laws.proofs.of_one_tree_laws.Composing.{onto_append}
+use Rattle.whole_run_laws.specs.of_one_tree_laws.Rest.{more}
 use Rattle.prompt_laws.specs.Alone.{StandsAlone}
 use Rattle.prompt_laws.proofs.Later.{IsLater, IsNoCall, OfLine, cut_later, later_of_line, step_later, step_line}
 

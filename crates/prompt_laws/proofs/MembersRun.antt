@@ -39,16 +39,16 @@ use Rattle.tree_laws.specs.Following.{MayTell}
 use Rattle.tree_laws.specs.Printed.{entries}
 use Rattle.tree_laws.proofs.Boots.{every_both}
 use Rattle.tree_laws.proofs.Later.{every_among}
-use Rattle.rest_laws.specs.of_row_laws.ByLine.{Gives, KeptIn}
-use Rattle.rest_laws.specs.of_row_laws.Voids.{LinesFit}
-use Rattle.one_tree_laws.specs.Places.{SiteIn, WorldFact}
-use Rattle.one_tree_laws.specs.Rest.{IsRest, more}
-use Rattle.one_tree_laws.specs.Roles.{RolesDo}
-use Rattle.one_tree_laws.proofs.Composing.{rest_before}
-use Rattle.one_tree_laws.proofs.Rising.{row_key}
-use Rattle.one_tree_laws.proofs.Run.{kept}
-use Rattle.one_tree_laws.proofs.Staying.{stays}
-use Rattle.one_tree_laws.proofs.Worlds.{Holds}
+use Rattle.whole_run_laws.specs.of_rest_laws.of_row_laws.ByLine.{Gives, KeptIn}
+use Rattle.whole_run_laws.specs.of_rest_laws.of_row_laws.Voids.{LinesFit}
+use Rattle.whole_run_laws.specs.of_one_tree_laws.Places.{SiteIn, WorldFact}
+use Rattle.whole_run_laws.specs.of_one_tree_laws.Rest.{IsRest, more}
+use Rattle.whole_run_laws.specs.of_one_tree_laws.Roles.{RolesDo}
+use Rattle.whole_run_laws.proofs.of_one_tree_laws.Composing.{rest_before}
+use Rattle.whole_run_laws.proofs.of_one_tree_laws.Rising.{row_key}
+use Rattle.whole_run_laws.proofs.of_one_tree_laws.Run.{kept}
+use Rattle.whole_run_laws.proofs.of_one_tree_laws.Staying.{stays}
+use Rattle.whole_run_laws.proofs.of_one_tree_laws.Worlds.{Holds}
 use Rattle.prompt_laws.proofs.Members.{EventTold, OutTold, Says, SentTold, Told_boots, ViewTold, mapped, step_told}
 use Rattle.prompt_laws.proofs.Run.{told_of}
 

@@ -32,8 +32,8 @@ use Rattle.tree_laws.specs.Printed.{entries}
 use Rattle.tree_laws.proofs.Boots.{found_every}
 use Rattle.tree_laws.proofs.Names.{same_call_eq}
 use Rattle.tree_laws.proofs.Waiting.{accepted}
-use Rattle.one_tree_laws.specs.Places.{AllAt}
-use Rattle.one_tree_laws.specs.Rest.{more}
+use Rattle.whole_run_laws.specs.of_one_tree_laws.Places.{AllAt}
+use Rattle.whole_run_laws.specs.of_one_tree_laws.Rest.{more}
 use Rattle.prompt_laws.proofs.Calling.{caller, caller_begun, caller_named, unheard}
 use Rattle.prompt_laws.proofs.Facts.{RecordFact, ToldFact}
 use Rattle.prompt_laws.proofs.Heads.{IsMend, Mild, MildTold, accepted_by}

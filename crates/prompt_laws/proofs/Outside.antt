@@ -27,12 +27,12 @@ use Rattle.tree_laws.specs.Doing.{AllTold}
 use Rattle.tree_laws.specs.Following.{IsFollowed, MayTell}
 use Rattle.tree_laws.specs.Printed.{entries}
 use Rattle.tree_laws.specs.Users.{UsersFact}
-use Rattle.one_tree_laws.specs.Places.{AllAt}
-use Rattle.one_tree_laws.specs.of_user_laws.Turning.{it, IsNumbered}
-use Rattle.one_tree_laws.proofs.of_user_laws.Accepting.{begins_same}
-use Rattle.one_tree_laws.proofs.of_store_laws.ScriptFitting.{NotChanged}
-use Rattle.one_tree_laws.proofs.of_store_laws.ScriptSoundCalls.{BeginsRight, begins_right}
-use Rattle.one_tree_laws.proofs.UserStepOutside.{EndsAtOnce, at_once, ended, ended_gives, given_as}
+use Rattle.whole_run_laws.specs.of_one_tree_laws.Places.{AllAt}
+use Rattle.whole_run_laws.specs.of_one_tree_laws.of_user_laws.Turning.{it, IsNumbered}
+use Rattle.whole_run_laws.proofs.of_one_tree_laws.of_user_laws.Accepting.{begins_same}
+use Rattle.whole_run_laws.proofs.of_one_tree_laws.of_store_laws.ScriptFitting.{NotChanged}
+use Rattle.whole_run_laws.proofs.of_one_tree_laws.of_store_laws.ScriptSoundCalls.{BeginsRight, begins_right}
+use Rattle.whole_run_laws.proofs.of_one_tree_laws.UserStepOutside.{EndsAtOnce, at_once, ended, ended_gives, given_as}
 use Rattle.prompt_laws.proofs.Calling.{called, caller, caller_begun, caller_last, caller_named, caller_waits, then, unheard}
 use Rattle.prompt_laws.proofs.Facts.{NotLeft, ToldFact, plain_stands}
 use Rattle.prompt_laws.proofs.Heads.{Gives, goes_told}

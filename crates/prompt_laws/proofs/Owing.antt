@@ -43,9 +43,9 @@ use Rattle.tree_laws.proofs.Hearing.{Hears, hears}
 use Rattle.tree_laws.proofs.Later.{every_among}
 use Rattle.tree_laws.proofs.Names.{same_call_own}
 use Rattle.tree_laws.proofs.Waiting.{accepted}
-use Rattle.one_tree_laws.specs.Places.{AllAt}
-use Rattle.one_tree_laws.specs.Rest.{more}
-use Rattle.one_tree_laws.specs.of_user_laws.Turning.{it}
+use Rattle.whole_run_laws.specs.of_one_tree_laws.Places.{AllAt}
+use Rattle.whole_run_laws.specs.of_one_tree_laws.Rest.{more}
+use Rattle.whole_run_laws.specs.of_one_tree_laws.of_user_laws.Turning.{it}
 use Rattle.prompt_laws.proofs.Calling.{accept_told, caller, caller_begun, caller_named, then}
 use Rattle.prompt_laws.proofs.Heads.{IsMend, Mild, MildTold, accepted_by}
 use Rattle.prompt_laws.proofs.Mended.{mend_opens}

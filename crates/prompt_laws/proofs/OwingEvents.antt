@@ -16,11 +16,11 @@ use Rattle.tree_model.specs.Calls.{accepted_as}
 use Rattle.tree_model.specs.Epochs.{epoch_of, is_up}
 use Rattle.tree_laws.specs.Doing.{AllTold, FrameFact}
 use Rattle.tree_laws.specs.Printed.{entries}
-use Rattle.one_tree_laws.specs.Places.{SiteFact, SiteIn, UsersOf, UsersOutside}
-use Rattle.one_tree_laws.specs.Rest.{AllRest, Past, more}
-use Rattle.one_tree_laws.specs.Roles.{EventFact, MayCall, RolesDo}
-use Rattle.one_tree_laws.specs.of_user_laws.Turning.{it}
-use Rattle.one_tree_laws.proofs.Composing.{at_append, onto_append, rest_first}
+use Rattle.whole_run_laws.specs.of_one_tree_laws.Places.{SiteFact, SiteIn, UsersOf, UsersOutside}
+use Rattle.whole_run_laws.specs.of_one_tree_laws.Rest.{AllRest, Past, more}
+use Rattle.whole_run_laws.specs.of_one_tree_laws.Roles.{EventFact, MayCall, RolesDo}
+use Rattle.whole_run_laws.specs.of_one_tree_laws.of_user_laws.Turning.{it}
+use Rattle.whole_run_laws.proofs.of_one_tree_laws.Composing.{at_append, onto_append, rest_first}
 use Rattle.prompt_laws.proofs.Calling.{accept_told, then}
 use Rattle.prompt_laws.proofs.Events.{followed_onto, told_first, told_last}
 use Rattle.prompt_laws.proofs.Heads.{Gives, goes_told}

@@ -36,7 +36,7 @@ use Rattle.tree_laws.proofs.Boots.{every_both, found_every}
 use Rattle.tree_laws.proofs.Later.{every_among}
 use Rattle.tree_laws.proofs.Names.{same_call_eq, same_call_own}
 use Rattle.tree_laws.proofs.Waiting.{accepted, found_among}
-use Rattle.one_tree_laws.specs.Rest.{more}
+use Rattle.whole_run_laws.specs.of_one_tree_laws.Rest.{more}
 use Rattle.prompt_laws.proofs.Leaving.{mend_group, mend_process}
 use Rattle.prompt_laws.proofs.Owing.{DueTold, Dues, IsRow, row_of, settled_due}
 use Rattle.prompt_laws.proofs.OwingLeft.{IsLeast, least_due}

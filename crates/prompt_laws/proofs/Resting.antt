@@ -34,7 +34,7 @@ use Rattle.tree_laws.proofs.Hearing.{wants_as_asked}
 use Rattle.tree_laws.proofs.Names.{same_epoch_own}
 use Rattle.tree_laws.proofs.Scripts.{script_stays}
 use Rattle.tree_laws.proofs.Waiting.{accepted}
-use Rattle.one_tree_laws.specs.Rest.{more}
+use Rattle.whole_run_laws.specs.of_one_tree_laws.Rest.{more}
 
 -- ---- owed no reply ----
 

@@ -35,10 +35,10 @@ use Rattle.lawful_trace.specs.SiteRows.{starts_in}
 use Rattle.lawful_trace.specs.TreeRows.{IsCallIn, has_joined_some}
 use Rattle.tree_laws.proofs.Boots.{every_both, every_filter, found_every}
 use Rattle.tree_laws.proofs.Names.{same_call_eq, same_epoch_eq}
-use Rattle.rest_laws.specs.of_row_laws.Rows.{AskedRecord}
-use Rattle.rest_laws.specs.of_row_laws.Shown.{EachRecord}
-use Rattle.rest_laws.specs.of_row_laws.Voids.{LinesFit}
-use Rattle.one_tree_laws.proofs.of_sync_laws.Members.{table_boot}
+use Rattle.whole_run_laws.specs.of_rest_laws.of_row_laws.Rows.{AskedRecord}
+use Rattle.whole_run_laws.specs.of_rest_laws.of_row_laws.Shown.{EachRecord}
+use Rattle.whole_run_laws.specs.of_rest_laws.of_row_laws.Voids.{LinesFit}
+use Rattle.whole_run_laws.proofs.of_one_tree_laws.of_sync_laws.Members.{table_boot}
 use Rattle.prompt_laws.specs.Speaks.{HasHad, IsCaller, IsEpoch, IsOfProcess, IsSite, RecordSpeaks, SpeaksOfWhatIs}
 use Rattle.prompt_laws.proofs.BaseRun.{BaseRecord}
 use Rattle.prompt_laws.proofs.MembersRun.{Rises, WasTold, rises_record}

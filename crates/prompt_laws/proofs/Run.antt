@@ -20,20 +20,20 @@ use Rattle.the_run.proofs.Boots.{acts_cases}
 use Rattle.the_run.proofs.Events.{happened_keeps}
 use Rattle.tree_laws.specs.Doing.{AllTold, IsWriteOf}
 use Rattle.tree_laws.specs.Following.{IsFollowed}
-use Rattle.rest_laws.specs.of_row_laws.ByLine.{Gives, KeptIn}
-use Rattle.rest_laws.specs.of_row_laws.Voids.{LinesFit}
-use Rattle.rest_laws.proofs.of_row_laws.ByLine.{every_line}
-use Rattle.rest_laws.specs.of_order_laws.Joining.{PacksAreOfSites}
-use Rattle.one_tree_laws.specs.Places.{AllAt, WorldFact}
-use Rattle.one_tree_laws.specs.Rest.{AllRest, IsRest}
-use Rattle.one_tree_laws.specs.Roles.{EventFact, RolesDo}
-use Rattle.one_tree_laws.proofs.Composing.{rest_before, rest_told}
-use Rattle.one_tree_laws.proofs.Cuts.{WritesSo, step_writes}
-use Rattle.one_tree_laws.proofs.Run.{event_fact, first_holds, kept, sent_fact}
-use Rattle.one_tree_laws.proofs.Staying.{stays}
-use Rattle.one_tree_laws.proofs.Worlds.{Holds}
-use Rattle.rest_laws.proofs.Resting.{run_low, run_rests}
-use Rattle.rest_laws.proofs.Roles.{roles_do}
+use Rattle.whole_run_laws.specs.of_rest_laws.of_row_laws.ByLine.{Gives, KeptIn}
+use Rattle.whole_run_laws.specs.of_rest_laws.of_row_laws.Voids.{LinesFit}
+use Rattle.whole_run_laws.proofs.of_rest_laws.of_row_laws.ByLine.{every_line}
+use Rattle.whole_run_laws.specs.of_rest_laws.of_order_laws.Joining.{PacksAreOfSites}
+use Rattle.whole_run_laws.specs.of_one_tree_laws.Places.{AllAt, WorldFact}
+use Rattle.whole_run_laws.specs.of_one_tree_laws.Rest.{AllRest, IsRest}
+use Rattle.whole_run_laws.specs.of_one_tree_laws.Roles.{EventFact, RolesDo}
+use Rattle.whole_run_laws.proofs.of_one_tree_laws.Composing.{rest_before, rest_told}
+use Rattle.whole_run_laws.proofs.of_one_tree_laws.Cuts.{WritesSo, step_writes}
+use Rattle.whole_run_laws.proofs.of_one_tree_laws.Run.{event_fact, first_holds, kept, sent_fact}
+use Rattle.whole_run_laws.proofs.of_one_tree_laws.Staying.{stays}
+use Rattle.whole_run_laws.proofs.of_one_tree_laws.Worlds.{Holds}
+use Rattle.whole_run_laws.proofs.of_rest_laws.Resting.{run_low, run_rests}
+use Rattle.whole_run_laws.proofs.of_rest_laws.Roles.{roles_do}
 
 -- ---- what an event tells ----
 

@@ -13,14 +13,14 @@ use Rattle.the_run.specs.Worlds.{Line, World}
 use Rattle.tree_laws.specs.Doing.{AllTold}
 use Rattle.tree_laws.specs.Following.{IsFollowed}
 use Rattle.tree_laws.specs.Printed.{entries}
-use Rattle.one_tree_laws.specs.Rest.{more}
-use Rattle.one_tree_laws.specs.Roles.{RolesDo}
-use Rattle.rest_laws.specs.of_row_laws.Shown.{EachRecord, trace_of}
-use Rattle.rest_laws.proofs.of_row_laws.Fitting.{schedule_fits}
-use Rattle.rest_laws.proofs.Packs.{schedule_packs}
-use Rattle.rest_laws.proofs.Roles.{roles_do}
-use Rattle.rest_laws.proofs.Shown.{shown_entries}
-use Rattle.rest_laws.proofs.StoreStepFirst.{four_groups}
+use Rattle.whole_run_laws.specs.of_one_tree_laws.Rest.{more}
+use Rattle.whole_run_laws.specs.of_one_tree_laws.Roles.{RolesDo}
+use Rattle.whole_run_laws.specs.of_rest_laws.of_row_laws.Shown.{EachRecord, trace_of}
+use Rattle.whole_run_laws.proofs.of_rest_laws.of_row_laws.Fitting.{schedule_fits}
+use Rattle.whole_run_laws.proofs.of_rest_laws.Packs.{schedule_packs}
+use Rattle.whole_run_laws.proofs.of_rest_laws.Roles.{roles_do}
+use Rattle.whole_run_laws.proofs.of_rest_laws.Shown.{shown_entries}
+use Rattle.whole_run_laws.proofs.of_rest_laws.StoreStepFirst.{four_groups}
 use Rattle.prompt_laws.specs.Due.{IsDueRow, RepliesComeNext}
 use Rattle.prompt_laws.proofs.Owing.{DueTold, Dues, settled_due}
 use Rattle.prompt_laws.proofs.OwingEvents.{step_dues}

@@ -32,13 +32,13 @@ use Rattle.the_run.proofs.Events.{happened_keeps}
 use Rattle.epoch_laws.specs.Known.{Good, ViewFact}
 use Rattle.epoch_laws.proofs.Run.{first_good, good_kept}
 use Rattle.tree_laws.specs.Printed.{entries}
-use Rattle.rest_laws.specs.of_row_laws.ByLine.{Delivers, Gives as LineGives, IsLine, KeptIn}
-use Rattle.rest_laws.specs.of_row_laws.Shown.{EachRecord, trace_of}
-use Rattle.rest_laws.specs.of_vector_laws.Held.{OnDisk}
-use Rattle.rest_laws.proofs.of_row_laws.ByLine.{every_line}
-use Rattle.rest_laws.proofs.of_vector_laws.SiteDisks.{step_disk}
-use Rattle.rest_laws.proofs.Shown.{shown_entries}
-use Rattle.one_tree_laws.specs.Rest.{more}
+use Rattle.whole_run_laws.specs.of_rest_laws.of_row_laws.ByLine.{Delivers, Gives as LineGives, IsLine, KeptIn}
+use Rattle.whole_run_laws.specs.of_rest_laws.of_row_laws.Shown.{EachRecord, trace_of}
+use Rattle.whole_run_laws.specs.of_rest_laws.of_vector_laws.Held.{OnDisk}
+use Rattle.whole_run_laws.proofs.of_rest_laws.of_row_laws.ByLine.{every_line}
+use Rattle.whole_run_laws.proofs.of_rest_laws.of_vector_laws.SiteDisks.{step_disk}
+use Rattle.whole_run_laws.proofs.of_rest_laws.Shown.{shown_entries}
+use Rattle.whole_run_laws.specs.of_one_tree_laws.Rest.{more}
 use Rattle.std.proofs.lemmas.Bool.Decides.{nat_tests}
 use Rattle.locus_ids.specs.Sites.{has}
 use Rattle.schedule_lines.specs.Cluster.{config_of}
@@ -55,21 +55,21 @@ use Rattle.role_steps.specs.declared.synchronizing.SyncTable.{SyncTable}
 use Rattle.the_run.specs.Kept.{Among}
 use Rattle.tree_laws.proofs.Boots.{every_filter}
 use Rattle.lock_laws.proofs.GrantSites.{is_synced}
-use Rattle.pull_laws.proofs.of_bound_laws.EachView.{EachView, KeepsViews, views_first, views_kept}
+use Rattle.convergence_laws.proofs.of_pull_laws.of_bound_laws.EachView.{EachView, KeepsViews, views_first, views_kept}
 use Rattle.convergence_laws.proofs.DirectoriesMended.{MendsHaveStarted, step_mended}
-use Rattle.rest_laws.specs.of_row_laws.Voids.{LinesFit}
-use Rattle.rest_laws.proofs.of_row_laws.Fitting.{schedule_fits}
-use Rattle.rest_laws.proofs.Packs.{schedule_packs}
-use Rattle.rest_laws.proofs.Resting.{run_low, run_rests}
-use Rattle.rest_laws.proofs.Roles.{roles_do}
-use Rattle.rest_laws.proofs.StoreStepFirst.{four_groups}
-use Rattle.one_tree_laws.specs.Places.{SiteFact, SiteIn, synced_groups}
-use Rattle.one_tree_laws.specs.Rest.{IsRest}
-use Rattle.one_tree_laws.specs.Roles.{EventFact, RolesDo}
-use Rattle.one_tree_laws.proofs.Composing.{rest_before}
-use Rattle.one_tree_laws.proofs.Run.{event_fact, first_holds, kept}
-use Rattle.one_tree_laws.proofs.Staying.{stays}
-use Rattle.one_tree_laws.proofs.Worlds.{Holds}
+use Rattle.whole_run_laws.specs.of_rest_laws.of_row_laws.Voids.{LinesFit}
+use Rattle.whole_run_laws.proofs.of_rest_laws.of_row_laws.Fitting.{schedule_fits}
+use Rattle.whole_run_laws.proofs.of_rest_laws.Packs.{schedule_packs}
+use Rattle.whole_run_laws.proofs.of_rest_laws.Resting.{run_low, run_rests}
+use Rattle.whole_run_laws.proofs.of_rest_laws.Roles.{roles_do}
+use Rattle.whole_run_laws.proofs.of_rest_laws.StoreStepFirst.{four_groups}
+use Rattle.whole_run_laws.specs.of_one_tree_laws.Places.{SiteFact, SiteIn, synced_groups}
+use Rattle.whole_run_laws.specs.of_one_tree_laws.Rest.{IsRest}
+use Rattle.whole_run_laws.specs.of_one_tree_laws.Roles.{EventFact, RolesDo}
+use Rattle.whole_run_laws.proofs.of_one_tree_laws.Composing.{rest_before}
+use Rattle.whole_run_laws.proofs.of_one_tree_laws.Run.{event_fact, first_holds, kept}
+use Rattle.whole_run_laws.proofs.of_one_tree_laws.Staying.{stays}
+use Rattle.whole_run_laws.proofs.of_one_tree_laws.Worlds.{Holds}
 use Rattle.prompt_laws.specs.Places.{StandsWhereItMay}
 use Rattle.prompt_laws.proofs.Run.{EachLine, gives_own}
 use Rattle.prompt_laws.proofs.MendsQuiet.{IsMended}

@@ -11,13 +11,13 @@ use Rattle.role_steps.specs.Views.{Shown, Told}
 use Rattle.the_run.specs.Runs.{run}
 use Rattle.the_run.specs.Worlds.{Line, World}
 use Rattle.tree_laws.specs.Printed.{entries}
-use Rattle.one_tree_laws.specs.Places.{AllAt}
-use Rattle.one_tree_laws.specs.Rest.{more}
-use Rattle.rest_laws.specs.of_row_laws.Shown.{EachRecord, trace_of}
-use Rattle.rest_laws.proofs.of_row_laws.Fitting.{schedule_fits}
-use Rattle.rest_laws.proofs.Packs.{schedule_packs}
-use Rattle.rest_laws.proofs.Shown.{shown_entries}
-use Rattle.rest_laws.proofs.StoreStepFirst.{four_groups}
+use Rattle.whole_run_laws.specs.of_one_tree_laws.Places.{AllAt}
+use Rattle.whole_run_laws.specs.of_one_tree_laws.Rest.{more}
+use Rattle.whole_run_laws.specs.of_rest_laws.of_row_laws.Shown.{EachRecord, trace_of}
+use Rattle.whole_run_laws.proofs.of_rest_laws.of_row_laws.Fitting.{schedule_fits}
+use Rattle.whole_run_laws.proofs.of_rest_laws.Packs.{schedule_packs}
+use Rattle.whole_run_laws.proofs.of_rest_laws.Shown.{shown_entries}
+use Rattle.whole_run_laws.proofs.of_rest_laws.StoreStepFirst.{four_groups}
 use Rattle.prompt_laws.specs.Directly.{DirectRecord, IsDirectRow}
 use Rattle.prompt_laws.specs.Given.{GivenRecord, IsGivenRow}
 use Rattle.prompt_laws.proofs.Events.{step_facts}

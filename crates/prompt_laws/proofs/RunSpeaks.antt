@@ -10,15 +10,15 @@ use Rattle.the_run.specs.Worlds.{Line}
 use Rattle.tree_model.specs.Folds.{Trace}
 use Rattle.tree_laws.specs.Following.{RowsAreLawful}
 use Rattle.tree_laws.specs.Printed.{entries}
-use Rattle.rest_laws.specs.of_row_laws.Rows.{IsAskedFor}
-use Rattle.rest_laws.specs.of_row_laws.Shown.{EachRecord, trace_of}
-use Rattle.rest_laws.proofs.of_row_laws.AskedRun.{run_asked}
-use Rattle.rest_laws.proofs.of_row_laws.Fitting.{schedule_fits}
-use Rattle.one_tree_laws.specs.Rest.{more}
-use Rattle.rest_laws.proofs.Packs.{schedule_packs}
-use Rattle.rest_laws.proofs.Run.{schedule_rows}
-use Rattle.rest_laws.proofs.Shown.{shown_entries}
-use Rattle.rest_laws.proofs.StoreStepFirst.{four_groups}
+use Rattle.whole_run_laws.specs.of_rest_laws.of_row_laws.Rows.{IsAskedFor}
+use Rattle.whole_run_laws.specs.of_rest_laws.of_row_laws.Shown.{EachRecord, trace_of}
+use Rattle.whole_run_laws.proofs.of_rest_laws.of_row_laws.AskedRun.{run_asked}
+use Rattle.whole_run_laws.proofs.of_rest_laws.of_row_laws.Fitting.{schedule_fits}
+use Rattle.whole_run_laws.specs.of_one_tree_laws.Rest.{more}
+use Rattle.whole_run_laws.proofs.of_rest_laws.Packs.{schedule_packs}
+use Rattle.whole_run_laws.proofs.of_rest_laws.Run.{schedule_rows}
+use Rattle.whole_run_laws.proofs.of_rest_laws.Shown.{shown_entries}
+use Rattle.whole_run_laws.proofs.of_rest_laws.StoreStepFirst.{four_groups}
 use Rattle.trace_book.specs.declared.entry.Entry.{Entry}
 use Rattle.prompt_laws.specs.Speaks.{SpeaksOfWhatIs}
 use Rattle.prompt_laws.proofs.BaseRun.{BaseRecord, BaseTold, run_base}

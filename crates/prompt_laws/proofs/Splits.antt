@@ -45,7 +45,7 @@ use Rattle.law_walks.specs.Laws.{Law, StoresKeep, TableAnswers, TablesKeep, Vers
 use Rattle.law_walks.proofs.Premises.{every_unit, frame_stores, frame_tables}
 use Rattle.law_walks.proofs.RoleWalks.{on_close_walk, on_closed_ok_walk, on_look_ss_walk, on_notify_walk, on_op_walk, on_open_ss_walk, on_page_walk, on_pull_walk}
 use Rattle.law_walks.proofs.SyncWalks.{on_closed_walk, on_have_walk, on_look_walk, on_open_walk, on_opened_walk, on_report_walk}
-use Rattle.one_tree_laws.proofs.of_lock_laws.StepFacts.{framed_notify, notify_silent, page_silent}
+use Rattle.whole_run_laws.proofs.of_one_tree_laws.of_lock_laws.StepFacts.{framed_notify, notify_silent, page_silent}
 use Rattle.prompt_laws.proofs.Heads.{Mild, MildTold, accepted_by, adopts_of_mild, ends_mild, mild_any, mild_append}
 
 -- ---- roles that answer no call ----

@@ -34,7 +34,7 @@ use Rattle.the_run.specs.Steps.{adopts_in, adopts_of, call_frame, epoch_id, ends
 use Rattle.the_run.specs.Worlds.{World}
 use Rattle.lawful_trace.specs.LineRows.{is_mend}
 use Rattle.lawful_trace.specs.Prompt.{stands_at, ticks}
-use Rattle.rest_laws.specs.of_row_laws.ByLine.{Gives as LineGives}
+use Rattle.whole_run_laws.specs.of_rest_laws.of_row_laws.ByLine.{Gives as LineGives}
 use Rattle.prompt_laws.proofs.Heads.{Gives, goes_told}
 use Rattle.prompt_laws.proofs.MendsQuiet.{EndsQuiet, IsMended, begun_outside, call_quiet, ends_outside, left_outside, parted_outside}
 

@@ -27,11 +27,11 @@ use Rattle.tree_laws.specs.Printed.{entries}
 use Rattle.tree_laws.specs.Users.{WaitingFact}
 use Rattle.tree_laws.proofs.Hearing.{Hears, hears}
 use Rattle.tree_laws.proofs.Names.{same_call_own}
-use Rattle.one_tree_laws.specs.Places.{AllAt}
-use Rattle.one_tree_laws.specs.Rest.{more}
-use Rattle.one_tree_laws.specs.of_user_laws.Turning.{it}
-use Rattle.one_tree_laws.proofs.of_user_laws.Replying.{free_is}
-use Rattle.one_tree_laws.proofs.of_user_laws.Tabled.{every_among}
+use Rattle.whole_run_laws.specs.of_one_tree_laws.Places.{AllAt}
+use Rattle.whole_run_laws.specs.of_one_tree_laws.Rest.{more}
+use Rattle.whole_run_laws.specs.of_one_tree_laws.of_user_laws.Turning.{it}
+use Rattle.whole_run_laws.proofs.of_one_tree_laws.of_user_laws.Replying.{free_is}
+use Rattle.whole_run_laws.proofs.of_one_tree_laws.of_user_laws.Tabled.{every_among}
 use Rattle.prompt_laws.specs.Directly.{accepts, is_last}
 use Rattle.prompt_laws.proofs.Facts.{ToldFact, in_epoch, plain_stands, replies_in_time}
 use Rattle.prompt_laws.proofs.Heads.{Gives, goes_told}

@@ -28,7 +28,7 @@ use Rattle.lawful_trace.specs.Tables.{begun, descriptor}
 use Rattle.tree_laws.specs.Doing.{FrameFact}
 use Rattle.tree_laws.specs.Printed.{entries}
 use Rattle.tree_laws.proofs.Names.{same_epoch_own}
-use Rattle.one_tree_laws.proofs.of_order_laws.ProcessSynchronizing.{sync_same}
+use Rattle.whole_run_laws.proofs.of_one_tree_laws.of_order_laws.ProcessSynchronizing.{sync_same}
 
 -- ---- which groups are packed ----
 

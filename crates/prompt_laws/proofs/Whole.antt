@@ -7,7 +7,7 @@ use Rattle.schedule_lines.specs.declared.line.ScheduleLine.{ScheduleLine}
 use Rattle.tree_model.specs.Folds.{Trace}
 use Rattle.lawful_trace.specs.Prompt.{EachPromptly, IsPrompt}
 use Rattle.the_run.specs.Runs.{run}
-use Rattle.rest_laws.specs.of_row_laws.Shown.{EachRecord, trace_of}
+use Rattle.whole_run_laws.specs.of_rest_laws.of_row_laws.Shown.{EachRecord, trace_of}
 use Rattle.prompt_laws.specs.Alone.{StandsAlone}
 use Rattle.prompt_laws.specs.Due.{IsDueRow, RepliesComeNext}
 use Rattle.prompt_laws.specs.Places.{StandsWhereItMay}

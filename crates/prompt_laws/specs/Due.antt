@@ -4,7 +4,7 @@ use Rattle.locus_ids.specs.declared.config.Config.{Config}
 use Rattle.trace_book.specs.declared.entry.Entry.{Entry}
 use Rattle.tree_model.specs.Folds.{Trace, last_line}
 use Rattle.lawful_trace.specs.Prompt.{due, is_reply_due}
-use Rattle.rest_laws.specs.of_row_laws.Shown.{EachRecord}
+use Rattle.whole_run_laws.specs.of_rest_laws.of_row_laws.Shown.{EachRecord}
 
 -- Where some call waits whose site has left its epoch, or that needs no request, the next record is its reply, at the same line: that of
 -- the least process, of mends that of the least group.

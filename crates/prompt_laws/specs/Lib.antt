@@ -6,3 +6,4 @@ pub mod Wrong
 pub mod Speaks
 pub mod Places
 pub mod Stops
+pub use Rattle.whole_run_laws.specs as of_whole_run_laws

@@ -3,7 +3,7 @@ ghost use Rattle.std.specs.Prelude.{List};
 ghost use Rattle.locus_ids.specs.declared.config.Config.{Config};
 ghost use Rattle.schedule_lines.specs.declared.line.ScheduleLine.{ScheduleLine};
 ghost use Rattle.the_run.specs.Runs.{run_in};
-ghost use Rattle.rest_laws.specs.of_row_laws.Shown.{EachRecord, trace_of};
+ghost use Rattle.whole_run_laws.specs.of_rest_laws.of_row_laws.Shown.{EachRecord, trace_of};
 ghost use Rattle.prompt_laws.specs.Alone.{StandsAlone};
 
 /// After every schedule, in whatever cluster, and also where its run passes a limit: a record that its line is void is the only one of

@@ -3,7 +3,7 @@ ghost use Rattle.std.specs.Prelude.{List};
 ghost use Rattle.schedule_lines.specs.Schedule.{AreInOrder};
 ghost use Rattle.schedule_lines.specs.declared.line.ScheduleLine.{ScheduleLine};
 ghost use Rattle.the_run.specs.Runs.{run};
-ghost use Rattle.rest_laws.specs.of_row_laws.Shown.{EachRecord, trace_of};
+ghost use Rattle.whole_run_laws.specs.of_rest_laws.of_row_laws.Shown.{EachRecord, trace_of};
 ghost use Rattle.prompt_laws.specs.Places.{StandsWhereItMay};
 
 /// After every schedule whose lines are in order, also where its run passes a limit, each record stands at a line at which it may: steps

@@ -5,7 +5,7 @@ ghost use Rattle.schedule_lines.specs.Schedule.{AreInOrder};
 ghost use Rattle.schedule_lines.specs.declared.line.ScheduleLine.{ScheduleLine};
 ghost use Rattle.lawful_trace.specs.Prompt.{IsPrompt};
 ghost use Rattle.the_run.specs.Runs.{run};
-ghost use Rattle.rest_laws.specs.of_row_laws.Shown.{EachRecord, trace_of};
+ghost use Rattle.whole_run_laws.specs.of_rest_laws.of_row_laws.Shown.{EachRecord, trace_of};
 ghost use Rattle.prompt_laws.specs.Stops.{HeedsItsDisk};
 
 /// After every schedule whose lines are in order, also where its run passes a limit: where a version came on the disk of a site, and that

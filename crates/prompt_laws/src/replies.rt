@@ -4,7 +4,7 @@ ghost use Rattle.schedule_lines.specs.Cluster.{config_of};
 ghost use Rattle.schedule_lines.specs.Schedule.{AreInOrder};
 ghost use Rattle.schedule_lines.specs.declared.line.ScheduleLine.{ScheduleLine};
 ghost use Rattle.the_run.specs.Runs.{run};
-ghost use Rattle.rest_laws.specs.of_row_laws.Shown.{EachRecord, trace_of};
+ghost use Rattle.whole_run_laws.specs.of_rest_laws.of_row_laws.Shown.{EachRecord, trace_of};
 ghost use Rattle.prompt_laws.specs.Due.{RepliesComeNext};
 ghost use Rattle.prompt_laws.specs.Directly.{IsDirectRow};
 ghost use Rattle.prompt_laws.specs.Given.{IsGivenRow};

@@ -4,7 +4,7 @@ ghost use Rattle.schedule_lines.specs.Cluster.{config_of};
 ghost use Rattle.schedule_lines.specs.Schedule.{AreInOrder};
 ghost use Rattle.schedule_lines.specs.declared.line.ScheduleLine.{ScheduleLine};
 ghost use Rattle.the_run.specs.Runs.{run};
-ghost use Rattle.rest_laws.specs.of_row_laws.Shown.{EachRecord, trace_of};
+ghost use Rattle.whole_run_laws.specs.of_rest_laws.of_row_laws.Shown.{EachRecord, trace_of};
 ghost use Rattle.prompt_laws.specs.Speaks.{SpeaksOfWhatIs};
 
 /// After every schedule whose lines are in order, also where its run passes a limit, each record speaks of sites of the cluster alone;

@@ -1,6 +1,6 @@
 //! Traces that these laws alone refuse.
 ghost use Rattle.schedule_lines.specs.Cluster.{config_of};
-ghost use Rattle.rest_laws.specs.of_row_laws.Shown.{EachRecord};
+ghost use Rattle.whole_run_laws.specs.of_rest_laws.of_row_laws.Shown.{EachRecord};
 ghost use Rattle.trace_samples.specs.Wrong.{two_voids};
 ghost use Rattle.prompt_laws.specs.Alone.{StandsAlone};
 ghost use Rattle.prompt_laws.specs.Directly.{IsDirectRow};

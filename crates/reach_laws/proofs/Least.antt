@@ -19,7 +19,7 @@ use Rattle.tree_laws.proofs.Counting.{Opens, Turned, Unturned, accept_turned, as
 use Rattle.tree_laws.proofs.Fresh.{IsNamed}
 use Rattle.tree_laws.proofs.Names.{same_call_eq}
 use Rattle.tree_laws.proofs.Serials.{asks_opens, in_named}
-use Rattle.rest_laws.specs.of_row_laws.Shown.{EachRecord, shown, with_told}
+use Rattle.packet_format_laws.specs.of_rest_laws.of_row_laws.Shown.{EachRecord, shown, with_told}
 use Rattle.reach_laws.specs.Reach.{IsReached, IsSerial, ReachedRecord}
 use Rattle.reach_laws.proofs.Lines.{EachLow, ListedRecord, ListedTold, With}
 

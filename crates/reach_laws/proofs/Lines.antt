@@ -11,9 +11,9 @@ use Rattle.role_steps.specs.Own.{Every}
 use Rattle.role_steps.specs.Views.{Told, Shown, Takes}
 use Rattle.the_run.specs.Worlds.{Line, told_onto}
 use Rattle.tree_laws.specs.Serials.{asked_now, is_open_want, opens_asked}
-use Rattle.rest_laws.specs.of_one_tree_laws.Places.{AllOf, IsOf}
-use Rattle.rest_laws.specs.of_row_laws.Events.{Causes, SiteRecord, SiteTold}
-use Rattle.rest_laws.specs.of_row_laws.Inward.{ServedRecord}
+use Rattle.packet_format_laws.specs.of_rest_laws.of_one_tree_laws.Places.{AllOf, IsOf}
+use Rattle.packet_format_laws.specs.of_rest_laws.of_row_laws.Events.{Causes, SiteRecord, SiteTold}
+use Rattle.packet_format_laws.specs.of_rest_laws.of_row_laws.Inward.{ServedRecord}
 use Rattle.reach_laws.specs.Reach.{IsListed}
 
 -- ---- what is kept of each line ----

@@ -3,14 +3,14 @@ use Rattle.std.proofs.Common.{◌≤◌, List, length}
 use Rattle.locus_ids.specs.declared.config.Config.{Config}
 use Rattle.schedule_lines.specs.declared.line.ScheduleLine.{ScheduleLine}
 use Rattle.the_run.specs.Runs.{run_in}
-use Rattle.rest_laws.specs.of_one_tree_laws.Rest.{IsRest}
-use Rattle.rest_laws.specs.of_order_laws.Joining.{PacksAreOfSites}
-use Rattle.rest_laws.specs.of_row_laws.Shown.{EachRecord, trace_of}
-use Rattle.rest_laws.specs.of_row_laws.Voids.{LinesFit}
-use Rattle.rest_laws.proofs.of_row_laws.AskedRun.{first_courses}
-use Rattle.rest_laws.proofs.of_row_laws.ByLine.{every_line}
-use Rattle.rest_laws.proofs.Resting.{run_low, run_rests}
-use Rattle.rest_laws.proofs.Roles.{roles_do}
+use Rattle.packet_format_laws.specs.of_rest_laws.of_one_tree_laws.Rest.{IsRest}
+use Rattle.packet_format_laws.specs.of_rest_laws.of_order_laws.Joining.{PacksAreOfSites}
+use Rattle.packet_format_laws.specs.of_rest_laws.of_row_laws.Shown.{EachRecord, trace_of}
+use Rattle.packet_format_laws.specs.of_rest_laws.of_row_laws.Voids.{LinesFit}
+use Rattle.packet_format_laws.proofs.of_rest_laws.of_row_laws.AskedRun.{first_courses}
+use Rattle.packet_format_laws.proofs.of_rest_laws.of_row_laws.ByLine.{every_line}
+use Rattle.packet_format_laws.proofs.of_rest_laws.Resting.{run_low, run_rests}
+use Rattle.packet_format_laws.proofs.of_rest_laws.Roles.{roles_do}
 use Rattle.packet_format_laws.proofs.Run.{first_stand}
 use Rattle.reach_laws.specs.Reach.{IsReached}
 use Rattle.reach_laws.proofs.Least.{each_reached}

@@ -15,20 +15,20 @@ use Rattle.the_run.proofs.Boots.{acts_cases, every_weaker}
 use Rattle.the_run.proofs.Events.{puts_same}
 use Rattle.the_run.proofs.InsideSync.{every_without}
 use Rattle.tree_laws.specs.Serials.{opens_asked}
-use Rattle.rest_laws.specs.of_run_laws.Naming.{DeedsOf}
-use Rattle.rest_laws.specs.of_row_laws.ByLine.{KeptIn}
-use Rattle.rest_laws.specs.of_row_laws.Events.{SiteTold, causes_of}
-use Rattle.rest_laws.specs.of_row_laws.Inward.{RoleWrite}
-use Rattle.rest_laws.specs.of_row_laws.Voids.{LinesFit}
-use Rattle.rest_laws.proofs.of_row_laws.AskedRun.{Courses, courses_kept, own_given}
-use Rattle.rest_laws.proofs.of_row_laws.Causes.{comes_own, sent_polls}
-use Rattle.rest_laws.proofs.of_row_laws.StepForms.{step_forms}
-use Rattle.rest_laws.specs.of_one_tree_laws.Places.{SiteIn, WorldFact}
-use Rattle.rest_laws.specs.of_one_tree_laws.Rest.{AllRest, IsRest}
-use Rattle.rest_laws.specs.of_one_tree_laws.Roles.{EventFact, RolesDo}
-use Rattle.rest_laws.proofs.of_one_tree_laws.Run.{event_fact, sent_fact}
-use Rattle.rest_laws.proofs.of_one_tree_laws.Staying.{stays}
-use Rattle.rest_laws.proofs.of_one_tree_laws.Steps.{DoesWith, step_fine}
+use Rattle.packet_format_laws.specs.of_rest_laws.of_run_laws.Naming.{DeedsOf}
+use Rattle.packet_format_laws.specs.of_rest_laws.of_row_laws.ByLine.{KeptIn}
+use Rattle.packet_format_laws.specs.of_rest_laws.of_row_laws.Events.{SiteTold, causes_of}
+use Rattle.packet_format_laws.specs.of_rest_laws.of_row_laws.Inward.{RoleWrite}
+use Rattle.packet_format_laws.specs.of_rest_laws.of_row_laws.Voids.{LinesFit}
+use Rattle.packet_format_laws.proofs.of_rest_laws.of_row_laws.AskedRun.{Courses, courses_kept, own_given}
+use Rattle.packet_format_laws.proofs.of_rest_laws.of_row_laws.Causes.{comes_own, sent_polls}
+use Rattle.packet_format_laws.proofs.of_rest_laws.of_row_laws.StepForms.{step_forms}
+use Rattle.packet_format_laws.specs.of_rest_laws.of_one_tree_laws.Places.{SiteIn, WorldFact}
+use Rattle.packet_format_laws.specs.of_rest_laws.of_one_tree_laws.Rest.{AllRest, IsRest}
+use Rattle.packet_format_laws.specs.of_rest_laws.of_one_tree_laws.Roles.{EventFact, RolesDo}
+use Rattle.packet_format_laws.proofs.of_rest_laws.of_one_tree_laws.Run.{event_fact, sent_fact}
+use Rattle.packet_format_laws.proofs.of_rest_laws.of_one_tree_laws.Staying.{stays}
+use Rattle.packet_format_laws.proofs.of_rest_laws.of_one_tree_laws.Steps.{DoesWith, step_fine}
 use Rattle.tree_laws.specs.Doing.{WriteFact}
 use Rattle.packet_value_laws.proofs.of_packet_fit_laws.CountsRun.{counts_low}
 use Rattle.packet_value_laws.proofs.of_packet_fit_laws.FormingRun.{sent_comes}

@@ -11,8 +11,8 @@ use Rattle.the_run.specs.Runs.{packet_record}
 use Rattle.the_run.specs.Worlds.{Numbered, World, happened, numbered_from, told_onto, with_numbered}
 use Rattle.the_run.proofs.Boots.{every_weaker}
 use Rattle.the_run.proofs.Events.{happened_keeps}
-use Rattle.rest_laws.specs.of_one_tree_laws.Rest.{AllRest, IsRest}
-use Rattle.rest_laws.proofs.of_one_tree_laws.Composing.{rest_before, rest_told}
+use Rattle.packet_format_laws.specs.of_rest_laws.of_one_tree_laws.Rest.{AllRest, IsRest}
+use Rattle.packet_format_laws.proofs.of_rest_laws.of_one_tree_laws.Composing.{rest_before, rest_told}
 use Rattle.packet_value_laws.specs.of_epoch_laws.Forming.{FormsNone}
 use Rattle.packet_value_laws.proofs.of_packet_fit_laws.FormingRun.{Good}
 use Rattle.packet_value_laws.proofs.of_packet_fit_laws.Lists.{Forms, PacketComes}

@@ -2,9 +2,9 @@ ghost use Rattle.std.specs.Prelude.{◌≤◌, List, length};
 ghost use Rattle.locus_ids.specs.declared.config.Config.{Config};
 ghost use Rattle.schedule_lines.specs.declared.line.ScheduleLine.{ScheduleLine};
 ghost use Rattle.the_run.specs.Runs.{run_in};
-ghost use Rattle.rest_laws.specs.of_order_laws.Joining.{PacksAreOfSites};
-ghost use Rattle.rest_laws.specs.of_row_laws.Shown.{EachRecord, trace_of};
-ghost use Rattle.rest_laws.specs.of_row_laws.Voids.{LinesFit};
+ghost use Rattle.packet_format_laws.specs.of_rest_laws.of_order_laws.Joining.{PacksAreOfSites};
+ghost use Rattle.packet_format_laws.specs.of_rest_laws.of_row_laws.Shown.{EachRecord, trace_of};
+ghost use Rattle.packet_format_laws.specs.of_rest_laws.of_row_laws.Voids.{LinesFit};
 ghost use Rattle.reach_laws.specs.Reach.{IsReached};
 
 /// In the trace of every schedule whose lines are in range for the cluster each grant and each refusal is of an open of the site of its

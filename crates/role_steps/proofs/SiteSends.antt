@@ -5,8 +5,8 @@ use Rattle.locus_ids.specs.declared.sites.Members.{Members}
 use Rattle.locus_ids.specs.declared.sites.Links.{Links}
 use Rattle.locus_ids.specs.declared.sites.Sites.{Sites}
 use Rattle.locus_ids.specs.declared.config.Config.{Config}
-use Rattle.trace_book.specs.Same.{same_epoch}
-use Rattle.trace_book.specs.declared.call.Call.TheVariants as call
+use Rattle.wire_messages.specs.of_trace_book.Same.{same_epoch}
+use Rattle.wire_messages.specs.of_trace_book.declared.call.Call.TheVariants as call
 use Rattle.wire_messages.specs.declared.packet.Packet.{Packet}
 use Rattle.role_steps.specs.Tables.{row, without_row, first_that}
 use Rattle.role_steps.specs.Views.{Frame, SiteView, Outcome, Promises, quiet, sends, tells, and_then}

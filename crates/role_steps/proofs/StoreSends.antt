@@ -7,10 +7,10 @@ use Rattle.locus_ids.specs.declared.ids.Mode.{Mode}
 use Rattle.locus_ids.specs.declared.ids.Mode.TheVariants as mode
 use Rattle.locus_ids.specs.declared.refusal.Refusal.TheVariants as refusal
 use Rattle.call_rules.specs.of_commit_graph.Versions.{same_stamp}
-use Rattle.trace_book.specs.declared.operation.Op.{Op}
-use Rattle.trace_book.specs.declared.operation.Op.TheVariants as op
-use Rattle.trace_book.specs.declared.operation.Outcome.{Outcome as Result}
-use Rattle.trace_book.specs.declared.operation.Outcome.TheVariants as result
+use Rattle.wire_messages.specs.of_trace_book.declared.operation.Op.{Op}
+use Rattle.wire_messages.specs.of_trace_book.declared.operation.Op.TheVariants as op
+use Rattle.wire_messages.specs.of_trace_book.declared.operation.Outcome.{Outcome as Result}
+use Rattle.wire_messages.specs.of_trace_book.declared.operation.Outcome.TheVariants as result
 use Rattle.file_effects.specs.Effects.{Effect}
 use Rattle.file_effects.specs.Works.{counted}
 use Rattle.wire_messages.specs.declared.packet.Packet.{Packet}

@@ -3,9 +3,9 @@ use Rattle.std.proofs.Common.{ℕ, ◌+◌, List, Option, Some, None}
 use Rattle.locus_ids.specs.declared.ids.EpochId.{EpochId}
 use Rattle.locus_ids.specs.declared.ids.FileId.{FileId}
 use Rattle.locus_ids.specs.declared.ids.Stamp.{Stamp}
-use Rattle.trace_book.specs.declared.call.Call.{Call}
-use Rattle.trace_book.specs.declared.operation.Op.{Op}
-use Rattle.trace_book.specs.declared.operation.Outcome.{Outcome as Result}
+use Rattle.wire_messages.specs.of_trace_book.declared.call.Call.{Call}
+use Rattle.wire_messages.specs.of_trace_book.declared.operation.Op.{Op}
+use Rattle.wire_messages.specs.of_trace_book.declared.operation.Outcome.{Outcome as Result}
 use Rattle.call_rules.specs.declared.answer.Answer.{Answer}
 use Rattle.call_rules.specs.declared.want.Want.{Want}
 use Rattle.call_rules.specs.declared.want.Want.TheVariants as want

@@ -4,10 +4,10 @@ use Rattle.std.specs.List.{list_any}
 use Rattle.locus_ids.specs.declared.ids.FileId.{FileId}
 use Rattle.call_rules.specs.of_commit_graph.Versions.{same_file}
 use Rattle.file_effects.specs.of_file_content.Pages.{pages_of, pages_from}
-use Rattle.trace_book.specs.declared.call.Call.{Call}
-use Rattle.trace_book.specs.declared.call.Call.TheVariants as call
-use Rattle.trace_book.specs.declared.record.Record.{Record}
-use Rattle.trace_book.specs.declared.record.Record.TheVariants as says
+use Rattle.wire_messages.specs.of_trace_book.declared.call.Call.{Call}
+use Rattle.wire_messages.specs.of_trace_book.declared.call.Call.TheVariants as call
+use Rattle.wire_messages.specs.of_trace_book.declared.record.Record.{Record}
+use Rattle.wire_messages.specs.of_trace_book.declared.record.Record.TheVariants as says
 use Rattle.wire_messages.specs.declared.body.Body.TheVariants as body
 use Rattle.role_steps.specs.Tables.{row, with_row, without_row}
 use Rattle.role_steps.specs.Views.{Frame, Store, Users, SiteView, Shown, DiskWrite, Outcome, quiet, to_sync}

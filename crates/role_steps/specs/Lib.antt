@@ -19,5 +19,5 @@ pub use Rattle.call_rules.specs as of_call_rules
 pub use Rattle.call_rules.specs.of_commit_graph as of_commit_graph
 pub use Rattle.dir_reconcile.specs.of_dir_format as of_dir_format
 pub use Rattle.file_effects.specs as of_file_effects
-pub use Rattle.trace_book.specs as of_trace_book
+pub use Rattle.wire_messages.specs.of_trace_book as of_trace_book
 pub use Rattle.wire_messages.specs as of_wire_messages

@@ -4,11 +4,11 @@ use Rattle.locus_ids.specs.declared.ids.FileId.{FileId}
 use Rattle.locus_ids.specs.declared.ids.Stamp.{Stamp}
 use Rattle.locus_ids.specs.declared.refusal.Refusal.{Refusal}
 use Rattle.locus_ids.specs.declared.refusal.Refusal.TheVariants as refusal
-use Rattle.trace_book.specs.declared.operation.What.{What}
-use Rattle.trace_book.specs.declared.operation.What.TheVariants as what
-use Rattle.trace_book.specs.declared.operation.Served.{Served}
-use Rattle.trace_book.specs.declared.operation.Served.TheVariants as served
-use Rattle.trace_book.specs.declared.record.Record.TheVariants as says
+use Rattle.wire_messages.specs.of_trace_book.declared.operation.What.{What}
+use Rattle.wire_messages.specs.of_trace_book.declared.operation.What.TheVariants as what
+use Rattle.wire_messages.specs.of_trace_book.declared.operation.Served.{Served}
+use Rattle.wire_messages.specs.of_trace_book.declared.operation.Served.TheVariants as served
+use Rattle.wire_messages.specs.of_trace_book.declared.record.Record.TheVariants as says
 use Rattle.call_rules.specs.of_commit_graph.Versions.{same_stamp}
 use Rattle.wire_messages.specs.declared.body.Body.{Body}
 use Rattle.wire_messages.specs.declared.body.Body.TheVariants as body

@@ -10,8 +10,8 @@ use Rattle.dir_reconcile.specs.of_dir_format.Entries.{is_live}
 use Rattle.dir_reconcile.specs.of_dir_format.Contents.{entries_of, entries_from}
 use Rattle.dir_reconcile.specs.declared.kept.KeptVector.{KeptVector}
 use Rattle.dir_reconcile.specs.Rescues.{rescue_wanted}
-use Rattle.trace_book.specs.declared.call.Call.{Call}
-use Rattle.trace_book.specs.declared.call.Call.TheVariants as call
+use Rattle.wire_messages.specs.of_trace_book.declared.call.Call.{Call}
+use Rattle.wire_messages.specs.of_trace_book.declared.call.Call.TheVariants as call
 use Rattle.role_steps.specs.Tables.{row, first_that}
 use Rattle.role_steps.specs.Views.{Frame, Users, SiteView, Outcome, quiet, and_then, within}
 use Rattle.role_steps.specs.Versions.{kept, stamps_of, file_row}

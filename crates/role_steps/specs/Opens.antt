@@ -15,7 +15,7 @@ use Rattle.locus_ids.specs.declared.refusal.Refusal.TheVariants as refusal
 use Rattle.call_rules.specs.of_commit_graph.Versions.{same_file, same_stamp}
 use Rattle.call_rules.specs.of_commit_graph.Grants.{Opener, grant_refusal}
 use Rattle.dir_reconcile.specs.of_dir_format.Entries.{nothing_seen}
-use Rattle.trace_book.specs.declared.record.Record.TheVariants as says
+use Rattle.wire_messages.specs.of_trace_book.declared.record.Record.TheVariants as says
 use Rattle.wire_messages.specs.declared.packet.Packet.{Packet}
 use Rattle.wire_messages.specs.declared.body.Opening.{Opening}
 use Rattle.wire_messages.specs.declared.body.Opening.TheVariants as how

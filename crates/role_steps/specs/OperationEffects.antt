@@ -1,7 +1,7 @@
 -- The effect of an operation at the storage site: that of the operation's words, and for a mend what it rescues.
 use Rattle.std.specs.Prelude.{ℕ, Bool, true, false, List, [], ◌∷◌, Option, Some, None}
-use Rattle.trace_book.specs.declared.operation.Op.{Op}
-use Rattle.trace_book.specs.declared.operation.Op.TheVariants as op
+use Rattle.wire_messages.specs.of_trace_book.declared.operation.Op.{Op}
+use Rattle.wire_messages.specs.of_trace_book.declared.operation.Op.TheVariants as op
 use Rattle.dir_reconcile.specs.of_dir_format.declared.entry.Entry.{Entry}
 use Rattle.dir_reconcile.specs.of_dir_format.Grammar.{dir_bytes}
 use Rattle.dir_reconcile.specs.of_dir_format.Contents.{entries_of}

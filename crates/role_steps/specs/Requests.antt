@@ -8,14 +8,14 @@ use Rattle.locus_ids.specs.declared.sites.Sites.{Sites}
 use Rattle.locus_ids.specs.declared.config.Config.{Config}
 use Rattle.locus_ids.specs.Sizes.{descriptor_span}
 use Rattle.dir_reconcile.specs.of_dir_format.Entries.{nothing_seen}
-use Rattle.trace_book.specs.declared.call.OpenMode.{OpenMode}
-use Rattle.trace_book.specs.declared.call.OpenMode.TheVariants as mode
-use Rattle.trace_book.specs.declared.call.Call.{Call}
-use Rattle.trace_book.specs.declared.call.Call.TheVariants as call
-use Rattle.trace_book.specs.declared.operation.Op.{Op}
-use Rattle.trace_book.specs.declared.operation.Op.TheVariants as op
-use Rattle.trace_book.specs.declared.operation.What.{What}
-use Rattle.trace_book.specs.declared.descriptor.Descriptor.{Descriptor}
+use Rattle.wire_messages.specs.of_trace_book.declared.call.OpenMode.{OpenMode}
+use Rattle.wire_messages.specs.of_trace_book.declared.call.OpenMode.TheVariants as mode
+use Rattle.wire_messages.specs.of_trace_book.declared.call.Call.{Call}
+use Rattle.wire_messages.specs.of_trace_book.declared.call.Call.TheVariants as call
+use Rattle.wire_messages.specs.of_trace_book.declared.operation.Op.{Op}
+use Rattle.wire_messages.specs.of_trace_book.declared.operation.Op.TheVariants as op
+use Rattle.wire_messages.specs.of_trace_book.declared.operation.What.{What}
+use Rattle.wire_messages.specs.of_trace_book.declared.descriptor.Descriptor.{Descriptor}
 use Rattle.call_rules.specs.declared.answer.Answer.{Answer}
 use Rattle.call_rules.specs.declared.answer.Answer.TheVariants as answer
 use Rattle.wire_messages.specs.declared.packet.Packet.{Packet}

@@ -11,11 +11,11 @@ use Rattle.locus_ids.specs.declared.sites.Sites.{Sites}
 use Rattle.locus_ids.specs.declared.refusal.Refusal.TheVariants as refusal
 use Rattle.locus_ids.specs.Sizes.{pack_pages, site_inodes}
 use Rattle.call_rules.specs.of_commit_graph.Versions.{same_stamp, same_file}
-use Rattle.version_vector.specs.Counters.{raised}
-use Rattle.trace_book.specs.declared.operation.What.{What}
-use Rattle.trace_book.specs.declared.operation.What.TheVariants as what
-use Rattle.trace_book.specs.declared.record.Record.{Record}
-use Rattle.trace_book.specs.declared.record.Record.TheVariants as says
+use Rattle.dir_reconcile.specs.of_version_vector.Counters.{raised}
+use Rattle.wire_messages.specs.of_trace_book.declared.operation.What.{What}
+use Rattle.wire_messages.specs.of_trace_book.declared.operation.What.TheVariants as what
+use Rattle.wire_messages.specs.of_trace_book.declared.record.Record.{Record}
+use Rattle.wire_messages.specs.of_trace_book.declared.record.Record.TheVariants as says
 use Rattle.dir_reconcile.specs.of_dir_format.declared.looking.LookResult.{LookResult}
 use Rattle.dir_reconcile.specs.of_dir_format.declared.looking.LookResult.TheVariants as found
 use Rattle.dir_reconcile.specs.of_dir_format.Contents.{entries_of}

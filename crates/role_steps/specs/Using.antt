@@ -11,20 +11,20 @@ use Rattle.locus_ids.specs.declared.refusal.Refusal.{Refusal}
 use Rattle.locus_ids.specs.declared.refusal.Refusal.TheVariants as refusal
 use Rattle.dir_reconcile.specs.of_dir_format.Contents.{entries_of}
 use Rattle.dir_reconcile.specs.of_dir_format.Lookups.{shown_names}
-use Rattle.trace_book.specs.declared.call.Call.{Call}
-use Rattle.trace_book.specs.declared.call.Call.TheVariants as call
-use Rattle.trace_book.specs.declared.operation.Outcome.{Outcome as Result}
-use Rattle.trace_book.specs.declared.operation.Outcome.TheVariants as result
-use Rattle.trace_book.specs.declared.operation.Op.{Op}
-use Rattle.trace_book.specs.declared.operation.Op.TheVariants as op
-use Rattle.trace_book.specs.declared.operation.What.{What}
-use Rattle.trace_book.specs.declared.operation.What.TheVariants as what
-use Rattle.trace_book.specs.declared.record.Record.TheVariants as says
-use Rattle.trace_book.specs.declared.reply.Reply.{Reply}
-use Rattle.trace_book.specs.declared.reply.Reply.TheVariants as reply
-use Rattle.trace_book.specs.declared.descriptor.Beginning.{Beginning}
-use Rattle.trace_book.specs.declared.descriptor.Beginning.TheVariants as begins
-use Rattle.trace_book.specs.declared.descriptor.OneVersion.{OneVersion}
+use Rattle.wire_messages.specs.of_trace_book.declared.call.Call.{Call}
+use Rattle.wire_messages.specs.of_trace_book.declared.call.Call.TheVariants as call
+use Rattle.wire_messages.specs.of_trace_book.declared.operation.Outcome.{Outcome as Result}
+use Rattle.wire_messages.specs.of_trace_book.declared.operation.Outcome.TheVariants as result
+use Rattle.wire_messages.specs.of_trace_book.declared.operation.Op.{Op}
+use Rattle.wire_messages.specs.of_trace_book.declared.operation.Op.TheVariants as op
+use Rattle.wire_messages.specs.of_trace_book.declared.operation.What.{What}
+use Rattle.wire_messages.specs.of_trace_book.declared.operation.What.TheVariants as what
+use Rattle.wire_messages.specs.of_trace_book.declared.record.Record.TheVariants as says
+use Rattle.wire_messages.specs.of_trace_book.declared.reply.Reply.{Reply}
+use Rattle.wire_messages.specs.of_trace_book.declared.reply.Reply.TheVariants as reply
+use Rattle.wire_messages.specs.of_trace_book.declared.descriptor.Beginning.{Beginning}
+use Rattle.wire_messages.specs.of_trace_book.declared.descriptor.Beginning.TheVariants as begins
+use Rattle.wire_messages.specs.of_trace_book.declared.descriptor.OneVersion.{OneVersion}
 use Rattle.call_rules.specs.Descriptors.{beginning, lowest_free}
 use Rattle.call_rules.specs.Opening.{is_steady, mode_of}
 use Rattle.call_rules.specs.Scripts.{wants}

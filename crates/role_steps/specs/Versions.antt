@@ -4,7 +4,7 @@ use Rattle.std.specs.List.{list_any}
 use Rattle.locus_ids.specs.declared.ids.Stamp.{Stamp}
 use Rattle.locus_ids.specs.declared.ids.Kind.{Kind}
 use Rattle.locus_ids.specs.declared.sites.Sites.{Sites}
-use Rattle.version_vector.specs.Counters.{all_le, joined}
+use Rattle.dir_reconcile.specs.of_version_vector.Counters.{all_le, joined}
 use Rattle.call_rules.specs.of_commit_graph.Versions.{same_stamp}
 use Rattle.dir_reconcile.specs.of_dir_format.Entries.{nothing_seen}
 use Rattle.role_steps.specs.Tables.{row, with_row}

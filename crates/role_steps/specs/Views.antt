@@ -10,8 +10,8 @@ use Rattle.locus_ids.specs.declared.sites.Members.{Members}
 use Rattle.locus_ids.specs.declared.sites.Sites.{Sites}
 use Rattle.locus_ids.specs.declared.config.Config.{Config}
 use Rattle.locus_ids.specs.Sizes.{inode_span}
-use Rattle.trace_book.specs.declared.call.Call.{Call}
-use Rattle.trace_book.specs.declared.record.Record.{Record}
+use Rattle.wire_messages.specs.of_trace_book.declared.call.Call.{Call}
+use Rattle.wire_messages.specs.of_trace_book.declared.record.Record.{Record}
 use Rattle.call_rules.specs.declared.answer.Answer.{Answer}
 use Rattle.wire_messages.specs.declared.packet.Packet.{Packet}
 use Rattle.wire_messages.specs.declared.body.Body.{Body}

@@ -1,6 +1,6 @@
+use dir_reconcile::version_vector::Vector;
 use locus_ids::sizes::SITES;
 use locus_ids::{Bytes, FileId, Kind, Sites, Stamp};
-use version_vector::Vector;
 
 /// What a pack holds of a file.
 #[derive(Drop)]

@@ -1,8 +1,8 @@
+use dir_reconcile::version_vector::Vector;
 use file_effects::Work;
 use locus_ids::sizes::SITES;
 use locus_ids::{FileId, Kind, Mode, Serial, Sites, Stamps};
-use trace_book::Outcome;
-use version_vector::Vector;
+use wire_messages::trace_book::Outcome;
 use wire_messages::{CloseAnswer, MadeVersion};
 
 /// How far an instance is at its storage site.

@@ -20,3 +20,4 @@ pub use synchronizing::{
     OpenStage, SyncTable, VersionRow, VersionRows,
 };
 pub use users::{Answers, Asking, Contents, DescriptorRow, UserInstance, WaitingCall};
+pub use wire_messages;

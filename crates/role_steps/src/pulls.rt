@@ -1,6 +1,6 @@
+use dir_reconcile::version_vector::Vector;
 use locus_ids::sizes::SITES;
 use locus_ids::{Bytes, FileId, Kind, SiteId, Sites, Stamp};
-use version_vector::Vector;
 
 /// A version whose pages a site pulls from a holder, the first page first.
 #[derive(Drop)]

@@ -1,6 +1,6 @@
+use dir_reconcile::version_vector::Vector;
 use locus_ids::sizes::SITES;
 use locus_ids::{FileId, ItemList, Kind, Mode, Refusal, Serial, SiteId, Sites, Stamp, Stamps};
-use version_vector::Vector;
 use wire_messages::Body;
 
 /// A version that was brought to the epoch or published in it. Size in bytes.

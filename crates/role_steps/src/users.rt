@@ -1,9 +1,9 @@
 use call_rules::Answer;
+use dir_reconcile::version_vector::Vector;
 use locus_ids::sizes::SITES;
 use locus_ids::{Bytes, FileId, ItemList, SiteId};
-use trace_book::{Beginning, Call, Descriptor, Op, What};
-use version_vector::Vector;
 use wire_messages::Opening;
+use wire_messages::trace_book::{Beginning, Call, Descriptor, Op, What};
 
 /// An instance that a using site has opened.
 #[derive(Clone, Copy, PartialEq, Eq)]

@@ -13,10 +13,10 @@ use Rattle.trace_book.specs.declared.record.StopCause.TheVariants as cause
 use Rattle.role_steps.specs.Tables.{row}
 use Rattle.role_steps.specs.Views.{Shown, Event, Receives, Ticks}
 use Rattle.role_steps.proofs.Sending.{every_map}
-use Rattle.the_run.specs.Disks.{Armed as Script, Stops as Stopping, Fails as Failing}
-use Rattle.the_run.specs.Steps.{step}
-use Rattle.the_run.specs.Worlds.{World, Running, Numbered, Line, armed_site, script_of, links_of, passed, arms, disk_of, first_world}
-use Rattle.the_run.specs.Runs.{packet_record, run_in}
+use Rattle.lock_laws.specs.of_the_run.Disks.{Armed as Script, Stops as Stopping, Fails as Failing}
+use Rattle.lock_laws.specs.of_the_run.Steps.{step}
+use Rattle.lock_laws.specs.of_the_run.Worlds.{World, Running, Numbered, Line, armed_site, script_of, links_of, passed, arms, disk_of, first_world}
+use Rattle.lock_laws.specs.of_the_run.Runs.{packet_record, run_in}
 use Rattle.lock_laws.specs.of_run_laws.Naming.{DeedsOf}
 use Rattle.lock_laws.proofs.of_vector_laws.SiteDisks.{step_disk}
 use Rattle.lawful_trace.specs.Places.{line_at}

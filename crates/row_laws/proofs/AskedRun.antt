@@ -20,14 +20,14 @@ use Rattle.role_steps.specs.Own.{Every}
 use Rattle.role_steps.specs.Tables.{row}
 use Rattle.role_steps.specs.Views.{Told, Shown, Promises, Event, Calls, Receives, Ticks, Parts, Merges, GivesUp, all_sites}
 use Rattle.role_steps.proofs.Counted.{CountsFrom, sites_count}
-use Rattle.tree_model.specs.Folds.{Trace, last_line, before_line}
-use Rattle.tree_model.specs.Epochs.{boot_of}
-use Rattle.the_run.specs.Joins.{IsJoinRecord, IsJoin, Joined}
-use Rattle.the_run.specs.Kept.{IsOwn, Kept}
-use Rattle.the_run.specs.Steps.{step}
-use Rattle.the_run.specs.Worlds.{World, Place, Running, Numbered, Line, CutCircuit, is_between, is_cut, number_of, links_of, place_in, place_site, passed, fresh, first_place, formatted, first_world}
-use Rattle.the_run.specs.Runs.{packet_record, cuts_circuit, mends_circuit, run_in}
-use Rattle.the_run.proofs.InsideSync.{every_without}
+use Rattle.lawful_trace.specs.of_tree_model.Folds.{Trace, last_line, before_line}
+use Rattle.lawful_trace.specs.of_tree_model.Epochs.{boot_of}
+use Rattle.lock_laws.specs.of_the_run.Joins.{IsJoinRecord, IsJoin, Joined}
+use Rattle.lock_laws.specs.of_the_run.Kept.{IsOwn, Kept}
+use Rattle.lock_laws.specs.of_the_run.Steps.{step}
+use Rattle.lock_laws.specs.of_the_run.Worlds.{World, Place, Running, Numbered, Line, CutCircuit, is_between, is_cut, number_of, links_of, place_in, place_site, passed, fresh, first_place, formatted, first_world}
+use Rattle.lock_laws.specs.of_the_run.Runs.{packet_record, cuts_circuit, mends_circuit, run_in}
+use Rattle.lock_laws.proofs.of_the_run.InsideSync.{every_without}
 use Rattle.lock_laws.specs.of_run_laws.Standing.{Standing, nowhere, after_record, after_told, standing, GoesOn, EpochsGoOn}
 use Rattle.lock_laws.specs.of_run_laws.Naming.{Promised, DeedsOf, Has, Good}
 use Rattle.lock_laws.proofs.of_run_laws.Run.{good_kept, first_good}

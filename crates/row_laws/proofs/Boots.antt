@@ -5,11 +5,11 @@ use Rattle.locus_ids.specs.declared.config.Config.{Config}
 use Rattle.schedule_lines.specs.declared.line.ScheduleLine.{ScheduleLine}
 use Rattle.trace_book.specs.declared.record.Record.{Record}
 use Rattle.trace_book.specs.declared.record.Record.TheVariants as says
-use Rattle.tree_model.specs.Epochs.{boot_after, boot_of}
-use Rattle.tree_model.specs.Folds.{Trace}
-use Rattle.the_run.specs.Laws.{boot_on, boot_number}
-use Rattle.the_run.specs.Runs.{run_in}
-use Rattle.the_run.specs.Worlds.{World, Place, Running, Stopped, place_at}
+use Rattle.lawful_trace.specs.of_tree_model.Epochs.{boot_after, boot_of}
+use Rattle.lawful_trace.specs.of_tree_model.Folds.{Trace}
+use Rattle.lock_laws.specs.of_the_run.Laws.{boot_on, boot_number}
+use Rattle.lock_laws.specs.of_the_run.Runs.{run_in}
+use Rattle.lock_laws.specs.of_the_run.Worlds.{World, Place, Running, Stopped, place_at}
 use Rattle.lock_laws.proofs.of_run_laws.Boots.{run_boots_low}
 use Rattle.row_laws.specs.Course.{StandsAs}
 use Rattle.row_laws.specs.Rows.{SiteRecordRow}

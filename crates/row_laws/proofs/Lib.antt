@@ -24,3 +24,4 @@ pub mod Boots
 pub use Rattle.lock_laws.proofs as of_lock_laws
 pub use Rattle.lock_laws.proofs.of_run_laws as of_run_laws
 pub use Rattle.lock_laws.proofs.of_vector_laws as of_vector_laws
+pub use Rattle.lock_laws.proofs.of_the_run as of_the_run

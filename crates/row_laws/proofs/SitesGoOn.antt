@@ -12,11 +12,11 @@ use Rattle.trace_book.specs.Same.{same_epoch}
 use Rattle.trace_book.specs.declared.record.Record.{Record}
 use Rattle.trace_book.specs.declared.record.Record.TheVariants as says
 use Rattle.role_steps.specs.Views.{Told, Shown, Promises}
-use Rattle.tree_model.specs.Epochs.{has_joined, last_joined, is_above_joined, members_of}
-use Rattle.the_run.specs.Joins.{Joined, OneList}
-use Rattle.the_run.specs.Worlds.{Line}
-use Rattle.the_run.specs.Runs.{run_in}
-use Rattle.the_run.proofs.OneList.{one_list}
+use Rattle.lawful_trace.specs.of_tree_model.Epochs.{has_joined, last_joined, is_above_joined, members_of}
+use Rattle.lock_laws.specs.of_the_run.Joins.{Joined, OneList}
+use Rattle.lock_laws.specs.of_the_run.Worlds.{Line}
+use Rattle.lock_laws.specs.of_the_run.Runs.{run_in}
+use Rattle.lock_laws.proofs.of_the_run.OneList.{one_list}
 use Rattle.lock_laws.specs.of_run_laws.Standing.{GoesOn, EpochsGoOn, IsUp, StaysUp, joins_line, JoinsRise}
 use Rattle.lock_laws.proofs.of_run_laws.Rises.{run_joins_rise}
 use Rattle.lock_laws.specs.of_vector_laws.Written.{past_of}

@@ -10,13 +10,13 @@ use Rattle.schedule_lines.specs.Ranges.{is_site}
 use Rattle.wire_messages.specs.declared.packet.Packet.{Packet}
 use Rattle.role_steps.specs.Tables.{row}
 use Rattle.role_steps.specs.Views.{SiteView, Told, Outcome, Receives, all_sites}
-use Rattle.the_run.specs.Disks.{Booted, Whole, CutOff}
-use Rattle.the_run.specs.Steps.{step}
-use Rattle.the_run.specs.Worlds.{World, Place, links_of, passed, place_at, place_in, place_site, happened, puts, arms, stops_with, acts, first_place, first_world}
-use Rattle.the_run.specs.Runs.{boots_as}
-use Rattle.the_run.specs.Kept.{Kept}
-use Rattle.the_run.proofs.Boots.{at_each}
-use Rattle.the_run.proofs.Events.{happened_keeps, acts_keeps, puts_other, puts_same}
+use Rattle.lock_laws.specs.of_the_run.Disks.{Booted, Whole, CutOff}
+use Rattle.lock_laws.specs.of_the_run.Steps.{step}
+use Rattle.lock_laws.specs.of_the_run.Worlds.{World, Place, links_of, passed, place_at, place_in, place_site, happened, puts, arms, stops_with, acts, first_place, first_world}
+use Rattle.lock_laws.specs.of_the_run.Runs.{boots_as}
+use Rattle.lock_laws.specs.of_the_run.Kept.{Kept}
+use Rattle.lock_laws.proofs.of_the_run.Boots.{at_each}
+use Rattle.lock_laws.proofs.of_the_run.Events.{happened_keeps, acts_keeps, puts_other, puts_same}
 use Rattle.row_laws.specs.Voids.{HasPlaces}
 use Rattle.row_laws.proofs.Tracing.{any_number}
 

@@ -10,11 +10,11 @@ use Rattle.trace_book.specs.declared.call.Call.TheVariants as call
 use Rattle.trace_book.specs.declared.record.Record.{Record}
 use Rattle.trace_book.specs.declared.record.Record.TheVariants as says
 use Rattle.schedule_lines.specs.declared.line.ScheduleLine.{ScheduleLine}
-use Rattle.tree_model.specs.Folds.{Trace, before_line}
-use Rattle.tree_model.specs.Epochs.{is_up, boot_of}
+use Rattle.lawful_trace.specs.of_tree_model.Folds.{Trace, before_line}
+use Rattle.lawful_trace.specs.of_tree_model.Epochs.{is_up, boot_of}
 use Rattle.role_steps.specs.Own.{Every}
 use Rattle.role_steps.specs.Views.{Told, Shown, Promises}
-use Rattle.the_run.specs.Worlds.{Line, told_onto}
+use Rattle.lock_laws.specs.of_the_run.Worlds.{Line, told_onto}
 use Rattle.lock_laws.specs.of_run_laws.Naming.{Promised, IsDeed, Has}
 use Rattle.lawful_trace.specs.Places.{line_at, initiator, starts_at}
 use Rattle.lawful_trace.specs.SiteRows.{makes_leave, is_another, was_polled}

@@ -17,15 +17,15 @@ use Rattle.role_steps.specs.Own.{Every}
 use Rattle.role_steps.specs.Views.{SiteView, Told, Shown, Outcome, Event, Receives, Ticks}
 use Rattle.role_steps.specs.declared.rounds.InEpoch.{InEpoch}
 use Rattle.role_steps.proofs.Sending.{every_map}
-use Rattle.tree_model.specs.Folds.{Trace, before_line}
-use Rattle.tree_model.specs.Epochs.{is_up, epoch_of}
-use Rattle.the_run.specs.Disks.{Booted, Whole, CutOff, boots, is_on_disk}
-use Rattle.the_run.specs.Steps.{epoch_id, step}
-use Rattle.the_run.specs.Worlds.{World, Place, Running, Stopped, Numbered, Line, place_at, is_cut, links_of, script_of, happened, told_onto, puts, arms, passed, stops_with, cause_of, acts, disk_of, first_world}
-use Rattle.the_run.specs.Runs.{is_stopped, is_in_no_epoch, boots_as, packet_record, run_in}
-use Rattle.the_run.specs.Kept.{Kept}
-use Rattle.the_run.proofs.Boots.{acts_cases}
-use Rattle.the_run.proofs.Events.{happened_keeps}
+use Rattle.lawful_trace.specs.of_tree_model.Folds.{Trace, before_line}
+use Rattle.lawful_trace.specs.of_tree_model.Epochs.{is_up, epoch_of}
+use Rattle.lock_laws.specs.of_the_run.Disks.{Booted, Whole, CutOff, boots, is_on_disk}
+use Rattle.lock_laws.specs.of_the_run.Steps.{epoch_id, step}
+use Rattle.lock_laws.specs.of_the_run.Worlds.{World, Place, Running, Stopped, Numbered, Line, place_at, is_cut, links_of, script_of, happened, told_onto, puts, arms, passed, stops_with, cause_of, acts, disk_of, first_world}
+use Rattle.lock_laws.specs.of_the_run.Runs.{is_stopped, is_in_no_epoch, boots_as, packet_record, run_in}
+use Rattle.lock_laws.specs.of_the_run.Kept.{Kept}
+use Rattle.lock_laws.proofs.of_the_run.Boots.{acts_cases}
+use Rattle.lock_laws.proofs.of_the_run.Events.{happened_keeps}
 use Rattle.lock_laws.specs.of_run_laws.Naming.{DeedsOf, Good}
 use Rattle.lawful_trace.specs.Places.{line_at, lines_before}
 use Rattle.lawful_trace.specs.Places as lawful

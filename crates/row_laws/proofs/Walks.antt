@@ -34,7 +34,7 @@ use Rattle.role_steps.specs.declared.pulls.Pull.{Pull}
 use Rattle.role_steps.specs.declared.rounds.InEpoch.{InEpoch}
 use Rattle.role_steps.specs.declared.synchronizing.SyncTable.{SyncTable}
 use Rattle.role_steps.specs.declared.synchronizing.FileRow.{FileRow}
-use Rattle.the_run.specs.Steps.{takes_framed, adopts_of, tries_at, starts_mends_of, repeats_inside}
+use Rattle.lock_laws.specs.of_the_run.Steps.{takes_framed, adopts_of, tries_at, starts_mends_of, repeats_inside}
 use Rattle.lock_laws.specs.of_law_walks.Kinds.{IsInside, IsTableRecord, TellsTable, IsAct, TellsStore, IsVersion, IsPlainRecord, TellsPlain}
 use Rattle.lock_laws.specs.of_law_walks.Laws.{Law, TablesKeep, ReadersKeep, StoresKeep, VersionsKeep, SiteKeeps, SiteAnswers, TablePart, Stays}
 use Rattle.lock_laws.proofs.of_law_walks.Premises.{of_table, store_request, of_store, of_reader, user_request, of_user, table_tells, store_tells, call_tells, body_answers}

@@ -12,3 +12,4 @@ pub use Rattle.lawful_trace.specs as of_lawful_trace
 pub use Rattle.lock_laws.specs as of_lock_laws
 pub use Rattle.lock_laws.specs.of_run_laws as of_run_laws
 pub use Rattle.lock_laws.specs.of_vector_laws as of_vector_laws
+pub use Rattle.lock_laws.specs.of_the_run as of_the_run

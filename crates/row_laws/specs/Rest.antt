@@ -9,7 +9,7 @@ use Rattle.trace_book.specs.declared.record.StopCause.TheVariants as cause
 use Rattle.schedule_lines.specs.declared.line.ScheduleLine.{ScheduleLine}
 use Rattle.schedule_lines.specs.Cluster.{config_of}
 use Rattle.schedule_lines.specs.Schedule.{AreInOrder}
-use Rattle.tree_model.specs.Folds.{Trace}
+use Rattle.lawful_trace.specs.of_tree_model.Folds.{Trace}
 use Rattle.lawful_trace.specs.Places.{line_at}
 use Rattle.lawful_trace.specs.Disks.{may_cut}
 use Rattle.lawful_trace.specs.LineRows.{IsVoidAsked, is_told}

@@ -9,9 +9,9 @@ use Rattle.trace_book.specs.declared.record.Record.TheVariants as says
 use Rattle.trace_book.specs.declared.record.StopCause.{StopCause}
 use Rattle.trace_book.specs.declared.record.StopCause.TheVariants as cause
 use Rattle.schedule_lines.specs.declared.line.ScheduleLine.{ScheduleLine}
-use Rattle.tree_model.specs.Folds.{Trace, last_line}
-use Rattle.tree_model.specs.Epochs.{is_up, boot_of, epoch_of, has_joined, last_joined, is_above_joined, members_of}
-use Rattle.tree_model.specs.Packs.{boot_in}
+use Rattle.lawful_trace.specs.of_tree_model.Folds.{Trace, last_line}
+use Rattle.lawful_trace.specs.of_tree_model.Epochs.{is_up, boot_of, epoch_of, has_joined, last_joined, is_above_joined, members_of}
+use Rattle.lawful_trace.specs.of_tree_model.Packs.{boot_in}
 use Rattle.lawful_trace.specs.Places.{line_at}
 use Rattle.lawful_trace.specs.Disks.{armed_at, is_armed_as}
 use Rattle.lawful_trace.specs.SiteRows.{MayBoot, IsBootAsked, StopRow, IsStopAsked, boots, MayLeave, IsLeaveAsked, IsJoinAsked}

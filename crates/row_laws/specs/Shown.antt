@@ -1,9 +1,9 @@
 -- The printed trace of a run as the lawful trace has it, the latest record first, and what holds of each of its records.
 use Rattle.std.specs.Prelude.{ℕ, List, [], ◌∷◌}
 use Rattle.trace_book.specs.declared.entry.Entry.{Entry}
-use Rattle.tree_model.specs.Folds.{Trace}
+use Rattle.lawful_trace.specs.of_tree_model.Folds.{Trace}
 use Rattle.role_steps.specs.Views.{Told, Shown}
-use Rattle.the_run.specs.Worlds.{World, Line}
+use Rattle.lock_laws.specs.of_the_run.Worlds.{World, Line}
 
 -- a printed record comes to the trace; what only the laws see falls away
 abbrev pub with_told : ℕ → Told → Trace → Trace

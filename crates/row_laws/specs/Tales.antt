@@ -1,8 +1,8 @@
 -- Lines that have told what came of them.
 use Rattle.std.specs.Prelude.{ℕ, ◌≡◌, ◌≤◌, true, false, List, None}
 use Rattle.schedule_lines.specs.declared.line.ScheduleLine.{ScheduleLine}
-use Rattle.tree_model.specs.Folds.{Trace}
-use Rattle.the_run.specs.Worlds.{World}
+use Rattle.lawful_trace.specs.of_tree_model.Folds.{Trace}
+use Rattle.lock_laws.specs.of_the_run.Worlds.{World}
 use Rattle.lawful_trace.specs.Places.{line_at}
 use Rattle.lawful_trace.specs.LineRows.{is_told}
 use Rattle.row_laws.specs.Shown.{trace_of}

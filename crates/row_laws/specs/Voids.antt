@@ -9,8 +9,8 @@ use Rattle.schedule_lines.specs.declared.line.ScheduleLine.TheVariants.{Event as
 use Rattle.trace_book.specs.declared.entry.Entry.{Entry}
 use Rattle.trace_book.specs.declared.record.Record.{Record}
 use Rattle.trace_book.specs.declared.record.Record.TheVariants as says
-use Rattle.tree_model.specs.Folds.{Trace}
-use Rattle.the_run.specs.Worlds.{World, Place, place_at, is_cut}
+use Rattle.lawful_trace.specs.of_tree_model.Folds.{Trace}
+use Rattle.lock_laws.specs.of_the_run.Worlds.{World, Place, place_at, is_cut}
 use Rattle.lawful_trace.specs.Places.{line_at}
 use Rattle.lawful_trace.specs.Places as lawful
 use Rattle.lawful_trace.specs.LineRows.{IsVoidAsked}

@@ -2,9 +2,9 @@
 use Rattle.std.specs.Prelude.{ℕ, ◌==◌, Bool, not, ◌&&◌, ◌||◌, List, [], ◌∷◌, ◌++◌, fold, slice_index_or, slice_set}
 use Rattle.std.specs.List.{list_any}
 use Rattle.std.specs.Str.{bytes_eq}
-use Rattle.locus_ids.specs.Sizes.{sites_max}
-use Rattle.locus_ids.specs.declared.sites.Sites.{Sites}
-use Rattle.locus_ids.specs.declared.config.Config.{Config}
+use Rattle.trace_book.specs.of_locus_ids.Sizes.{sites_max}
+use Rattle.trace_book.specs.of_locus_ids.declared.sites.Sites.{Sites}
+use Rattle.trace_book.specs.of_locus_ids.declared.config.Config.{Config}
 use Rattle.trace_book.specs.Names.{is_name}
 use Rattle.schedule_lines.specs.Ranges.{is_between, is_some_sites}
 use Rattle.schedule_lines.specs.declared.header.Header.{Header}

@@ -1,8 +1,8 @@
 -- The ranges of the operands, each as a test that computes. Nothing here depends on other lines but the number of sites.
 use Rattle.std.specs.Prelude.{ℕ, ◌^◌, ◌==◌, Bool, true, false, not, ◌&&◌, List, length, min, nat_le, nat_lt, Option, None, Some, ◌-◌}
 use Rattle.std.specs.List.{list_all}
-use Rattle.locus_ids.specs.Sizes.{sites_max, file_bytes_max, descriptor_span}
-use Rattle.locus_ids.specs.declared.sites.Sites.{Sites}
+use Rattle.trace_book.specs.of_locus_ids.Sizes.{sites_max, file_bytes_max, descriptor_span}
+use Rattle.trace_book.specs.of_locus_ids.declared.sites.Sites.{Sites}
 use Rattle.trace_book.specs.declared.call.Call.{Call}
 use Rattle.trace_book.specs.declared.call.Call.TheVariants as call
 use Rattle.trace_book.specs.declared.call.OpenMode.{OpenMode}

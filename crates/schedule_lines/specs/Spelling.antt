@@ -2,8 +2,8 @@
 use Rattle.std.specs.Prelude.{ℕ, ◌≡◌, ◌==◌, Bool, true, List, [], ◌∷◌, ◌++◌, codes}
 use Rattle.std.specs.List.{join_by}
 use Rattle.hex.specs.Hex.{encode_lower}
-use Rattle.locus_ids.specs.Sizes.{sites_max}
-use Rattle.locus_ids.specs.declared.sites.Sites.{Sites}
+use Rattle.trace_book.specs.of_locus_ids.Sizes.{sites_max}
+use Rattle.trace_book.specs.of_locus_ids.declared.sites.Sites.{Sites}
 use Rattle.trace_book.specs.Text.{call_words, gap, number, sites_to}
 use Rattle.schedule_lines.specs.declared.header.HeaderLine.{HeaderLine}
 use Rattle.schedule_lines.specs.declared.header.HeaderLine.TheVariants as header

@@ -5,8 +5,8 @@ ghost use Rattle.trace_book.specs.Names.{is_name, is_name_byte};
 ghost use Rattle.schedule_lines.specs.Cluster.{has_packs, is_mount_name, is_mounted, is_settled, is_whole};
 ghost use Rattle.schedule_lines.specs.Ranges.{is_some_sites};
 
-use locus_ids::Config;
-use locus_ids::sizes::SITES;
+use trace_book::locus_ids::Config;
+use trace_book::locus_ids::sizes::SITES;
 
 /// A line has said which sites have packs of the group.
 pub(crate) fn has_packs(c: &Config, group: u8) -> bool

@@ -1,7 +1,7 @@
 use crate::cluster::{has_packs, is_mount_name, is_mounted, is_name, is_some_sites, is_whole};
-use locus_ids::sizes::SITES;
-use locus_ids::{Bytes, Config, Mount, Mounts, NoMemory, Sites};
 use std::alloc::Global;
+use trace_book::locus_ids::sizes::SITES;
+use trace_book::locus_ids::{Bytes, Config, Mount, Mounts, NoMemory, Sites};
 
 /// A line that says what the cluster is.
 #[derive(Drop)]

@@ -1,6 +1,6 @@
 use crate::HeaderLine;
-use locus_ids::SiteId;
 use trace_book::Call;
+use trace_book::locus_ids::SiteId;
 
 /// What a stop within a disk call leaves of the ranges that are not synced.
 #[derive(Clone, Copy, PartialEq, Eq)]

@@ -1,7 +1,7 @@
 -- What is printed of one list after another.
 use Rattle.std.specs.Prelude.{◌≡◌, List, [], ◌∷◌, ◌++◌}
 use Rattle.std.proofs.Common.{refl, ap}
-use Rattle.wire_messages.specs.of_trace_book.declared.record.Record.{Record}
+use Rattle.role_steps.specs.of_wire_messages.of_trace_book.declared.record.Record.{Record}
 use Rattle.role_steps.specs.Views.{Told, Shown, Promises, Takes, LooksAgain, Begins, Shuts, Reserves}
 use Rattle.site_frame.specs.Printed.{printed}
 

@@ -3,8 +3,8 @@ ghost use Rattle.role_steps.specs.Views.{is_member, first_site, members_of, pack
 
 use locus_ids::sizes::SITES;
 use locus_ids::{Config, EpochId, Members, NoMemory, SiteId, Sites};
+use role_steps::wire_messages::{Body, Outbox, Packet};
 use std::marker::Model;
-use wire_messages::{Body, Outbox, Packet};
 
 /// Where a role stands and under what name it sends: the cluster, the site with its boot number, and the epoch with its
 /// members. A site outside of all epochs has a frame without members.

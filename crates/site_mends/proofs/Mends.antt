@@ -24,7 +24,7 @@ use Rattle.site_packs.specs.Committing.{read_answer}
 use Rattle.site_packs.specs.Packs.{PacksState, Stand, groups_of}
 use Rattle.site_packs.specs.declared.faults.ReadFault.{ReadFault}
 use Rattle.site_packs.specs.declared.faults.ReadFault.TheVariants as read
-use Rattle.using_site.specs.Steps.{Gives}
+use Rattle.site_tables.specs.of_using_site.Steps.{Gives}
 use Rattle.site_tables.proofs.Giving.{gives_as, gives_then, gives_within}
 use Rattle.site_mends.specs.Mending.{IsCause, IsOffDisk, IsSeen, WasRead, fault_of_read, file_in}
 use Rattle.site_mends.specs.declared.fault.MendFault.{MendFault}

@@ -9,4 +9,6 @@ mod starting;
 mod wanting;
 
 pub use fault::MendFault;
+pub use site_tables;
+pub use site_tables::{css_core, using_site};
 pub use starting::start_mends;

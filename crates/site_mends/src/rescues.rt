@@ -16,12 +16,12 @@ ghost use Rattle.site_mends.specs.Scanning.{are_past};
 
 use crate::MendFault;
 use crate::scanning::{are_surely_past, behind_all_live};
-use css_core::Css;
 use dir_operations::dir_in;
 use dir_reconcile::{KeptVectors, rescue_wanted};
 use disk_model::Disk;
 use locus_ids::{Bytes, FileId, NoMemory, Stamp};
 use site_packs::SitePacks;
+use site_tables::css_core::Css;
 use site_tables::kept_vectors;
 use std::alloc::Global;
 

@@ -7,7 +7,7 @@ ghost use Rattle.site_frame.specs.of_role_steps.Tables.{first_that};
 ghost use Rattle.site_frame.specs.of_role_steps.Mends.{starts_mend, starts_mends_in, wants_mend};
 ghost use Rattle.site_frame.specs.of_role_steps.Versions.{file_row};
 ghost use Rattle.site_packs.specs.Packs.{Stand};
-ghost use Rattle.using_site.specs.Steps.{Gives};
+ghost use Rattle.site_tables.specs.of_using_site.Steps.{Gives};
 ghost use Rattle.site_tables.specs.Inodes.{AreInodes};
 ghost use Rattle.css_versions.specs.Lists.{found_first, found_rows};
 ghost use Rattle.site_mends.specs.declared.fault.MendFault.TheVariants.{Unfit};
@@ -15,14 +15,14 @@ ghost use Rattle.site_mends.specs.Mending.{file_in, IsSeen, WasRead};
 
 use crate::MendFault;
 use crate::wanting::{file_of, wants_mend};
-use css_core::Css;
 use css_versions::Listed;
 use disk_model::Disk;
 use locus_ids::FileId;
 use site_frame::SiteFrame;
 use site_packs::SitePacks;
+use site_tables::css_core::Css;
+use site_tables::using_site::UsingSite;
 use std::alloc::Global;
-use using_site::UsingSite;
 use wire_messages::Outbox;
 
 /// Starts a mend in each of these groups that wants one, ascending. `Unfit` comes only where a number in a table is no inode's.

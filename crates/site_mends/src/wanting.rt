@@ -9,13 +9,13 @@ ghost use Rattle.site_mends.specs.Mending.{IsSeen, WasRead};
 
 use crate::MendFault;
 use crate::rescues::wants_rescue;
-use css_core::Css;
 use css_versions::KnownFile;
 use disk_model::Disk;
 use locus_ids::{FileId, Kind};
 use site_packs::SitePacks;
+use site_tables::css_core::Css;
+use site_tables::using_site::UsingSite;
 use std::alloc::Global;
-use using_site::UsingSite;
 
 /// The name of a file of the group.
 pub(crate) fn file_of(table: &Css, file: &KnownFile) -> FileId

@@ -19,17 +19,17 @@ use Rattle.role_steps.specs.declared.synchronizing.SyncTable.{SyncTable}
 use Rattle.locus_ids.specs.declared.config.Config.{Config}
 use Rattle.site_packs.specs.Copies.{copies_on}
 use Rattle.site_packs.specs.Packs.{AreShown, PacksState, SamePlaces, Stand, groups_of}
-use Rattle.storage_site.specs.of_store_instances.Stores.{store_of}
+use Rattle.site_parts.specs.of_storage_site.of_store_instances.Stores.{store_of}
 use Rattle.the_run.specs.Steps.{adopts_in, adopts_of}
 use Rattle.propagation.specs.Choosing.{Choice, adopted_of, chooses, without_chosen, without_one}
 use Rattle.propagation.proofs.Choices.{adoption_chosen}
-use Rattle.site_tables.specs.Tables.{noting_own, noting_own_of}
+use Rattle.site_parts.specs.of_site_tables.Tables.{noting_own, noting_own_of}
 use Rattle.site_node.specs.Views.{view_of, Moves}
 use Rattle.site_node.specs.Adopting.{adopted_now, choice_at, is_above}
 use Rattle.site_node.specs.Writing.{EventWrites}
 use Rattle.site_parts.specs.declared.fault.NodeFault.{NodeFault}
 use Rattle.site_node.specs.declared.node.SiteNode.{SiteNode}
-use Rattle.site_tables.proofs.Giving.{gives_none, gives_as}
+use Rattle.site_parts.proofs.of_site_tables.Giving.{gives_none, gives_as}
 use Rattle.site_parts.proofs.Cuts.{copy_with}
 use Rattle.site_node.proofs.Moving.{same_places}
 

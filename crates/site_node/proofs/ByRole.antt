@@ -11,7 +11,7 @@ use Rattle.std.proofs.Common.{Option, None, Some}
 use Rattle.the_run.specs.Steps.{takes_inside, at_table, at_table_of, at_table_with, is_opened_in}
 use Rattle.role_steps.specs.Reports.{on_report, on_open, on_look, on_closed, on_have}
 use Rattle.role_steps.specs.Opens.{on_opened}
-use Rattle.site_tables.specs.Tables.{tables_at, tables_at_of, tables_with}
+use Rattle.site_parts.specs.of_site_tables.Tables.{tables_at, tables_at_of, tables_with}
 use Rattle.role_steps.specs.Views.{within}
 use Rattle.site_node.specs.Roles.{answered, role_takes, with_tables, without_report}
 use Rattle.site_parts.specs.Roles.{role_of}

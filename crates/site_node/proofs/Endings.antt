@@ -7,7 +7,7 @@ use Rattle.trace_book.specs.declared.record.Record.{Record}
 use Rattle.site_frame.specs.Printed.{printed}
 use Rattle.site_frame.proofs.Printing.{printed_append}
 use Rattle.role_steps.specs.Views.{SiteView, Outcome, quiet}
-use Rattle.using_site.specs.Steps.{Gives}
+use Rattle.site_parts.specs.of_using_site.Steps.{Gives}
 use Rattle.packet_order.specs.Orders.{behind, sorted_out}
 use Rattle.the_run.specs.Steps.{ended, in_order, tick_ended}
 use Rattle.site_node.specs.Repeats.{Adds}

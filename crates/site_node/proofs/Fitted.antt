@@ -10,7 +10,7 @@ use Rattle.stored_versions.specs.declared.new_version.NewVersion.{NewVersion}
 use Rattle.wire_messages.specs.Outboxes.{Outgoing}
 use Rattle.packet_order.specs.Counts.{FitsIfCounted}
 use Rattle.wire_messages.specs.declared.packet.Packet.{Packet}
-use Rattle.using_site.specs.Steps.{Gives}
+use Rattle.site_parts.specs.of_using_site.Steps.{Gives}
 use Rattle.role_steps.specs.Adoption.{is_ready}
 use Rattle.role_steps.specs.Epochs.{all_reports, frame_in, passes_over}
 use Rattle.role_steps.specs.Pulling.{pull_key, pull_repeats}

@@ -13,14 +13,14 @@ use Rattle.role_steps.specs.Epochs.{all_reports, decides, frame_in, installs_all
 use Rattle.role_steps.specs.declared.rounds.InEpoch.{InEpoch}
 use Rattle.role_steps.specs.declared.synchronizing.SyncTable.{SyncTable}
 use Rattle.site_packs.specs.Packs.{AreShown}
-use Rattle.using_site.specs.Steps.{Gives}
+use Rattle.site_parts.specs.of_using_site.Steps.{Gives}
 use Rattle.merge_protocol.specs.Parts.{EpochPart, epoch_part, with_part, alone, decision, install_answer, passed_part, passed_round}
 use Rattle.merge_protocol.specs.Laws.{answered_by, decided_by, passes_by, takes_install_by}
 use Rattle.merge_protocol.specs.declared.joining.InstallAnswer.{InstallAnswer}
 use Rattle.merge_protocol.specs.declared.joining.InstallAnswer.TheVariants as install
 use Rattle.site_node.specs.Views.{view_of, Works}
 use Rattle.site_node.specs.declared.node.SiteNode.{SiteNode}
-use Rattle.site_tables.proofs.Giving.{gives_none, gives_as}
+use Rattle.site_parts.proofs.of_site_tables.Giving.{gives_none, gives_as}
 use Rattle.site_node.proofs.Moving.{works_then}
 
 abbrev with_all : SiteNode → Frame → EpochPart → List SyncTable → SiteNode

@@ -6,7 +6,7 @@ use Rattle.site_frame.specs.Printed.{printed}
 use Rattle.role_steps.specs.Views.{SiteView, Users, Outcome}
 use Rattle.role_steps.specs.Epochs.{with_users}
 use Rattle.role_steps.specs.Using.{users_leave}
-use Rattle.using_site.specs.Steps.{Gives}
+use Rattle.site_parts.specs.of_using_site.Steps.{Gives}
 use Rattle.merge_protocol.specs.Parts.{EpochPart, dropped, epoch_part, with_part, alone, rest_leaves}
 use Rattle.merge_protocol.specs.Laws.{LeavesBy}
 use Rattle.site_node.specs.Views.{view_of, Works}

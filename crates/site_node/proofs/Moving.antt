@@ -5,7 +5,7 @@ use Rattle.disk_model.specs.Disk.{Moment}
 use Rattle.wire_messages.specs.Outboxes.{Outgoing}
 use Rattle.role_steps.specs.Views.{SiteView, Outcome, quiet, and_then}
 use Rattle.site_packs.specs.Packs.{PacksState, AreShown, Stand, SamePlaces, groups_of}
-use Rattle.site_tables.proofs.Giving.{gives_none, gives_as, gives_then}
+use Rattle.site_parts.proofs.of_site_tables.Giving.{gives_none, gives_as, gives_then}
 use Rattle.site_node.specs.Views.{view_of, Moves, Works}
 use Rattle.site_node.specs.declared.node.SiteNode.{SiteNode}
 

@@ -21,9 +21,9 @@ use Rattle.role_steps.specs.Views.{Users, Outcome, joined_to, tells}
 use Rattle.role_steps.specs.Requests.{descriptors_of}
 use Rattle.role_steps.specs.Using.{accepted, accept_record, asks_want, frees, goes_on, is_packed, on_call, own_call}
 use Rattle.role_steps.specs.declared.rounds.InEpoch.{InEpoch}
-use Rattle.site_tables.proofs.Giving.{gives_as, gives_within}
+use Rattle.site_parts.proofs.of_site_tables.Giving.{gives_as, gives_within}
 use Rattle.the_run.specs.Steps.{call_frame, epoch_id, takes_call}
-use Rattle.using_site.specs.Steps.{Gives}
+use Rattle.site_parts.specs.of_using_site.Steps.{Gives}
 use Rattle.wire_messages.specs.Outboxes.{Outgoing}
 use Rattle.site_parts.specs.Framing.{calling, outside}
 use Rattle.site_node.specs.Views.{view_of, Works}

@@ -23,9 +23,9 @@ use Rattle.role_steps.specs.declared.synchronizing.SyncTable.{SyncTable}
 use Rattle.site_packs.specs.Packs.{AreShown, PacksState, Stand, SamePlaces, copy_at}
 use Rattle.site_frame.specs.Printed.{printed}
 use Rattle.the_run.specs.Steps.{with_pulls}
-use Rattle.storage_site.specs.of_store_instances.Stores.{store_of}
-use Rattle.storage_site.specs.of_store_instances.Stores.{Gives as StoreGives}
-use Rattle.using_site.specs.Steps.{Gives}
+use Rattle.site_parts.specs.of_storage_site.of_store_instances.Stores.{store_of}
+use Rattle.site_parts.specs.of_storage_site.of_store_instances.Stores.{Gives as StoreGives}
+use Rattle.site_parts.specs.of_using_site.Steps.{Gives}
 use Rattle.role_steps.specs.Mends.{kept_stamps}
 use Rattle.wire_messages.specs.declared.body.Body.{Body}
 use Rattle.wire_messages.specs.declared.body.Body.TheVariants as body
@@ -41,7 +41,7 @@ use Rattle.site_parts.specs.declared.fault.NodeFault.{NodeFault}
 use Rattle.std.specs.Prelude.{Result, Ok, Err, OnOk}
 use Rattle.site_node.specs.Views.{view_of, Moves, Works}
 use Rattle.site_node.specs.declared.node.SiteNode.{SiteNode}
-use Rattle.site_tables.proofs.Giving.{gives_within}
+use Rattle.site_parts.proofs.of_site_tables.Giving.{gives_within}
 
 pub users_work : (o : SiteView → Outcome Users) (old : SiteNode) (users : Users) (a b : Outgoing) → ((image : List ℕ) → Gives (o (view_of old image)) users a b) → Works (λ v. within (with_users v) (o v)) old (record old { users = users }) a b
 users_work o old users a b g = record { gives = λ image h. gives_within (with_users (view_of old image)) (o (view_of old image)) users a b (g image); packs = refl; config = refl; me = refl }

@@ -11,7 +11,7 @@ use Rattle.role_steps.specs.Views.{SiteView, Outcome, Receives, quiet}
 use Rattle.packet_order.specs.Orders.{behind, sorted_out}
 use Rattle.site_packs.specs.Packs.{Stand}
 use Rattle.the_run.specs.Steps.{adopts_in, ends_event, is_dropped, takes, tries_at, whole}
-use Rattle.site_tables.proofs.Giving.{gives_none, gives_as}
+use Rattle.site_parts.proofs.of_site_tables.Giving.{gives_none, gives_as}
 use Rattle.site_node.specs.Taking.{is_tried, taken}
 use Rattle.site_node.specs.Views.{view_of, Moves, steps_at}
 use Rattle.site_node.specs.declared.node.SiteNode.{SiteNode}

@@ -10,8 +10,8 @@ use Rattle.role_steps.specs.declared.rounds.InEpoch.{InEpoch}
 use Rattle.site_packs.specs.Packs.{Stand}
 use Rattle.site_parts.specs.of_site_mends.Mending.{IsSeen}
 use Rattle.the_run.specs.Steps.{starts_mends_of}
-use Rattle.using_site.specs.Steps.{Gives}
-use Rattle.site_tables.proofs.Giving.{gives_none, gives_as}
+use Rattle.site_parts.specs.of_using_site.Steps.{Gives}
+use Rattle.site_parts.proofs.of_site_tables.Giving.{gives_none, gives_as}
 use Rattle.site_node.specs.Mending.{mends_at}
 use Rattle.site_node.specs.Views.{view_of, Moves}
 use Rattle.site_node.specs.declared.node.SiteNode.{SiteNode}

@@ -15,7 +15,7 @@ use Rattle.role_steps.specs.Epochs.{frame_in}
 use Rattle.role_steps.specs.declared.rounds.InEpoch.{InEpoch}
 use Rattle.site_packs.specs.Packs.{Stand}
 use Rattle.the_run.specs.Steps.{takes, takes_framed, takes_inside}
-use Rattle.site_tables.proofs.Giving.{gives_none, gives_as}
+use Rattle.site_parts.proofs.of_site_tables.Giving.{gives_none, gives_as}
 use Rattle.std.specs.Prelude.{Result, Ok, Err, IfErr}
 use Rattle.site_parts.specs.declared.fault.NodeFault.{NodeFault}
 use Rattle.site_parts.specs.declared.fault.NodeFault.TheVariants.{NoNumber}

@@ -16,7 +16,7 @@ use Rattle.role_steps.specs.Views.{Frame, Outcome, Receives, SiteView, Ticks}
 use Rattle.role_steps.specs.declared.pulls.Pull.{Pull}
 use Rattle.role_steps.specs.declared.rounds.InEpoch.{InEpoch}
 use Rattle.the_run.specs.Steps.{adopts_in, ends_event, in_order, is_dropped, repeats, step, tries_at}
-use Rattle.using_site.specs.Steps.{Gives}
+use Rattle.site_parts.specs.of_using_site.Steps.{Gives}
 use Rattle.site_packs.specs.Committing.{IsWholeFit, room}
 use Rattle.site_packs.specs.Packs.{groups_of}
 use Rattle.site_node.specs.Adopting.{choice_at, is_above}

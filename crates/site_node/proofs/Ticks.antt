@@ -13,7 +13,7 @@ use Rattle.merge_protocol.specs.Parts.{alone}
 use Rattle.site_packs.specs.Packs.{AreShown}
 use Rattle.packet_order.specs.Orders.{behind, sorted_out}
 use Rattle.the_run.specs.Steps.{adopts_in, ends_event, in_order, repeats, repeats_inside, repeats_of}
-use Rattle.using_site.specs.Steps.{Gives}
+use Rattle.site_parts.specs.of_using_site.Steps.{Gives}
 use Rattle.site_node.specs.Repeats.{Adds, Repeats, forming_repeats, installs_again}
 use Rattle.site_node.specs.Views.{view_of, Moves, steps_at}
 use Rattle.site_node.specs.declared.node.SiteNode.{SiteNode}

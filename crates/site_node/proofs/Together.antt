@@ -27,7 +27,7 @@ use Rattle.site_packs.specs.Copies.{copies_on}
 use Rattle.site_packs.specs.Cutting.{IsCut, both_open_on}
 use Rattle.site_packs.specs.Mounting.{AreSound}
 use Rattle.site_packs.specs.Packs.{PacksState, SamePlaces, groups_of}
-use Rattle.storage_site.specs.of_store_instances.Writes.{LeavesEver, MayLeave, blocks_in, calls_in}
+use Rattle.site_parts.specs.of_storage_site.of_store_instances.Writes.{LeavesEver, MayLeave, blocks_in, calls_in}
 use Rattle.site_parts.specs.declared.fault.NodeFault.{NodeFault}
 use Rattle.site_parts.specs.declared.fault.NodeFault.TheVariants.{NoMemory, Cut, NoNumber}
 use Rattle.site_node.specs.Writing.{EventWrites, IsCutIn, replaces}

@@ -8,7 +8,7 @@ use Rattle.role_steps.specs.declared.pulls.Pull.{Pull}
 use Rattle.wire_messages.specs.declared.body.Body.TheVariants as body
 use Rattle.keyed_tables.specs.Rising.{Rising}
 use Rattle.propagation.specs.Choosing.{Choice, chooses}
-use Rattle.site_tables.specs.Tables.{noting_own}
+use Rattle.site_parts.specs.of_site_tables.Tables.{noting_own}
 use Rattle.site_node.specs.declared.choosing.Fate.{Fate}
 use Rattle.site_node.specs.declared.choosing.Fate.TheVariants as fate
 use Rattle.site_node.specs.declared.choosing.PullSeen.{PullSeen}

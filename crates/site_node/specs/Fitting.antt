@@ -20,7 +20,7 @@ use Rattle.role_steps.specs.declared.synchronizing.SyncTable.{SyncTable}
 use Rattle.the_run.specs.Kept.{Among}
 use Rattle.the_run.specs.Steps.{adopts_in, is_dropped, step, takes, takes_call, tries_at}
 use Rattle.site_packs.specs.Packs.{has_group}
-use Rattle.site_tables.specs.Inodes.{AreInodes}
+use Rattle.site_parts.specs.of_site_tables.Inodes.{AreInodes}
 use Rattle.site_parts.specs.Fitting.{CanTakeAtStore}
 use Rattle.site_parts.specs.Roles.{mending_by}
 use Rattle.site_node.specs.Taking.{IsSpent, is_tried}

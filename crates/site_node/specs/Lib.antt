@@ -10,6 +10,6 @@ pub use Rattle.packet_order.specs as of_packet_order
 pub use Rattle.site_frame.specs as of_site_frame
 pub use Rattle.site_packs.specs as of_site_packs
 pub use Rattle.site_parts.specs as of_site_parts
-pub use Rattle.site_tables.specs as of_site_tables
-pub use Rattle.storage_site.specs as of_storage_site
-pub use Rattle.storage_site.specs.of_store_instances as of_store_instances
+pub use Rattle.site_parts.specs.of_site_tables as of_site_tables
+pub use Rattle.site_parts.specs.of_storage_site as of_storage_site
+pub use Rattle.site_parts.specs.of_storage_site.of_store_instances as of_store_instances

@@ -18,7 +18,7 @@ use Rattle.role_steps.specs.declared.pulls.Pull.{Pull}
 use Rattle.role_steps.specs.declared.synchronizing.SyncTable.{SyncTable}
 use Rattle.the_run.specs.Steps.{with_pulls}
 use Rattle.merge_protocol.specs.Parts.{EpochPart}
-use Rattle.site_tables.specs.Tables.{tables_take}
+use Rattle.site_parts.specs.of_site_tables.Tables.{tables_take}
 use Rattle.site_parts.specs.Roles.{mending_by, store_take}
 use Rattle.site_parts.specs.declared.roles.Role.{Role}
 use Rattle.site_parts.specs.declared.roles.Role.TheVariants as role

@@ -5,8 +5,8 @@ use Rattle.disk_model.specs.Disk.{Moment}
 use Rattle.wire_messages.specs.Outboxes.{Outgoing}
 use Rattle.role_steps.specs.Views.{SiteView, Outcome, Event}
 use Rattle.site_packs.specs.Packs.{AreShown, Stand, SamePlaces}
-use Rattle.storage_site.specs.of_store_instances.Stores.{store_of}
-use Rattle.using_site.specs.Steps.{Gives}
+use Rattle.site_parts.specs.of_storage_site.of_store_instances.Stores.{store_of}
+use Rattle.site_parts.specs.of_using_site.Steps.{Gives}
 use Rattle.the_run.specs.Steps.{step}
 use Rattle.site_node.specs.declared.node.SiteNode.{SiteNode}
 

@@ -15,8 +15,8 @@ use crate::SiteNode;
 use disk_model::Disk;
 use role_steps::Pull;
 use site_packs::NewVersion;
+use site_parts::site_tables::notes_own;
 use site_parts::{NodeFault, enter};
-use site_tables::notes_own;
 use trace_book::Record;
 use wire_messages::{Body, Outbox};
 

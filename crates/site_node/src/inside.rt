@@ -14,8 +14,8 @@ ghost use Rattle.site_parts.specs.declared.roles.Role.TheVariants as role;
 use crate::SiteNode;
 use disk_model::Disk;
 use locus_ids::{NoMemory, SiteId};
+use site_parts::site_tables::take;
 use site_parts::{NodeFault, Role, role_of, take_at_store};
-use site_tables::take;
 use wire_messages::{Body, Outbox};
 
 impl SiteNode {

@@ -8,8 +8,8 @@ use crate::SiteNode;
 use locus_ids::{Links, NoMemory};
 use merge_protocol::passing_by_parts;
 use role_steps::InEpoch;
+use site_parts::site_tables::start_tables;
 use site_parts::{enter, join_epoch, report_groups};
-use site_tables::start_tables;
 use wire_messages::Outbox;
 
 impl SiteNode {

@@ -9,7 +9,6 @@ ghost use Rattle.the_run.specs.Steps.{is_dropped};
 ghost use Rattle.the_run.specs.Worlds.{fresh};
 ghost use Rattle.site_node.specs.Views.{view_of};
 
-use css_core::Css;
 use keyed_tables::SortedTable;
 use locus_ids::sizes::SITES;
 use locus_ids::{Config, EpochId, Members, SiteId};
@@ -18,9 +17,10 @@ use packet_order::is_dropped;
 use propagation::Puller;
 use site_frame::SiteFrame;
 use site_packs::SitePacks;
+use site_parts::css_core::Css;
+use site_parts::storage_site::Store;
+use site_parts::using_site::UsingSite;
 use std::alloc::Global;
-use storage_site::Store;
-use using_site::UsingSite;
 use wire_messages::Packet;
 
 /// A site that runs, with its packs mounted.

@@ -18,7 +18,7 @@ use locus_ids::NoMemory;
 use packet_order::{Dispatch, OrderFault};
 use role_steps::InEpoch;
 use site_parts::enter;
-use site_tables::repeat_notices;
+use site_parts::site_tables::repeat_notices;
 use wire_messages::Outbox;
 
 impl SiteNode {

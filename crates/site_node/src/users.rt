@@ -10,8 +10,8 @@ ghost use Rattle.site_parts.specs.declared.roles.Role.TheVariants as role;
 
 use crate::SiteNode;
 use locus_ids::{EpochId, FileId, NoMemory, SiteId, Stamps};
+use site_parts::site_tables::stamps_kept;
 use site_parts::{enter, stay_outside};
-use site_tables::stamps_kept;
 use trace_book::Call;
 use wire_messages::{Body, Granted, Outbox};
 

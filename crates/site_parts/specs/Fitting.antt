@@ -12,7 +12,7 @@ use Rattle.role_steps.specs.Tables.{row}
 use Rattle.role_steps.specs.Views.{Frame, Store}
 use Rattle.role_steps.specs.declared.synchronizing.SyncTable.{SyncTable}
 use Rattle.run_laws.specs.of_the_run.Steps.{from_user, group_of}
-use Rattle.site_tables.specs.Inodes.{AreInodes}
+use Rattle.site_mends.specs.of_site_tables.Inodes.{AreInodes}
 use Rattle.storage_site.specs.Fitting.{CanCloseAt, CanOpen, CanOperateAt}
 
 abbrev pub AreInodesOf : Option SyncTable → Type 0

@@ -14,5 +14,6 @@ pub use fault::NodeFault;
 pub use framing::{enter, stay_outside};
 pub use reporting::{join_epoch, report_groups};
 pub use roles::{Role, role_of};
-pub use site_mends::start_mends;
+pub use site_mends::{css_core, site_tables, start_mends, using_site};
+pub use storage_site;
 pub use storing::take_at_store;

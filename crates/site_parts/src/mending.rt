@@ -14,16 +14,16 @@ ghost use Rattle.site_parts.specs.Roles.{mending_by};
 ghost use Rattle.site_parts.specs.declared.fault.NodeFault.TheVariants.{Unfit};
 
 use crate::NodeFault;
-use css_core::Css;
 use dir_reconcile::KeptVectors;
 use keyed_tables::SortedTable;
 use locus_ids::{Bytes, ItemList, NoMemory, Serial};
 use operation_effects::MendingWork;
-use site_tables::kept_vectors;
+use site_mends::css_core::Css;
+use site_mends::site_tables::kept_vectors;
+use site_mends::using_site::UsingSite;
 use std::alloc::Global;
 use storage_site::Store;
 use trace_book::Op;
-use using_site::UsingSite;
 
 /// What an operation works on that is a mend; anything for another one.
 pub(crate) fn work_for(

@@ -14,18 +14,18 @@ ghost use Rattle.site_parts.specs.declared.fault.NodeFault.TheVariants.{NoNumber
 
 use crate::NodeFault;
 use crate::mending::work_for;
-use css_core::Css;
 use disk_model::Disk;
 use keyed_tables::SortedTable;
 use locus_ids::sizes::SITES;
 use locus_ids::{FileId, Serial, SiteId, Stamp};
 use operation_effects::MendingWork;
 use site_frame::SiteFrame;
+use site_mends::css_core::Css;
+use site_mends::using_site::UsingSite;
 use site_packs::SitePacks;
 use std::alloc::Global;
 use storage_site::{LookRequest, Store, StoreFault, StoreRequest};
 use trace_book::Op;
-use using_site::UsingSite;
 use version_vector::Vector;
 use wire_messages::{Body, Outbox};
 

@@ -10,6 +10,8 @@ mod starting;
 mod taking;
 
 pub use at_group::notes_own;
+pub use css_core;
 pub use kept::{kept_vectors, stamps_kept};
 pub use starting::start_tables;
 pub use taking::{repeat_notices, take};
+pub use using_site;

@@ -32,16 +32,16 @@ use Rattle.row_laws.proofs.ByLine.{every_line}
 use Rattle.row_laws.proofs.Causes.{comes_own, sent_polls}
 use Rattle.row_laws.proofs.Fitting.{schedule_fits}
 use Rattle.row_laws.proofs.StepForms.{step_forms}
-use Rattle.rest_laws.specs.of_one_tree_laws.Rest.{IsRest, Past}
-use Rattle.rest_laws.specs.of_one_tree_laws.Roles.{EventFact, RolesDo}
-use Rattle.rest_laws.proofs.Packs.{schedule_packs}
-use Rattle.rest_laws.proofs.Resting.{run_low, run_rests}
-use Rattle.rest_laws.proofs.Roles.{roles_do}
-use Rattle.rest_laws.proofs.StoreStepFirst.{four_groups}
-use Rattle.rest_laws.proofs.of_one_tree_laws.Cuts.{step_writes}
-use Rattle.rest_laws.proofs.of_one_tree_laws.Run.{kept, first_holds, event_fact, sent_fact}
-use Rattle.rest_laws.proofs.of_one_tree_laws.Staying.{stays}
-use Rattle.rest_laws.proofs.of_one_tree_laws.Worlds.{Holds}
+use Rattle.whole_run_laws.specs.of_rest_laws.of_one_tree_laws.Rest.{IsRest, Past}
+use Rattle.whole_run_laws.specs.of_rest_laws.of_one_tree_laws.Roles.{EventFact, RolesDo}
+use Rattle.whole_run_laws.proofs.of_rest_laws.Packs.{schedule_packs}
+use Rattle.whole_run_laws.proofs.of_rest_laws.Resting.{run_low, run_rests}
+use Rattle.whole_run_laws.proofs.of_rest_laws.Roles.{roles_do}
+use Rattle.whole_run_laws.proofs.of_rest_laws.StoreStepFirst.{four_groups}
+use Rattle.whole_run_laws.proofs.of_rest_laws.of_one_tree_laws.Cuts.{step_writes}
+use Rattle.whole_run_laws.proofs.of_rest_laws.of_one_tree_laws.Run.{kept, first_holds, event_fact, sent_fact}
+use Rattle.whole_run_laws.proofs.of_rest_laws.of_one_tree_laws.Staying.{stays}
+use Rattle.whole_run_laws.proofs.of_rest_laws.of_one_tree_laws.Worlds.{Holds}
 use Rattle.whole_run_laws.proofs.CutEvents.{Counts, still_counts, asked_counts, boot_counts_as, acts_counts}
 use Rattle.whole_run_laws.proofs.CutShaped.{step_writes_first}
 use Rattle.whole_run_laws.proofs.CutTraced.{LeavesDisks, quiet_leaves, void_leaves, gives_leaves}

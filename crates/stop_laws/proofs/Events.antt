@@ -30,11 +30,11 @@ use Rattle.row_laws.specs.Events.{Causes, SiteTold}
 use Rattle.row_laws.specs.Arms.{NoDisk}
 use Rattle.row_laws.proofs.ArmsTraced.{no_disks}
 use Rattle.row_laws.proofs.Versions.{VersionOf, version_of, a_version}
-use Rattle.rest_laws.specs.of_one_tree_laws.Places.{SiteIn, WorldFact}
-use Rattle.rest_laws.specs.of_one_tree_laws.Rest.{IsRest, Past}
-use Rattle.rest_laws.proofs.of_one_tree_laws.Composing.{rest_before}
-use Rattle.rest_laws.proofs.of_one_tree_laws.Worlds.{Holds}
-use Rattle.rest_laws.proofs.Shown.{shown_entries}
+use Rattle.whole_run_laws.specs.of_rest_laws.of_one_tree_laws.Places.{SiteIn, WorldFact}
+use Rattle.whole_run_laws.specs.of_rest_laws.of_one_tree_laws.Rest.{IsRest, Past}
+use Rattle.whole_run_laws.proofs.of_rest_laws.of_one_tree_laws.Composing.{rest_before}
+use Rattle.whole_run_laws.proofs.of_rest_laws.of_one_tree_laws.Worlds.{Holds}
+use Rattle.whole_run_laws.proofs.of_rest_laws.Shown.{shown_entries}
 use Rattle.whole_run_laws.specs.CutCounts.{CountsAt, CountsAreTheRuns}
 use Rattle.whole_run_laws.proofs.CutEvents.{Counts}
 use Rattle.whole_run_laws.proofs.CutShaped.{DiskFirst}

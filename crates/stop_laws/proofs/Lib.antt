@@ -12,3 +12,4 @@ pub mod Bounds
 pub mod Sampled
 pub mod Lawful
 pub mod Early
+pub use Rattle.whole_run_laws.proofs.of_rest_laws as of_rest_laws

@@ -21,7 +21,7 @@ use Rattle.lawful_trace.specs.Prompt.{stands_at}
 use Rattle.row_laws.specs.ByLine.{Delivers, Gives}
 use Rattle.row_laws.proofs.Versions.{VersionOf}
 use Rattle.tree_laws.specs.Doing.{WrittenFact}
-use Rattle.rest_laws.proofs.of_one_tree_laws.Cuts.{leaves_none, begins_none, part_none}
+use Rattle.whole_run_laws.proofs.of_rest_laws.of_one_tree_laws.Cuts.{leaves_none, begins_none, part_none}
 
 -- ---- what is written, part by part ----
 

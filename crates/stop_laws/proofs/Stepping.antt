@@ -28,13 +28,13 @@ use Rattle.run_laws.proofs.Telling.{on_open_ss_talks, on_closed_ok_talks, on_not
 use Rattle.vector_laws.proofs.SiteDisks.{ends_keeps}
 use Rattle.tree_laws.specs.Doing.{IsReceived}
 use Rattle.tree_laws.specs.Packets.{BodyFact, CloseFact, OpFact, PacketFact}
-use Rattle.rest_laws.specs.of_one_tree_laws.Places.{InsideFact, SiteFact, SiteIn}
-use Rattle.rest_laws.specs.of_one_tree_laws.Rest.{AllRest, Past}
-use Rattle.rest_laws.specs.of_one_tree_laws.Roles.{EventFact, RolesDo}
-use Rattle.rest_laws.proofs.of_one_tree_laws.of_lock_laws.StepFacts.{SiteSilent, notify_silent, page_silent, framed_notify}
-use Rattle.rest_laws.proofs.of_one_tree_laws.Cuts.{leaves_none, begins_none, part_none, poll_none, promise_none, refuse_none, install_none}
-use Rattle.rest_laws.proofs.of_one_tree_laws.Steps.{framed, to_boot}
-use Rattle.rest_laws.proofs.of_one_tree_laws.Taken.{taken_boot, taken_epoch}
+use Rattle.whole_run_laws.specs.of_rest_laws.of_one_tree_laws.Places.{InsideFact, SiteFact, SiteIn}
+use Rattle.whole_run_laws.specs.of_rest_laws.of_one_tree_laws.Rest.{AllRest, Past}
+use Rattle.whole_run_laws.specs.of_rest_laws.of_one_tree_laws.Roles.{EventFact, RolesDo}
+use Rattle.whole_run_laws.proofs.of_rest_laws.of_one_tree_laws.of_lock_laws.StepFacts.{SiteSilent, notify_silent, page_silent, framed_notify}
+use Rattle.whole_run_laws.proofs.of_rest_laws.of_one_tree_laws.Cuts.{leaves_none, begins_none, part_none, poll_none, promise_none, refuse_none, install_none}
+use Rattle.whole_run_laws.proofs.of_rest_laws.of_one_tree_laws.Steps.{framed, to_boot}
+use Rattle.whole_run_laws.proofs.of_rest_laws.of_one_tree_laws.Taken.{taken_boot, taken_epoch}
 use Rattle.stop_laws.proofs.Writing.{Could, CouldTell, close_could, op_could, adopts_could}
 use Rattle.stop_laws.proofs.Placed.{none_fact, first_fact, whole_fact, still_fact}
 

@@ -49,22 +49,22 @@ use Rattle.tree_laws.specs.Printed.{entries}
 use Rattle.tree_laws.specs.Stores.{InstanceFact, PullFact, RunsAs, StageFact, WorksAs}
 use Rattle.tree_laws.proofs.Grants.{open_named}
 use Rattle.tree_laws.proofs.Hearing.{asks_next}
-use Rattle.rest_laws.specs.of_one_tree_laws.Places.{InsideFact}
-use Rattle.rest_laws.specs.of_one_tree_laws.Rest.{Past}
-use Rattle.rest_laws.specs.of_store_laws.Rests.{AdoptRests, StoreRests}
-use Rattle.rest_laws.proofs.of_holding_laws.Released.{released_named}
-use Rattle.rest_laws.proofs.of_store_laws.Adopting.{may_adopt}
-use Rattle.rest_laws.proofs.of_store_laws.AnswerDone.{done_named}
-use Rattle.rest_laws.proofs.of_store_laws.Closes.{found_instance}
-use Rattle.rest_laws.proofs.of_store_laws.Commits.{committing_is, may_commit}
-use Rattle.rest_laws.proofs.of_store_laws.Places.{instance_granted}
-use Rattle.rest_laws.proofs.of_store_laws.Tabled.{row_among}
-use Rattle.rest_laws.proofs.of_one_tree_laws.ToldVectorTelling.{vectors_tell_newer}
+use Rattle.whole_run_laws.specs.of_rest_laws.of_one_tree_laws.Places.{InsideFact}
+use Rattle.whole_run_laws.specs.of_rest_laws.of_one_tree_laws.Rest.{Past}
+use Rattle.whole_run_laws.specs.of_rest_laws.of_store_laws.Rests.{AdoptRests, StoreRests}
+use Rattle.whole_run_laws.proofs.of_rest_laws.of_holding_laws.Released.{released_named}
+use Rattle.whole_run_laws.proofs.of_rest_laws.of_store_laws.Adopting.{may_adopt}
+use Rattle.whole_run_laws.proofs.of_rest_laws.of_store_laws.AnswerDone.{done_named}
+use Rattle.whole_run_laws.proofs.of_rest_laws.of_store_laws.Closes.{found_instance}
+use Rattle.whole_run_laws.proofs.of_rest_laws.of_store_laws.Commits.{committing_is, may_commit}
+use Rattle.whole_run_laws.proofs.of_rest_laws.of_store_laws.Places.{instance_granted}
+use Rattle.whole_run_laws.proofs.of_rest_laws.of_store_laws.Tabled.{row_among}
+use Rattle.whole_run_laws.proofs.of_rest_laws.of_one_tree_laws.ToldVectorTelling.{vectors_tell_newer}
 use Rattle.order_laws.proofs.Standing.{same_file_eq}
-use Rattle.rest_laws.proofs.AdoptionShut.{shut_here}
-use Rattle.rest_laws.proofs.StoreStepNamed.{named_low}
-use Rattle.rest_laws.proofs.StoreStepResting.{op_rests, store_rests}
-use Rattle.rest_laws.proofs.StoreStepWriting.{may_write}
+use Rattle.whole_run_laws.proofs.of_rest_laws.AdoptionShut.{shut_here}
+use Rattle.whole_run_laws.proofs.of_rest_laws.StoreStepNamed.{named_low}
+use Rattle.whole_run_laws.proofs.of_rest_laws.StoreStepResting.{op_rests, store_rests}
+use Rattle.whole_run_laws.proofs.of_rest_laws.StoreStepWriting.{may_write}
 use Rattle.stop_laws.specs.Stops.{IsUnderway}
 
 -- what is written is underway by the trace, and its record would tell which pages are written, and of how many

@@ -16,7 +16,7 @@ use Rattle.role_steps.specs.Views.{Frame, Store, Outcome, Told, Begins, Reserves
 use Rattle.role_steps.specs.Storage.{StoreRequest, base_of, begins, begun_instance, content_of, copy_of, instance_key, is_making, is_open, is_open_in, on_open_ss, on_open_ss_of, opened_packets, opens, opens_made, own_ino, reported}
 use Rattle.role_steps.specs.declared.copies.FileCopy.{FileCopy}
 use Rattle.role_steps.specs.declared.instances.Instance.{Instance}
-use Rattle.site_packs.specs.Packs.{PacksState, copy_at}
+use Rattle.store_instances.specs.of_site_packs.Packs.{PacksState, copy_at}
 use Rattle.store_instances.specs.Stores.{Gives, base_by, begun_with, is_make, store_of}
 use Rattle.storage_site.specs.Serving.{made_ino, no_inode_packets}
 use Rattle.site_frame.specs.Printed.{printed}

@@ -9,7 +9,7 @@ use Rattle.role_steps.specs.Storage.{instance_key, is_open}
 use Rattle.role_steps.specs.declared.instances.Instance.{Instance}
 use Rattle.keyed_tables.specs.Places.{place_of}
 use Rattle.keyed_tables.proofs.Placed.{found_latest, put_latest, keys_latest}
-use Rattle.site_packs.specs.Packs.{PacksState}
+use Rattle.store_instances.specs.of_site_packs.Packs.{PacksState}
 use Rattle.store_instances.specs.Stores.{Gives, IsRow, RowGives, store_of}
 use Rattle.storage_site.specs.Standing.{open_from}
 use Rattle.storage_site.proofs.Standing.{open_ended, open_same, without_place}

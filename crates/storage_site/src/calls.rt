@@ -4,7 +4,7 @@ ghost use Rattle.std.specs.Prelude.{◌≡◌, ◌<◌, ℕ, List, length, slice
 ghost use Rattle.role_steps.specs.Storage.{free_pages, on_close, on_closed_ok};
 ghost use Rattle.role_steps.specs.Operations.{on_op};
 ghost use Rattle.role_steps.specs.declared.instances.Instance.{Instance};
-ghost use Rattle.site_packs.specs.Packs.{AreShown, PacksState, SamePlaces, Stand, groups_of};
+ghost use Rattle.store_instances.specs.of_site_packs.Packs.{AreShown, PacksState, SamePlaces, Stand, groups_of};
 ghost use Rattle.store_instances.specs.Stores.{Gives, store_of};
 ghost use Rattle.store_instances.specs.Writes.{Writes};
 ghost use Rattle.storage_site.specs.Fitting.{CanCloseAt, CanOperateAt};
@@ -17,8 +17,8 @@ use locus_ids::sizes::SITES;
 use locus_ids::{NoMemory, Serial};
 use operation_effects::MendingWork;
 use site_frame::SiteFrame;
-use site_packs::SitePacks;
 use store_instances::StoreFault;
+use store_instances::site_packs::SitePacks;
 use trace_book::Op;
 use version_vector::Vector;
 use wire_messages::Outbox;

@@ -6,7 +6,7 @@ ghost use Rattle.std.specs.Option.{is_some};
 ghost use Rattle.role_steps.specs.Tables.{row, with_latest};
 ghost use Rattle.role_steps.specs.Views.{serial_key};
 ghost use Rattle.role_steps.specs.Storage.{instance_key, is_open, on_open_ss, opened_packets, opens};
-ghost use Rattle.site_packs.specs.Packs.{Stand};
+ghost use Rattle.store_instances.specs.of_site_packs.Packs.{Stand};
 ghost use Rattle.store_instances.specs.Stores.{Gives, base_by, is_make, store_of};
 ghost use Rattle.store_instances.specs.Writes.{Reads};
 ghost use Rattle.storage_site.specs.Fitting.{CanOpen};
@@ -19,8 +19,8 @@ use keyed_tables::serial_key;
 use locus_ids::{Bytes, FileId, ItemList, Mode, NoMemory, Refusal, SiteId, Stamp};
 use operation_effects::WorkingContent;
 use site_frame::SiteFrame;
-use site_packs::SitePacks;
 use std::alloc::Global;
+use store_instances::site_packs::SitePacks;
 use store_instances::{StoreFault, StoreInstance, StoreRequest};
 use wire_messages::{Body, OpenedAs, Outbox, ReportedCopy};
 

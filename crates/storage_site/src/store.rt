@@ -2,16 +2,16 @@ ghost use Rattle.std.specs.Prelude.{◌≡◌, ◌++◌, ◌∷◌, ◌-◌, ◌
 ghost use Rattle.std.specs.List.{list_any};
 ghost use Rattle.role_steps.specs.Tables.{row, total, with_latest};
 ghost use Rattle.role_steps.specs.Storage.{free_pages, instance_key, is_open, is_open_of};
-ghost use Rattle.site_packs.specs.Packs.{AreShown};
+ghost use Rattle.store_instances.specs.of_site_packs.Packs.{AreShown};
 ghost use Rattle.store_instances.specs.Stores.{store_of};
 ghost use Rattle.storage_site.specs.Standing.{changed_by, is_of};
 
 use keyed_tables::{KeyIndex, serial_key};
 use locus_ids::{FileId, NoMemory};
-use site_packs::SitePacks;
 use std::alloc::Global;
 use std::marker::Model;
 use store_instances::StoreInstance;
+use store_instances::site_packs::SitePacks;
 
 /// The instances of the storage role of a site in its epoch, in the order in which they were opened. Contracts see their
 /// list; the copies are the packs'.

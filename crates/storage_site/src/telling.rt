@@ -8,8 +8,8 @@ ghost use Rattle.role_steps.specs.Views.{SiteView, serial_key};
 ghost use Rattle.role_steps.specs.Epochs.{report_packets};
 ghost use Rattle.role_steps.specs.Storage.{instance_key, store_repeats};
 ghost use Rattle.role_steps.specs.declared.instances.Instance.{Instance};
-ghost use Rattle.site_packs.specs.Copies.{copies_on};
-ghost use Rattle.site_packs.specs.Packs.{AreShown, PacksState, groups_of};
+ghost use Rattle.store_instances.specs.of_site_packs.Copies.{copies_on};
+ghost use Rattle.store_instances.specs.of_site_packs.Packs.{AreShown, PacksState, groups_of};
 ghost use Rattle.store_instances.specs.Stores.{store_of};
 ghost use Rattle.storage_site.specs.Standing.{again_by};
 
@@ -17,8 +17,8 @@ use crate::Store;
 use keyed_tables::serial_key;
 use locus_ids::{NoMemory, Serial};
 use site_frame::SiteFrame;
-use site_packs::SitePacks;
 use store_instances::StoreInstance;
+use store_instances::site_packs::SitePacks;
 use wire_messages::{Body, Outbox};
 
 impl Store {

@@ -15,3 +15,4 @@ mod requests;
 pub use fault::StoreFault;
 pub use instance::StoreInstance;
 pub use requests::StoreRequest;
+pub use site_packs;

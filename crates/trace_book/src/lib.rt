@@ -14,6 +14,7 @@ mod reply;
 pub use call::{Call, OpenMode};
 pub use descriptor::{Beginning, Descriptor, OneVersion};
 pub use entry::Entry;
+pub use locus_ids;
 pub use operation::{Op, Outcome, Served, What};
 pub use packet_kind::PacketKind;
 pub use record::{Brought, BroughtList, Record, StopCause};

@@ -15,8 +15,8 @@ use Rattle.call_rules.specs.declared.want.Want.{Want}
 use Rattle.call_rules.specs.declared.want.Want.TheVariants as want
 use Rattle.the_run.specs.of_role_steps.Own.{Every}
 use Rattle.the_run.specs.Worlds.{Line}
-use Rattle.tree_model.specs.declared.accepted.Waiting.{Waiting}
-use Rattle.tree_model.specs.Calls.{call_named, granted_to}
+use Rattle.lawful_trace.specs.of_tree_model.declared.accepted.Waiting.{Waiting}
+use Rattle.lawful_trace.specs.of_tree_model.Calls.{call_named, granted_to}
 use Rattle.lawful_trace.specs.Tables.{uses_of, use_number, close_of, has_named, unless_named, call_of_act, call_of_release}
 use Rattle.tree_laws.specs.Printed.{entries}
 use Rattle.tree_laws.specs.Calls.{Asks, is_request}

@@ -3,7 +3,7 @@
 use Rattle.std.proofs.Common.{◌≡◌, ℕ, ◌+◌, ◌-◌, Bool, true, false, cond, not, ◌&&◌, ◌||◌, List, [], ◌∷◌, ◌++◌, length, take, Option, Some, None, refl, sym, ◌∙◌, ap, subst, ◌⊎◌, inl, inr}
 use Rattle.the_run.proofs.of_plain_facts.Options.{some_same}
 use Rattle.the_run.proofs.of_plain_facts.Tests.{true_false}
-use Rattle.tree_model.specs.declared.accepted.Waiting.{Waiting}
+use Rattle.lawful_trace.specs.of_tree_model.declared.accepted.Waiting.{Waiting}
 use Rattle.locus_ids.specs.declared.config.Config.{Config}
 use Rattle.locus_ids.specs.declared.ids.CallId.{CallId}
 use Rattle.locus_ids.specs.declared.ids.EpochId.{EpochId}
@@ -30,18 +30,18 @@ use Rattle.call_rules.specs.declared.answer.Answer.{Answer}
 use Rattle.call_rules.specs.declared.answer.Answer.TheVariants as answer
 use Rattle.call_rules.specs.declared.want.Want.{Want}
 use Rattle.call_rules.specs.declared.want.Want.TheVariants as want
-use Rattle.tree_model.specs.of_dir_format.declared.looking.LookResult.{LookResult}
-use Rattle.tree_model.specs.of_dir_format.declared.looking.LookResult.TheVariants as looked
-use Rattle.tree_model.specs.of_dir_format.Contents.{entries_of}
-use Rattle.tree_model.specs.of_dir_format.Lookups.{lookup}
+use Rattle.lawful_trace.specs.of_tree_model.of_dir_format.declared.looking.LookResult.{LookResult}
+use Rattle.lawful_trace.specs.of_tree_model.of_dir_format.declared.looking.LookResult.TheVariants as looked
+use Rattle.lawful_trace.specs.of_tree_model.of_dir_format.Contents.{entries_of}
+use Rattle.lawful_trace.specs.of_tree_model.of_dir_format.Lookups.{lookup}
 use Rattle.the_run.specs.of_role_steps.Views.{Told, Shown, Promises, Takes, LooksAgain, Begins, Shuts, Reserves}
 use Rattle.the_run.specs.Worlds.{Line}
-use Rattle.tree_model.specs.declared.instance.Instance.{Instance}
-use Rattle.tree_model.specs.Calls.{granted_to, call_named, accepted_as}
-use Rattle.tree_model.specs.Folds.{Trace}
-use Rattle.tree_model.specs.Histories.{history}
-use Rattle.tree_model.specs.State.{instance_in}
-use Rattle.tree_model.specs.Tree.{tree_of, kept_in}
+use Rattle.lawful_trace.specs.of_tree_model.declared.instance.Instance.{Instance}
+use Rattle.lawful_trace.specs.of_tree_model.Calls.{granted_to, call_named, accepted_as}
+use Rattle.lawful_trace.specs.of_tree_model.Folds.{Trace}
+use Rattle.lawful_trace.specs.of_tree_model.Histories.{history}
+use Rattle.lawful_trace.specs.of_tree_model.State.{instance_in}
+use Rattle.lawful_trace.specs.of_tree_model.Tree.{tree_of, kept_in}
 use Rattle.lawful_trace.specs.Progress.{Answers, entered, look_answer, granted_answer, close_answer, outcome_answer}
 use Rattle.lawful_trace.specs.Tables.{begun, begins_now, is_call, call_of_act, call_of_release, uses_by}
 use Rattle.lawful_trace.specs.TreeRows.{IsCallIn}

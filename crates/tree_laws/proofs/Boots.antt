@@ -14,10 +14,10 @@ use Rattle.trace_book.specs.declared.record.Record.TheVariants as says
 use Rattle.the_run.specs.of_role_steps.Own.{Every}
 use Rattle.the_run.specs.of_role_steps.Views.{Told, Shown}
 use Rattle.the_run.specs.Worlds.{Line}
-use Rattle.tree_model.specs.declared.accepted.Waiting.{Waiting}
-use Rattle.tree_model.specs.Calls.{waiting}
-use Rattle.tree_model.specs.Epochs.{is_up, boot_of, epoch_of}
-use Rattle.tree_model.specs.Folds.{Trace}
+use Rattle.lawful_trace.specs.of_tree_model.declared.accepted.Waiting.{Waiting}
+use Rattle.lawful_trace.specs.of_tree_model.Calls.{waiting}
+use Rattle.lawful_trace.specs.of_tree_model.Epochs.{is_up, boot_of, epoch_of}
+use Rattle.lawful_trace.specs.of_tree_model.Folds.{Trace}
 use Rattle.lawful_trace.specs.CallRows.{CallRow, next_call, is_this}
 use Rattle.lawful_trace.specs.Lawful.{MayCome}
 use Rattle.tree_laws.specs.Printed.{entries, onto_entries}

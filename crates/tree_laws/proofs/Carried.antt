@@ -27,8 +27,8 @@ use Rattle.the_run.specs.of_wire_messages.declared.packet.Packet.{Packet}
 use Rattle.the_run.specs.of_role_steps.Reports.{stamp_made}
 use Rattle.the_run.specs.of_role_steps.Views.{Told, Shown}
 use Rattle.the_run.specs.Worlds.{Line}
-use Rattle.tree_model.specs.Epochs.{has_joined}
-use Rattle.tree_model.specs.Folds.{Trace}
+use Rattle.lawful_trace.specs.of_tree_model.Epochs.{has_joined}
+use Rattle.lawful_trace.specs.of_tree_model.Folds.{Trace}
 use Rattle.tree_laws.specs.Past.{WasReleasedWith}
 use Rattle.tree_laws.specs.Following.{MayTell, IsFollowed}
 use Rattle.tree_laws.specs.Frames.{VersionsStay, OwnersStay, AllStay}

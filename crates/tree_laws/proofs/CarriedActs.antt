@@ -16,14 +16,14 @@ use Rattle.call_rules.specs.declared.want.Want.{Want}
 use Rattle.call_rules.specs.declared.want.Want.TheVariants as want
 use Rattle.the_run.specs.of_role_steps.Views.{Told, Shown}
 use Rattle.the_run.specs.Worlds.{Line}
-use Rattle.tree_model.specs.declared.instance.Granted.{Granted}
-use Rattle.tree_model.specs.declared.instance.Instance.{Instance}
-use Rattle.tree_model.specs.Given.{instance_gives, gives_act}
-use Rattle.tree_model.specs.Histories.{history}
-use Rattle.tree_model.specs.Same.{is_given}
-use Rattle.tree_model.specs.State.{TreeState, instance_in}
-use Rattle.tree_model.specs.Tree.{tree_of}
-use Rattle.tree_model.specs.Working.{result_on}
+use Rattle.lawful_trace.specs.of_tree_model.declared.instance.Granted.{Granted}
+use Rattle.lawful_trace.specs.of_tree_model.declared.instance.Instance.{Instance}
+use Rattle.lawful_trace.specs.of_tree_model.Given.{instance_gives, gives_act}
+use Rattle.lawful_trace.specs.of_tree_model.Histories.{history}
+use Rattle.lawful_trace.specs.of_tree_model.Same.{is_given}
+use Rattle.lawful_trace.specs.of_tree_model.State.{TreeState, instance_in}
+use Rattle.lawful_trace.specs.of_tree_model.Tree.{tree_of}
+use Rattle.lawful_trace.specs.of_tree_model.Working.{result_on}
 use Rattle.lawful_trace.specs.TreeRows.{IsCallIn, granted_group}
 use Rattle.lawful_trace.specs.Tables.{call_of_act, call_of_release}
 use Rattle.tree_laws.specs.Printed.{entries}

@@ -11,7 +11,7 @@ use Rattle.locus_ids.specs.declared.ids.Serial.{Serial}
 use Rattle.locus_ids.specs.declared.ids.Stamp.{Stamp}
 use Rattle.commit_graph.specs.Versions.{same_file, same_stamp}
 use Rattle.commit_graph.specs.declared.history.Version.{Version}
-use Rattle.tree_model.specs.of_file_effects.declared.work.Work.{Work}
+use Rattle.lawful_trace.specs.of_tree_model.of_file_effects.declared.work.Work.{Work}
 use Rattle.trace_book.specs.declared.operation.Op.{Op}
 use Rattle.trace_book.specs.declared.record.Record.{Record}
 use Rattle.trace_book.specs.declared.record.Record.TheVariants as says
@@ -20,14 +20,14 @@ use Rattle.call_rules.specs.declared.want.Want.{Want}
 use Rattle.call_rules.specs.declared.want.Want.TheVariants as want
 use Rattle.the_run.specs.of_role_steps.Views.{Told, Shown}
 use Rattle.the_run.specs.Worlds.{Line}
-use Rattle.tree_model.specs.declared.instance.Granted.{Granted}
-use Rattle.tree_model.specs.declared.instance.Instance.{Instance}
-use Rattle.tree_model.specs.Given.{instance_ends, gives_release}
-use Rattle.tree_model.specs.Histories.{history}
-use Rattle.tree_model.specs.Same.{same_version}
-use Rattle.tree_model.specs.State.{TreeState, instance_in}
-use Rattle.tree_model.specs.Tree.{tree_of}
-use Rattle.tree_model.specs.Working.{is_spent}
+use Rattle.lawful_trace.specs.of_tree_model.declared.instance.Granted.{Granted}
+use Rattle.lawful_trace.specs.of_tree_model.declared.instance.Instance.{Instance}
+use Rattle.lawful_trace.specs.of_tree_model.Given.{instance_ends, gives_release}
+use Rattle.lawful_trace.specs.of_tree_model.Histories.{history}
+use Rattle.lawful_trace.specs.of_tree_model.Same.{same_version}
+use Rattle.lawful_trace.specs.of_tree_model.State.{TreeState, instance_in}
+use Rattle.lawful_trace.specs.of_tree_model.Tree.{tree_of}
+use Rattle.lawful_trace.specs.of_tree_model.Working.{is_spent}
 use Rattle.lawful_trace.specs.Progress.{close_answer}
 use Rattle.lawful_trace.specs.TreeRows.{IsCallIn, granted_group}
 use Rattle.lawful_trace.specs.Tables.{call_of_act}

@@ -1,6 +1,6 @@
 -- What packets carry of versions stays when a line is added, as far as the order of versions gives it.
 use Rattle.std.proofs.Common.{◌≡◌, ℕ, max, List, [], ◌∷◌, length, Option, Some, None, sym, ◌∙◌, ap, subst, ◌⊎◌, inl, inr}
-use Rattle.tree_model.specs.of_version_vector.Counters.{part}
+use Rattle.lawful_trace.specs.of_tree_model.of_version_vector.Counters.{part}
 use Rattle.locus_ids.specs.declared.config.Config.{Config}
 use Rattle.locus_ids.specs.declared.ids.EpochId.{EpochId}
 use Rattle.locus_ids.specs.declared.ids.FileId.{FileId}
@@ -19,8 +19,8 @@ use Rattle.the_run.specs.of_wire_messages.declared.body.MadeVersion.{MadeVersion
 use Rattle.the_run.specs.of_role_steps.Storage.{served_content}
 use Rattle.the_run.specs.of_role_steps.Views.{Told}
 use Rattle.the_run.specs.Worlds.{Line}
-use Rattle.tree_model.specs.Files.{HeldVersion, version_of}
-use Rattle.tree_model.specs.Tree.{kept_in}
+use Rattle.lawful_trace.specs.of_tree_model.Files.{HeldVersion, version_of}
+use Rattle.lawful_trace.specs.of_tree_model.Tree.{kept_in}
 use Rattle.tree_laws.specs.Printed.{entries}
 use Rattle.tree_laws.specs.Instances.{IsVersion, Stands}
 use Rattle.tree_laws.specs.Past.{WasBegun}

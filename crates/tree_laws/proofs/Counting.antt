@@ -12,9 +12,9 @@ use Rattle.trace_book.specs.declared.record.Record.TheVariants as says
 use Rattle.call_rules.specs.declared.answer.Answer.{Answer}
 use Rattle.the_run.specs.of_role_steps.Views.{Told, Shown, Takes}
 use Rattle.the_run.specs.Worlds.{Line}
-use Rattle.tree_model.specs.declared.accepted.Waiting.{Waiting}
-use Rattle.tree_model.specs.Calls.{call_named, accepted_as}
-use Rattle.tree_model.specs.Epochs.{boot_of}
+use Rattle.lawful_trace.specs.of_tree_model.declared.accepted.Waiting.{Waiting}
+use Rattle.lawful_trace.specs.of_tree_model.Calls.{call_named, accepted_as}
+use Rattle.lawful_trace.specs.of_tree_model.Epochs.{boot_of}
 use Rattle.lawful_trace.specs.CallRows.{next_call}
 use Rattle.tree_laws.specs.Printed.{entries, onto_entries}
 use Rattle.tree_laws.specs.Calls.{log, script}

@@ -27,10 +27,10 @@ use Rattle.call_rules.specs.Words.{is_too_long}
 use Rattle.the_run.specs.of_role_steps.Own.{Every}
 use Rattle.the_run.specs.of_role_steps.Views.{Told, Shown}
 use Rattle.the_run.specs.Worlds.{Line}
-use Rattle.tree_model.specs.declared.accepted.Waiting.{Waiting}
-use Rattle.tree_model.specs.Calls.{call_named, accepted_as, granted_to, opening_of, waiting}
-use Rattle.tree_model.specs.Epochs.{epoch_of}
-use Rattle.tree_model.specs.Folds.{Trace}
+use Rattle.lawful_trace.specs.of_tree_model.declared.accepted.Waiting.{Waiting}
+use Rattle.lawful_trace.specs.of_tree_model.Calls.{call_named, accepted_as, granted_to, opening_of, waiting}
+use Rattle.lawful_trace.specs.of_tree_model.Epochs.{epoch_of}
+use Rattle.lawful_trace.specs.of_tree_model.Folds.{Trace}
 use Rattle.lawful_trace.specs.CallRows.{is_this}
 use Rattle.lawful_trace.specs.Tables.{begins_now, closed_by, opened_by, descriptor, is_close, uses_by, is_opening, uses_of, close_of, names_instance, has_named}
 use Rattle.lawful_trace.specs.TreeRows.{IsCallIn}

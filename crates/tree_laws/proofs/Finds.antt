@@ -2,7 +2,7 @@
 use Rattle.std.proofs.Common.{◌≡◌, Bool, true, false, List, [], ◌∷◌, ◌++◌, Option, Some, None, refl, ◌⊎◌, inl, inr}
 use Rattle.std.specs.List.{find}
 use Rattle.the_run.proofs.of_plain_facts.Options.{none_some}
-use Rattle.tree_model.specs.Lists.{change_first, without_first}
+use Rattle.lawful_trace.specs.of_tree_model.Lists.{change_first, without_first}
 
 -- the first that passes q is changed, in a way that p doesn't see: what p finds is as it was, or it is the one that is changed
 pub record IsChanged {X : Type 0} (p q : X → Bool) (change : X → X) (xs : List X) : Type 0 where

@@ -23,8 +23,8 @@ use Rattle.call_rules.specs.Scripts.{wants, where_packed, named_wants, begun_wan
 use Rattle.call_rules.specs.Walks.{Walked, Asks, Fails, There, Strays, walk, walked, root_of}
 use Rattle.trace_book.specs.Names.{components}
 use Rattle.call_rules.specs.Words.{is_badly_named}
-use Rattle.tree_model.specs.declared.accepted.Waiting.{Waiting}
-use Rattle.tree_model.specs.Folds.{Trace}
+use Rattle.lawful_trace.specs.of_tree_model.declared.accepted.Waiting.{Waiting}
+use Rattle.lawful_trace.specs.of_tree_model.Folds.{Trace}
 use Rattle.lawful_trace.specs.Progress.{Answers, is_packed_in}
 use Rattle.tree_laws.specs.Calls.{is_request, script_as}
 

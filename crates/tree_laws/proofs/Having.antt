@@ -15,9 +15,9 @@ use Rattle.call_rules.specs.declared.want.Want.{Want}
 use Rattle.call_rules.specs.Scripts.{wants}
 use Rattle.the_run.specs.of_role_steps.Views.{Told, Shown, Takes, LooksAgain}
 use Rattle.the_run.specs.Worlds.{Line}
-use Rattle.tree_model.specs.declared.accepted.Waiting.{Waiting}
-use Rattle.tree_model.specs.Calls.{call_named, accepted_as, waiting}
-use Rattle.tree_model.specs.Folds.{Trace}
+use Rattle.lawful_trace.specs.of_tree_model.declared.accepted.Waiting.{Waiting}
+use Rattle.lawful_trace.specs.of_tree_model.Calls.{call_named, accepted_as, waiting}
+use Rattle.lawful_trace.specs.of_tree_model.Folds.{Trace}
 use Rattle.lawful_trace.specs.CallRows.{is_this}
 use Rattle.lawful_trace.specs.Lawful.{MayCome}
 use Rattle.lawful_trace.specs.Progress.{Answers, answers_after, is_packed_in}

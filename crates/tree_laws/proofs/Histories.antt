@@ -14,8 +14,8 @@ use Rattle.trace_book.specs.declared.record.Record.{Record}
 use Rattle.trace_book.specs.declared.record.Record.TheVariants as says
 use Rattle.the_run.specs.of_role_steps.Views.{Told, Shown}
 use Rattle.the_run.specs.Worlds.{Line}
-use Rattle.tree_model.specs.Folds.{Trace}
-use Rattle.tree_model.specs.Histories.{history}
+use Rattle.lawful_trace.specs.of_tree_model.Folds.{Trace}
+use Rattle.lawful_trace.specs.of_tree_model.Histories.{history}
 use Rattle.tree_laws.specs.Printed.{entries, onto_entries}
 use Rattle.tree_laws.specs.Frames.{IsFresh}
 use Rattle.tree_laws.specs.Instances.{Stands}

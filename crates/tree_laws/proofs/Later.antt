@@ -17,9 +17,9 @@ use Rattle.the_run.specs.of_role_steps.Own.{Every}
 use Rattle.the_run.specs.of_role_steps.Views.{Told, Shown, Takes}
 use Rattle.the_run.specs.Kept.{Among}
 use Rattle.the_run.specs.Worlds.{Line}
-use Rattle.tree_model.specs.declared.accepted.Waiting.{Waiting}
-use Rattle.tree_model.specs.Calls.{call_named, accepted_as, waiting, is_of}
-use Rattle.tree_model.specs.Epochs.{boot_of, calls_accepted, epoch_of}
+use Rattle.lawful_trace.specs.of_tree_model.declared.accepted.Waiting.{Waiting}
+use Rattle.lawful_trace.specs.of_tree_model.Calls.{call_named, accepted_as, waiting, is_of}
+use Rattle.lawful_trace.specs.of_tree_model.Epochs.{boot_of, calls_accepted, epoch_of}
 use Rattle.lawful_trace.specs.CallRows.{CallRow, is_mend_in, is_this, next_call}
 use Rattle.lawful_trace.specs.TreeRows.{IsCallIn}
 use Rattle.tree_laws.specs.Printed.{entries}

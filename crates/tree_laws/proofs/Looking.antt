@@ -31,8 +31,8 @@ use Rattle.call_rules.specs.Opening.{close_wants}
 use Rattle.call_rules.specs.Scripts.{begun_wants, where_packed}
 use Rattle.the_run.specs.of_role_steps.Views.{Told, Shown, Takes, LooksAgain}
 use Rattle.the_run.specs.Worlds.{Line}
-use Rattle.tree_model.specs.declared.accepted.Waiting.{Waiting}
-use Rattle.tree_model.specs.Calls.{call_named, accepted_as}
+use Rattle.lawful_trace.specs.of_tree_model.declared.accepted.Waiting.{Waiting}
+use Rattle.lawful_trace.specs.of_tree_model.Calls.{call_named, accepted_as}
 use Rattle.lawful_trace.specs.CallRows.{is_mend_in}
 use Rattle.lawful_trace.specs.Progress.{Answers, is_packed_in}
 use Rattle.lawful_trace.specs.Tables.{begun}

@@ -23,13 +23,13 @@ use Rattle.the_run.specs.of_wire_messages.declared.body.Opening.TheVariants as h
 use Rattle.the_run.specs.of_role_steps.Opens.{mode_of}
 use Rattle.the_run.specs.of_role_steps.Views.{Told, Shown, Begins}
 use Rattle.the_run.specs.Worlds.{Line}
-use Rattle.tree_model.specs.declared.instance.Instance.{Instance}
-use Rattle.tree_model.specs.Epochs.{members_of}
-use Rattle.tree_model.specs.Histories.{history}
-use Rattle.tree_model.specs.Opening.{is_given_by}
-use Rattle.tree_model.specs.Packs.{is_good_set, making_site_in}
-use Rattle.tree_model.specs.State.{instance_in}
-use Rattle.tree_model.specs.Tree.{tree_of}
+use Rattle.lawful_trace.specs.of_tree_model.declared.instance.Instance.{Instance}
+use Rattle.lawful_trace.specs.of_tree_model.Epochs.{members_of}
+use Rattle.lawful_trace.specs.of_tree_model.Histories.{history}
+use Rattle.lawful_trace.specs.of_tree_model.Opening.{is_given_by}
+use Rattle.lawful_trace.specs.of_tree_model.Packs.{is_good_set, making_site_in}
+use Rattle.lawful_trace.specs.of_tree_model.State.{instance_in}
+use Rattle.lawful_trace.specs.of_tree_model.Tree.{tree_of}
 use Rattle.lawful_trace.specs.TreeRows.{IsCallIn, granted_group}
 use Rattle.tree_laws.specs.Printed.{entries, onto_entries}
 use Rattle.tree_laws.specs.Calls.{Asks}

@@ -16,11 +16,11 @@ use Rattle.trace_book.specs.declared.operation.Op.{Op}
 use Rattle.trace_book.specs.declared.operation.Outcome.{Outcome}
 use Rattle.trace_book.specs.declared.record.Record.{Record}
 use Rattle.trace_book.specs.declared.record.Record.TheVariants as says
-use Rattle.tree_model.specs.declared.instance.Instance.{Instance}
-use Rattle.tree_model.specs.declared.instance.Granted.{Granted}
-use Rattle.tree_model.specs.Lists.{change_first}
-use Rattle.tree_model.specs.State.{TreeState, instance_in, is_named, is_writer, is_inside, is_granted_here, is_make}
-use Rattle.tree_model.specs.Tree.{next, joined, left, grant_of, opened, once_committed, once_acted, without_make}
+use Rattle.lawful_trace.specs.of_tree_model.declared.instance.Instance.{Instance}
+use Rattle.lawful_trace.specs.of_tree_model.declared.instance.Granted.{Granted}
+use Rattle.lawful_trace.specs.of_tree_model.Lists.{change_first}
+use Rattle.lawful_trace.specs.of_tree_model.State.{TreeState, instance_in, is_named, is_writer, is_inside, is_granted_here, is_make}
+use Rattle.lawful_trace.specs.of_tree_model.Tree.{next, joined, left, grant_of, opened, once_committed, once_acted, without_make}
 use Rattle.tree_laws.proofs.Finds.{IsChanged, find_changed, find_added, find_without}
 use Rattle.tree_laws.proofs.Names.{true_or_false, same_serial_eq, same_epoch_eq}
 

@@ -23,17 +23,17 @@ use Rattle.trace_book.specs.declared.record.Record.TheVariants as says
 use Rattle.the_run.specs.of_role_steps.Own.{Every}
 use Rattle.the_run.specs.of_role_steps.Views.{Told, Shown}
 use Rattle.the_run.specs.Worlds.{Line}
-use Rattle.tree_model.specs.declared.accepted.Waiting.{Waiting}
-use Rattle.tree_model.specs.declared.instance.Granted.{Granted}
-use Rattle.tree_model.specs.declared.instance.Instance.{Instance}
-use Rattle.tree_model.specs.Files.{first_call, committing, committing_in, words_named, kind_made, kind_of_file, set_of_file}
-use Rattle.tree_model.specs.Folds.{Trace}
-use Rattle.tree_model.specs.Histories.{history, format_versions, format_version}
-use Rattle.tree_model.specs.Lists.{change_first}
-use Rattle.tree_model.specs.Opening.{sites_made}
-use Rattle.tree_model.specs.Packs.{packs_of}
-use Rattle.tree_model.specs.State.{TreeState, is_named, is_writer, is_inside, is_granted_here, is_make}
-use Rattle.tree_model.specs.Tree.{next, tree_of, joined, left, grant_of, opened, once_committed, once_acted, acted, released, without_make}
+use Rattle.lawful_trace.specs.of_tree_model.declared.accepted.Waiting.{Waiting}
+use Rattle.lawful_trace.specs.of_tree_model.declared.instance.Granted.{Granted}
+use Rattle.lawful_trace.specs.of_tree_model.declared.instance.Instance.{Instance}
+use Rattle.lawful_trace.specs.of_tree_model.Files.{first_call, committing, committing_in, words_named, kind_made, kind_of_file, set_of_file}
+use Rattle.lawful_trace.specs.of_tree_model.Folds.{Trace}
+use Rattle.lawful_trace.specs.of_tree_model.Histories.{history, format_versions, format_version}
+use Rattle.lawful_trace.specs.of_tree_model.Lists.{change_first}
+use Rattle.lawful_trace.specs.of_tree_model.Opening.{sites_made}
+use Rattle.lawful_trace.specs.of_tree_model.Packs.{packs_of}
+use Rattle.lawful_trace.specs.of_tree_model.State.{TreeState, is_named, is_writer, is_inside, is_granted_here, is_make}
+use Rattle.lawful_trace.specs.of_tree_model.Tree.{next, tree_of, joined, left, grant_of, opened, once_committed, once_acted, acted, released, without_make}
 use Rattle.lawful_trace.specs.TreeRows.{is_writing}
 use Rattle.tree_laws.specs.Printed.{entries, onto_entries}
 use Rattle.tree_laws.specs.Following.{MayTell, IsFollowed}

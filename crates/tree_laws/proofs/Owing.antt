@@ -20,14 +20,14 @@ use Rattle.trace_book.specs.declared.record.Record.TheVariants as says
 use Rattle.the_run.specs.of_role_steps.Own.{Every}
 use Rattle.the_run.specs.of_role_steps.Views.{Told, Shown}
 use Rattle.the_run.specs.Worlds.{Line}
-use Rattle.tree_model.specs.declared.instance.Granted.{Granted}
-use Rattle.tree_model.specs.declared.instance.Instance.{Instance}
-use Rattle.tree_model.specs.Epochs.{epoch_of, is_in}
-use Rattle.tree_model.specs.Folds.{Trace}
-use Rattle.tree_model.specs.Histories.{history}
-use Rattle.tree_model.specs.Lists.{change_first, without_first}
-use Rattle.tree_model.specs.State.{TreeState, is_named, is_writer, is_inside, is_granted_here, is_make, instance_in}
-use Rattle.tree_model.specs.Tree.{next, tree_of, joined, left, without_number, grant_of, opened, once_committed, once_acted, without_make, with_make, is_passed_probe, released}
+use Rattle.lawful_trace.specs.of_tree_model.declared.instance.Granted.{Granted}
+use Rattle.lawful_trace.specs.of_tree_model.declared.instance.Instance.{Instance}
+use Rattle.lawful_trace.specs.of_tree_model.Epochs.{epoch_of, is_in}
+use Rattle.lawful_trace.specs.of_tree_model.Folds.{Trace}
+use Rattle.lawful_trace.specs.of_tree_model.Histories.{history}
+use Rattle.lawful_trace.specs.of_tree_model.Lists.{change_first, without_first}
+use Rattle.lawful_trace.specs.of_tree_model.State.{TreeState, is_named, is_writer, is_inside, is_granted_here, is_make, instance_in}
+use Rattle.lawful_trace.specs.of_tree_model.Tree.{next, tree_of, joined, left, without_number, grant_of, opened, once_committed, once_acted, without_make, with_make, is_passed_probe, released}
 use Rattle.lawful_trace.specs.TreeRows.{granted_group, is_writing}
 use Rattle.tree_laws.specs.Printed.{entries}
 use Rattle.tree_laws.specs.Following.{MayTell}

@@ -15,8 +15,8 @@ use Rattle.trace_book.specs.declared.record.Record.TheVariants as says
 use Rattle.call_rules.specs.Descriptors.{beginning, begins_again, begins_change, begins_close, begins_open, begins_read, begins_walk, held_or, is_in, lowest_free, stale_or}
 use Rattle.call_rules.specs.Words.{is_too_long}
 use Rattle.commit_graph.specs.Grants.{is_read}
-use Rattle.tree_model.specs.Epochs.{epoch_of}
-use Rattle.tree_model.specs.Folds.{Trace}
+use Rattle.lawful_trace.specs.of_tree_model.Epochs.{epoch_of}
+use Rattle.lawful_trace.specs.of_tree_model.Folds.{Trace}
 use Rattle.lawful_trace.specs.Tables.{begins_now, begun, begun_after, descriptor}
 use Rattle.tree_laws.proofs.Names.{same_call_eq}
 

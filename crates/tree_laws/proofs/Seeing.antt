@@ -21,15 +21,15 @@ use Rattle.call_rules.specs.declared.want.Want.TheVariants as want
 use Rattle.the_run.specs.of_role_steps.Own.{Every}
 use Rattle.the_run.specs.of_role_steps.Views.{Told, Shown}
 use Rattle.the_run.specs.Worlds.{Line}
-use Rattle.tree_model.specs.declared.instance.Granted.{Granted}
-use Rattle.tree_model.specs.declared.instance.Instance.{Instance}
-use Rattle.tree_model.specs.Calls.{granted_to}
-use Rattle.tree_model.specs.Folds.{Trace}
-use Rattle.tree_model.specs.Histories.{history}
-use Rattle.tree_model.specs.Lists.{change_first, without_first}
-use Rattle.tree_model.specs.State.{TreeState, is_named, is_writer, is_inside, is_granted_here, is_make}
-use Rattle.tree_model.specs.Tree.{next, tree_of, joined, left, grant_of, opened, once_committed, once_acted, without_make}
-use Rattle.tree_model.specs.Working.{is_target}
+use Rattle.lawful_trace.specs.of_tree_model.declared.instance.Granted.{Granted}
+use Rattle.lawful_trace.specs.of_tree_model.declared.instance.Instance.{Instance}
+use Rattle.lawful_trace.specs.of_tree_model.Calls.{granted_to}
+use Rattle.lawful_trace.specs.of_tree_model.Folds.{Trace}
+use Rattle.lawful_trace.specs.of_tree_model.Histories.{history}
+use Rattle.lawful_trace.specs.of_tree_model.Lists.{change_first, without_first}
+use Rattle.lawful_trace.specs.of_tree_model.State.{TreeState, is_named, is_writer, is_inside, is_granted_here, is_make}
+use Rattle.lawful_trace.specs.of_tree_model.Tree.{next, tree_of, joined, left, grant_of, opened, once_committed, once_acted, without_make}
+use Rattle.lawful_trace.specs.of_tree_model.Working.{is_target}
 use Rattle.lawful_trace.specs.Progress.{outcome_answer}
 use Rattle.lawful_trace.specs.Tables.{is_call, uses_of, use_number, close_of, unless_named, call_of_act, call_of_release}
 use Rattle.tree_laws.specs.Printed.{entries, onto_entries}

@@ -18,9 +18,9 @@ use Rattle.call_rules.specs.declared.want.Want.TheVariants as want
 use Rattle.the_run.specs.of_wire_messages.declared.body.Opening.{Opening}
 use Rattle.the_run.specs.of_role_steps.Views.{Told, Shown, Takes, LooksAgain}
 use Rattle.the_run.specs.Worlds.{Line}
-use Rattle.tree_model.specs.Calls.{call_named, accepted_as}
-use Rattle.tree_model.specs.Epochs.{boot_of}
-use Rattle.tree_model.specs.Tree.{kept_in}
+use Rattle.lawful_trace.specs.of_tree_model.Calls.{call_named, accepted_as}
+use Rattle.lawful_trace.specs.of_tree_model.Epochs.{boot_of}
+use Rattle.lawful_trace.specs.of_tree_model.Tree.{kept_in}
 use Rattle.lawful_trace.specs.Progress.{Answers, granted_answer}
 use Rattle.lawful_trace.specs.TreeRows.{IsCallIn}
 use Rattle.tree_laws.specs.Printed.{entries}

@@ -9,8 +9,8 @@ use Rattle.call_rules.specs.declared.answer.Answer.TheVariants as answer
 use Rattle.call_rules.specs.declared.want.Want.{Want}
 use Rattle.the_run.specs.of_role_steps.Views.{Told, Shown}
 use Rattle.the_run.specs.Worlds.{Line}
-use Rattle.tree_model.specs.State.{instance_in}
-use Rattle.tree_model.specs.Tree.{tree_of, kept_in}
+use Rattle.lawful_trace.specs.of_tree_model.State.{instance_in}
+use Rattle.lawful_trace.specs.of_tree_model.Tree.{tree_of, kept_in}
 use Rattle.lawful_trace.specs.Progress.{Answers, look_answer, granted_answer, close_answer, outcome_answer}
 use Rattle.lawful_trace.specs.Tables.{call_of_act, call_of_release}
 use Rattle.tree_laws.specs.Printed.{entries}

@@ -14,13 +14,13 @@ use Rattle.trace_book.specs.declared.record.Record.{Record}
 use Rattle.trace_book.specs.declared.record.Record.TheVariants as says
 use Rattle.the_run.specs.of_role_steps.Views.{Told, Shown}
 use Rattle.the_run.specs.Worlds.{Line}
-use Rattle.tree_model.specs.declared.copy.HeldCopy.{HeldCopy}
-use Rattle.tree_model.specs.Folds.{Trace}
-use Rattle.tree_model.specs.Histories.{history, format_stamp}
-use Rattle.tree_model.specs.Lists.{put_first}
-use Rattle.tree_model.specs.Packs.{has_pack}
-use Rattle.tree_model.specs.State.{TreeState, copy_of, held_of, held_at, is_copy_of, with_copy, is_inside, is_granted_here, is_make}
-use Rattle.tree_model.specs.Tree.{next, tree_of, joined, left, with_root, entered, copy_now, has_now, grant_of, granted, acted, released, without_make}
+use Rattle.lawful_trace.specs.of_tree_model.declared.copy.HeldCopy.{HeldCopy}
+use Rattle.lawful_trace.specs.of_tree_model.Folds.{Trace}
+use Rattle.lawful_trace.specs.of_tree_model.Histories.{history, format_stamp}
+use Rattle.lawful_trace.specs.of_tree_model.Lists.{put_first}
+use Rattle.lawful_trace.specs.of_tree_model.Packs.{has_pack}
+use Rattle.lawful_trace.specs.of_tree_model.State.{TreeState, copy_of, held_of, held_at, is_copy_of, with_copy, is_inside, is_granted_here, is_make}
+use Rattle.lawful_trace.specs.of_tree_model.Tree.{next, tree_of, joined, left, with_root, entered, copy_now, has_now, grant_of, granted, acted, released, without_make}
 use Rattle.tree_laws.specs.Printed.{entries, onto_entries}
 use Rattle.tree_laws.specs.Instances.{IsUsed}
 use Rattle.tree_laws.proofs.Finds.{find_added}

@@ -10,9 +10,9 @@ use Rattle.call_rules.specs.declared.want.Want.TheVariants as want
 use Rattle.call_rules.specs.Scripts.{wants}
 use Rattle.the_run.specs.of_role_steps.Views.{Told, Shown, Takes, LooksAgain}
 use Rattle.the_run.specs.Worlds.{Line}
-use Rattle.tree_model.specs.declared.accepted.Waiting.{Waiting}
-use Rattle.tree_model.specs.Folds.{Trace}
-use Rattle.tree_model.specs.Calls.{call_named}
+use Rattle.lawful_trace.specs.of_tree_model.declared.accepted.Waiting.{Waiting}
+use Rattle.lawful_trace.specs.of_tree_model.Folds.{Trace}
+use Rattle.lawful_trace.specs.of_tree_model.Calls.{call_named}
 use Rattle.lawful_trace.specs.Tables.{begun}
 use Rattle.lawful_trace.specs.Progress.{Answers, answers_after, is_packed_in}
 use Rattle.tree_laws.specs.Printed.{entries}

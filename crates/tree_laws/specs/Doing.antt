@@ -13,10 +13,10 @@ use Rattle.the_run.specs.of_role_steps.Views.{Frame, Store, Users, Told, Shown, 
 use Rattle.the_run.specs.of_role_steps.declared.pulls.Pull.{Pull}
 use Rattle.the_run.specs.of_role_steps.declared.synchronizing.SyncTable.{SyncTable}
 use Rattle.the_run.specs.Worlds.{Line, told_onto}
-use Rattle.tree_model.specs.Epochs.{boot_of, epoch_of, is_up, members_of}
-use Rattle.tree_model.specs.Folds.{Trace}
-use Rattle.tree_model.specs.Files.{committing}
-use Rattle.tree_model.specs.of_file_content.Pages.{pages_of}
+use Rattle.lawful_trace.specs.of_tree_model.Epochs.{boot_of, epoch_of, is_up, members_of}
+use Rattle.lawful_trace.specs.of_tree_model.Folds.{Trace}
+use Rattle.lawful_trace.specs.of_tree_model.Files.{committing}
+use Rattle.lawful_trace.specs.of_tree_model.of_file_content.Pages.{pages_of}
 use Rattle.lawful_trace.specs.Disks.{pages_held, pages_now, writing_adoption, writing_commit}
 use Rattle.tree_laws.specs.Printed.{entries}
 use Rattle.tree_laws.specs.Past.{WasBegun}

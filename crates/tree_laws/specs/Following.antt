@@ -34,14 +34,14 @@ use Rattle.the_run.specs.of_wire_messages.declared.body.Opening.TheVariants as h
 use Rattle.the_run.specs.of_role_steps.Opens.{mode_of}
 use Rattle.the_run.specs.of_role_steps.Views.{Told, Shown, Promises, Takes, LooksAgain, Begins, Shuts, Reserves}
 use Rattle.the_run.specs.Worlds.{Line}
-use Rattle.tree_model.specs.declared.accepted.Waiting.{Waiting}
-use Rattle.tree_model.specs.declared.instance.Instance.{Instance}
-use Rattle.tree_model.specs.Calls.{call_named, opening_of, waiting}
-use Rattle.tree_model.specs.Epochs.{epoch_of, members_of}
-use Rattle.tree_model.specs.Folds.{Trace}
-use Rattle.tree_model.specs.Opening.{is_given_by}
-use Rattle.tree_model.specs.Packs.{is_good_set, making_site_in}
-use Rattle.tree_model.specs.Tree.{kept_in}
+use Rattle.lawful_trace.specs.of_tree_model.declared.accepted.Waiting.{Waiting}
+use Rattle.lawful_trace.specs.of_tree_model.declared.instance.Instance.{Instance}
+use Rattle.lawful_trace.specs.of_tree_model.Calls.{call_named, opening_of, waiting}
+use Rattle.lawful_trace.specs.of_tree_model.Epochs.{epoch_of, members_of}
+use Rattle.lawful_trace.specs.of_tree_model.Folds.{Trace}
+use Rattle.lawful_trace.specs.of_tree_model.Opening.{is_given_by}
+use Rattle.lawful_trace.specs.of_tree_model.Packs.{is_good_set, making_site_in}
+use Rattle.lawful_trace.specs.of_tree_model.Tree.{kept_in}
 use Rattle.lawful_trace.specs.CallRows.{is_this}
 use Rattle.lawful_trace.specs.Lawful.{MayCome}
 use Rattle.lawful_trace.specs.Tables.{begins_now, begun, close_of, call_of_act, call_of_release}

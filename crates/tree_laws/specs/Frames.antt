@@ -17,11 +17,11 @@ use Rattle.call_rules.specs.declared.want.Want.TheVariants as want
 use Rattle.the_run.specs.of_wire_messages.declared.body.ReportedCopy.{ReportedCopy}
 use Rattle.the_run.specs.of_role_steps.Views.{Told, Shown}
 use Rattle.the_run.specs.Worlds.{Line}
-use Rattle.tree_model.specs.declared.instance.Instance.{Instance}
-use Rattle.tree_model.specs.Files.{kind_of_file, set_of_file}
-use Rattle.tree_model.specs.Histories.{history}
-use Rattle.tree_model.specs.State.{is_inside, is_writer}
-use Rattle.tree_model.specs.Tree.{tree_of, kept_in}
+use Rattle.lawful_trace.specs.of_tree_model.declared.instance.Instance.{Instance}
+use Rattle.lawful_trace.specs.of_tree_model.Files.{kind_of_file, set_of_file}
+use Rattle.lawful_trace.specs.of_tree_model.Histories.{history}
+use Rattle.lawful_trace.specs.of_tree_model.State.{is_inside, is_writer}
+use Rattle.lawful_trace.specs.of_tree_model.Tree.{tree_of, kept_in}
 use Rattle.lawful_trace.specs.Tables.{call_of_act, call_of_release}
 use Rattle.lawful_trace.specs.TreeRows.{granted_group}
 use Rattle.tree_laws.specs.Printed.{entries}

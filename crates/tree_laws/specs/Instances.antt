@@ -13,13 +13,13 @@ use Rattle.the_run.specs.of_wire_messages.declared.body.Opening.{Opening}
 use Rattle.the_run.specs.of_wire_messages.declared.body.Opening.TheVariants as how
 use Rattle.the_run.specs.of_role_steps.Requests.{opening_of, made_for}
 use Rattle.the_run.specs.Worlds.{Line}
-use Rattle.tree_model.specs.declared.instance.Instance.{Instance}
-use Rattle.tree_model.specs.Files.{HeldVersion, version_of}
-use Rattle.tree_model.specs.Histories.{history}
-use Rattle.tree_model.specs.Opening.{is_given_by}
-use Rattle.tree_model.specs.State.{instance_in, has_stamp, held_at}
-use Rattle.tree_model.specs.Folds.{Trace}
-use Rattle.tree_model.specs.Tree.{tree_of, candidates}
+use Rattle.lawful_trace.specs.of_tree_model.declared.instance.Instance.{Instance}
+use Rattle.lawful_trace.specs.of_tree_model.Files.{HeldVersion, version_of}
+use Rattle.lawful_trace.specs.of_tree_model.Histories.{history}
+use Rattle.lawful_trace.specs.of_tree_model.Opening.{is_given_by}
+use Rattle.lawful_trace.specs.of_tree_model.State.{instance_in, has_stamp, held_at}
+use Rattle.lawful_trace.specs.of_tree_model.Folds.{Trace}
+use Rattle.lawful_trace.specs.of_tree_model.Tree.{tree_of, candidates}
 use Rattle.lawful_trace.specs.TreeRows.{IsCallIn, granted_group}
 use Rattle.tree_laws.specs.Printed.{entries}
 use Rattle.tree_laws.specs.Calls.{Asks, request_number}

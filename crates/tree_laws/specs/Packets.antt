@@ -17,10 +17,10 @@ use Rattle.locus_ids.specs.declared.ids.Stamp.{Stamp}
 use Rattle.locus_ids.specs.declared.refusal.Refusal.{Refusal}
 use Rattle.locus_ids.specs.declared.refusal.Refusal.TheVariants as refusal
 use Rattle.locus_ids.specs.Sizes.{sites_max}
-use Rattle.tree_model.specs.of_version_vector.Counters.{part}
+use Rattle.lawful_trace.specs.of_tree_model.of_version_vector.Counters.{part}
 use Rattle.commit_graph.specs.Versions.{content_of}
 use Rattle.commit_graph.specs.Vectors.{vector_of}
-use Rattle.tree_model.specs.of_file_content.Pages.{page_of}
+use Rattle.lawful_trace.specs.of_tree_model.of_file_content.Pages.{page_of}
 use Rattle.trace_book.specs.declared.operation.Op.{Op}
 use Rattle.trace_book.specs.declared.operation.Op.TheVariants as op
 use Rattle.trace_book.specs.declared.operation.Outcome.{Outcome}
@@ -51,15 +51,15 @@ use Rattle.the_run.specs.of_role_steps.Storage.{served_content}
 use Rattle.the_run.specs.of_role_steps.Using.{close_answer}
 use Rattle.the_run.specs.Kept.{Among}
 use Rattle.the_run.specs.Worlds.{Line}
-use Rattle.tree_model.specs.declared.accepted.Waiting.{Waiting}
-use Rattle.tree_model.specs.declared.instance.Instance.{Instance}
-use Rattle.tree_model.specs.Calls.{call_named}
-use Rattle.tree_model.specs.Epochs.{has_joined, members_of}
-use Rattle.tree_model.specs.Files.{HeldVersion, kind_of_file, set_of_file}
-use Rattle.tree_model.specs.Histories.{history}
-use Rattle.tree_model.specs.Packs.{has_pack, is_good_set, making_site_in}
-use Rattle.tree_model.specs.Tree.{tree_of, kept_in}
-use Rattle.tree_model.specs.Working.{is_target, list_of, merges}
+use Rattle.lawful_trace.specs.of_tree_model.declared.accepted.Waiting.{Waiting}
+use Rattle.lawful_trace.specs.of_tree_model.declared.instance.Instance.{Instance}
+use Rattle.lawful_trace.specs.of_tree_model.Calls.{call_named}
+use Rattle.lawful_trace.specs.of_tree_model.Epochs.{has_joined, members_of}
+use Rattle.lawful_trace.specs.of_tree_model.Files.{HeldVersion, kind_of_file, set_of_file}
+use Rattle.lawful_trace.specs.of_tree_model.Histories.{history}
+use Rattle.lawful_trace.specs.of_tree_model.Packs.{has_pack, is_good_set, making_site_in}
+use Rattle.lawful_trace.specs.of_tree_model.Tree.{tree_of, kept_in}
+use Rattle.lawful_trace.specs.of_tree_model.Working.{is_target, list_of, merges}
 use Rattle.lawful_trace.specs.Tables.{call_of_act, call_of_release}
 use Rattle.lawful_trace.specs.TreeRows.{IsCallIn}
 use Rattle.tree_laws.specs.Printed.{entries}

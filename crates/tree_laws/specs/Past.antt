@@ -18,8 +18,8 @@ use Rattle.trace_book.specs.declared.record.Record.TheVariants as says
 use Rattle.call_rules.specs.declared.answer.Answer.{Answer}
 use Rattle.the_run.specs.of_role_steps.Views.{Told, Shown, Begins, Shuts, Reserves}
 use Rattle.the_run.specs.Worlds.{Line}
-use Rattle.tree_model.specs.State.{instance_in}
-use Rattle.tree_model.specs.Tree.{tree_of}
+use Rattle.lawful_trace.specs.of_tree_model.State.{instance_in}
+use Rattle.lawful_trace.specs.of_tree_model.Tree.{tree_of}
 use Rattle.lawful_trace.specs.Progress.{close_answer}
 use Rattle.tree_laws.specs.Printed.{entries}
 use Rattle.tree_laws.specs.Calls.{tries}

@@ -15,7 +15,7 @@ use Rattle.trace_book.specs.declared.operation.Op.{Op}
 use Rattle.trace_book.specs.declared.operation.Outcome.{Outcome}
 use Rattle.the_run.specs.of_wire_messages.declared.body.CloseAnswer.{CloseAnswer}
 use Rattle.the_run.specs.of_wire_messages.declared.body.MadeVersion.{MadeVersion}
-use Rattle.tree_model.specs.of_file_effects.Works.{begun}
+use Rattle.lawful_trace.specs.of_tree_model.of_file_effects.Works.{begun}
 use Rattle.the_run.specs.of_role_steps.Own.{Every}
 use Rattle.the_run.specs.of_role_steps.Reports.{stamp_made}
 use Rattle.the_run.specs.of_role_steps.Storage.{copy_key, copy_of, instance_key, instance_of}
@@ -27,13 +27,13 @@ use Rattle.the_run.specs.of_role_steps.declared.instances.Stage.{Stage}
 use Rattle.the_run.specs.of_role_steps.declared.instances.Stage.TheVariants as stage
 use Rattle.the_run.specs.of_role_steps.declared.pulls.Pull.{Pull}
 use Rattle.the_run.specs.Worlds.{Line}
-use Rattle.tree_model.specs.declared.instance.Instance.{Instance as Open}
-use Rattle.tree_model.specs.Files.{HeldVersion, held_version, words_named, kind_made, kind_of_file, set_of_file}
-use Rattle.tree_model.specs.Histories.{history}
-use Rattle.tree_model.specs.Opening.{sites_made}
-use Rattle.tree_model.specs.Packs.{packs_of}
-use Rattle.tree_model.specs.Tree.{tree_of, kept_in}
-use Rattle.tree_model.specs.Working.{parents_of}
+use Rattle.lawful_trace.specs.of_tree_model.declared.instance.Instance.{Instance as Open}
+use Rattle.lawful_trace.specs.of_tree_model.Files.{HeldVersion, held_version, words_named, kind_made, kind_of_file, set_of_file}
+use Rattle.lawful_trace.specs.of_tree_model.Histories.{history}
+use Rattle.lawful_trace.specs.of_tree_model.Opening.{sites_made}
+use Rattle.lawful_trace.specs.of_tree_model.Packs.{packs_of}
+use Rattle.lawful_trace.specs.of_tree_model.Tree.{tree_of, kept_in}
+use Rattle.lawful_trace.specs.of_tree_model.Working.{parents_of}
 use Rattle.lawful_trace.specs.Progress.{close_answer as answer_of_close}
 use Rattle.tree_laws.specs.Printed.{entries}
 use Rattle.tree_laws.specs.Past.{WasGranted, WasNamed, WasDone, WasReleasedWith, WasBegun, WasReserved, WasShut}

@@ -37,15 +37,15 @@ use Rattle.the_run.specs.of_role_steps.declared.synchronizing.SyncTable.{SyncTab
 use Rattle.the_run.specs.of_role_steps.declared.synchronizing.VersionRow.{VersionRow}
 use Rattle.the_run.specs.Kept.{Among}
 use Rattle.the_run.specs.Worlds.{Line}
-use Rattle.tree_model.specs.declared.accepted.Waiting.{Waiting}
-use Rattle.tree_model.specs.declared.instance.Instance.{Instance}
-use Rattle.tree_model.specs.Calls.{call_named}
-use Rattle.tree_model.specs.Epochs.{has_joined}
-use Rattle.tree_model.specs.Files.{HeldVersion, kind_made, kind_of_file, set_of_file, words_named}
-use Rattle.tree_model.specs.Opening.{sites_made}
-use Rattle.tree_model.specs.Packs.{packs_of}
-use Rattle.tree_model.specs.State as state
-use Rattle.tree_model.specs.Tree.{tree_of, candidates, kept_in}
+use Rattle.lawful_trace.specs.of_tree_model.declared.accepted.Waiting.{Waiting}
+use Rattle.lawful_trace.specs.of_tree_model.declared.instance.Instance.{Instance}
+use Rattle.lawful_trace.specs.of_tree_model.Calls.{call_named}
+use Rattle.lawful_trace.specs.of_tree_model.Epochs.{has_joined}
+use Rattle.lawful_trace.specs.of_tree_model.Files.{HeldVersion, kind_made, kind_of_file, set_of_file, words_named}
+use Rattle.lawful_trace.specs.of_tree_model.Opening.{sites_made}
+use Rattle.lawful_trace.specs.of_tree_model.Packs.{packs_of}
+use Rattle.lawful_trace.specs.of_tree_model.State as state
+use Rattle.lawful_trace.specs.of_tree_model.Tree.{tree_of, candidates, kept_in}
 use Rattle.tree_laws.specs.Printed.{entries}
 use Rattle.tree_laws.specs.Calls.{tries}
 use Rattle.tree_laws.specs.Past.{WasNamedIn, WasGranted, WasRefused, WasReleased}

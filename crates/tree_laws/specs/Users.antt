@@ -27,12 +27,12 @@ use Rattle.the_run.specs.of_role_steps.declared.users.UserInstance.{UserInstance
 use Rattle.the_run.specs.of_role_steps.declared.users.WaitingCall.{WaitingCall}
 use Rattle.the_run.specs.Kept.{Among}
 use Rattle.the_run.specs.Worlds.{Line}
-use Rattle.tree_model.specs.declared.accepted.Waiting.{Waiting}
-use Rattle.tree_model.specs.Calls.{call_named, waiting}
-use Rattle.tree_model.specs.Epochs.{boot_of, calls_accepted, members_of}
-use Rattle.tree_model.specs.Histories.{history}
-use Rattle.tree_model.specs.Packs.{sync_site}
-use Rattle.tree_model.specs.State.{has_number}
+use Rattle.lawful_trace.specs.of_tree_model.declared.accepted.Waiting.{Waiting}
+use Rattle.lawful_trace.specs.of_tree_model.Calls.{call_named, waiting}
+use Rattle.lawful_trace.specs.of_tree_model.Epochs.{boot_of, calls_accepted, members_of}
+use Rattle.lawful_trace.specs.of_tree_model.Histories.{history}
+use Rattle.lawful_trace.specs.of_tree_model.Packs.{sync_site}
+use Rattle.lawful_trace.specs.of_tree_model.State.{has_number}
 use Rattle.lawful_trace.specs.CallRows.{has_lost_mend, is_this}
 use Rattle.lawful_trace.specs.Tables.{begun, descriptor}
 use Rattle.tree_laws.specs.Printed.{entries}

@@ -6,12 +6,12 @@ use Rattle.locus_ids.specs.declared.ids.CallId.{CallId}
 use Rattle.locus_ids.specs.declared.ids.FileId.{FileId}
 use Rattle.locus_ids.specs.declared.ids.Serial.{Serial}
 use Rattle.locus_ids.specs.declared.ids.Stamp.{Stamp}
-use Rattle.trace_book.specs.Same.{same_epoch, same_call, same_serial}
-use Rattle.trace_book.specs.declared.record.Record.{Record}
-use Rattle.trace_book.specs.declared.record.Record.TheVariants.{Stopped, Accept, Grant, Answer}
-use Rattle.trace_book.specs.declared.call.Call.{Call}
-use Rattle.trace_book.specs.declared.descriptor.Descriptor.{Descriptor}
-use Rattle.trace_book.specs.declared.descriptor.OneVersion.{OneVersion}
+use Rattle.dir_reconcile.specs.of_trace_book.Same.{same_epoch, same_call, same_serial}
+use Rattle.dir_reconcile.specs.of_trace_book.declared.record.Record.{Record}
+use Rattle.dir_reconcile.specs.of_trace_book.declared.record.Record.TheVariants.{Stopped, Accept, Grant, Answer}
+use Rattle.dir_reconcile.specs.of_trace_book.declared.call.Call.{Call}
+use Rattle.dir_reconcile.specs.of_trace_book.declared.descriptor.Descriptor.{Descriptor}
+use Rattle.dir_reconcile.specs.of_trace_book.declared.descriptor.OneVersion.{OneVersion}
 use Rattle.tree_model.specs.declared.accepted.Waiting.{Waiting}
 use Rattle.tree_model.specs.Folds.{Trace, over}
 use Rattle.tree_model.specs.Epochs.{epoch_of}

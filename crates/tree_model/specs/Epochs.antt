@@ -2,9 +2,9 @@
 use Rattle.std.specs.Prelude.{ℕ, ◌+◌, ◌==◌, Bool, true, false, not, ◌&&◌, ◌||◌, Option, None, Some, cond, nat_lt}
 use Rattle.locus_ids.specs.declared.sites.Members.{Members}
 use Rattle.locus_ids.specs.declared.ids.EpochId.{EpochId}
-use Rattle.trace_book.specs.Same.{same_epoch}
-use Rattle.trace_book.specs.declared.record.Record.{Record}
-use Rattle.trace_book.specs.declared.record.Record.TheVariants.{Up, Stopped, Leave, Join, Accept}
+use Rattle.dir_reconcile.specs.of_trace_book.Same.{same_epoch}
+use Rattle.dir_reconcile.specs.of_trace_book.declared.record.Record.{Record}
+use Rattle.dir_reconcile.specs.of_trace_book.declared.record.Record.TheVariants.{Up, Stopped, Leave, Join, Accept}
 use Rattle.tree_model.specs.Folds.{Trace, over}
 
 abbrev pub up_after : Record → ℕ → Bool → Bool

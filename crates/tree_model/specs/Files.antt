@@ -13,10 +13,10 @@ use Rattle.locus_ids.specs.declared.ids.Kind.{Kind}
 use Rattle.locus_ids.specs.declared.ids.Kind.TheVariants.{File, Dir}
 use Rattle.commit_graph.specs.Versions.{same_file, content_of}
 use Rattle.commit_graph.specs.Vectors.{vector_of}
-use Rattle.trace_book.specs.declared.record.Record.{Record}
-use Rattle.trace_book.specs.declared.record.Record.TheVariants.{Commit}
-use Rattle.trace_book.specs.declared.call.Call.{Call}
-use Rattle.trace_book.specs.declared.call.Call.TheVariants as call
+use Rattle.dir_reconcile.specs.of_trace_book.declared.record.Record.{Record}
+use Rattle.dir_reconcile.specs.of_trace_book.declared.record.Record.TheVariants.{Commit}
+use Rattle.dir_reconcile.specs.of_trace_book.declared.call.Call.{Call}
+use Rattle.dir_reconcile.specs.of_trace_book.declared.call.Call.TheVariants as call
 use Rattle.tree_model.specs.declared.instance.Instance.{Instance}
 use Rattle.tree_model.specs.declared.accepted.Waiting.{Waiting}
 use Rattle.tree_model.specs.Folds.{Trace, over}

@@ -1,7 +1,7 @@
 -- A trace is a list of entries, the latest first. What the records so far tell is a fold over it.
 use Rattle.std.specs.Prelude.{ℕ, List, [], ◌∷◌, ◌++◌, nat_lt, cond}
-use Rattle.trace_book.specs.declared.entry.Entry.{Entry}
-use Rattle.trace_book.specs.Text.{entry_text}
+use Rattle.dir_reconcile.specs.of_trace_book.declared.entry.Entry.{Entry}
+use Rattle.dir_reconcile.specs.of_trace_book.Text.{entry_text}
 
 abbrev pub Trace : Type 0
 Trace = List Entry

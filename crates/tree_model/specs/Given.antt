@@ -13,15 +13,15 @@ use Rattle.locus_ids.specs.declared.refusal.Refusal.TheVariants.{Conflict, NoSto
 use Rattle.commit_graph.specs.declared.history.Version.{Version}
 use Rattle.commit_graph.specs.Versions.{same_file}
 use Rattle.commit_graph.specs.Grants.{by_kept}
-use Rattle.trace_book.specs.Same.{same_epoch}
-use Rattle.trace_book.specs.declared.record.Record.{Record}
-use Rattle.trace_book.specs.declared.record.Record.TheVariants.{Start, Look, Grant, Refuse, Act, Release}
-use Rattle.trace_book.specs.declared.operation.Op.{Op}
-use Rattle.trace_book.specs.declared.operation.What.{What}
-use Rattle.trace_book.specs.declared.operation.What.TheVariants as what
-use Rattle.trace_book.specs.declared.operation.Served.{Served}
-use Rattle.trace_book.specs.declared.operation.Served.TheVariants as served
-use Rattle.trace_book.specs.declared.operation.Outcome.{Outcome}
+use Rattle.dir_reconcile.specs.of_trace_book.Same.{same_epoch}
+use Rattle.dir_reconcile.specs.of_trace_book.declared.record.Record.{Record}
+use Rattle.dir_reconcile.specs.of_trace_book.declared.record.Record.TheVariants.{Start, Look, Grant, Refuse, Act, Release}
+use Rattle.dir_reconcile.specs.of_trace_book.declared.operation.Op.{Op}
+use Rattle.dir_reconcile.specs.of_trace_book.declared.operation.What.{What}
+use Rattle.dir_reconcile.specs.of_trace_book.declared.operation.What.TheVariants as what
+use Rattle.dir_reconcile.specs.of_trace_book.declared.operation.Served.{Served}
+use Rattle.dir_reconcile.specs.of_trace_book.declared.operation.Served.TheVariants as served
+use Rattle.dir_reconcile.specs.of_trace_book.declared.operation.Outcome.{Outcome}
 use Rattle.tree_model.specs.declared.instance.Instance.{Instance}
 use Rattle.tree_model.specs.State.{TreeState, kept_of, has_stamp, is_granted, is_granted_here, instance_in, is_make}
 use Rattle.tree_model.specs.Working.{result_on, is_spent}

@@ -6,8 +6,8 @@ use Rattle.locus_ids.specs.declared.ids.FileId.{FileId}
 use Rattle.locus_ids.specs.declared.ids.Stamp.{Stamp}
 use Rattle.commit_graph.specs.declared.history.Version.{Version}
 use Rattle.commit_graph.specs.Versions.{same_file, content_of}
-use Rattle.trace_book.specs.declared.record.Record.{Record}
-use Rattle.trace_book.specs.declared.record.Record.TheVariants.{Commit, Adopt}
+use Rattle.dir_reconcile.specs.of_trace_book.declared.record.Record.{Record}
+use Rattle.dir_reconcile.specs.of_trace_book.declared.record.Record.TheVariants.{Commit, Adopt}
 use Rattle.tree_model.specs.Folds.{Trace, over}
 use Rattle.tree_model.specs.Packs.{has_pack}
 

@@ -16,3 +16,4 @@ pub use Rattle.dir_reconcile.specs.of_dir_format as of_dir_format
 pub use Rattle.dir_reconcile.specs.of_version_vector as of_version_vector
 pub use Rattle.file_effects.specs as of_file_effects
 pub use Rattle.file_effects.specs.of_file_content as of_file_content
+pub use Rattle.dir_reconcile.specs as of_dir_reconcile

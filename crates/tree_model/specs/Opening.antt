@@ -14,9 +14,9 @@ use Rattle.commit_graph.specs.declared.history.Version.{Version}
 use Rattle.commit_graph.specs.Versions.{same_stamp}
 use Rattle.commit_graph.specs.Vectors.{numbers_from}
 use Rattle.commit_graph.specs.Grants.{grant_refusal}
-use Rattle.trace_book.specs.declared.call.Call.{Call}
-use Rattle.trace_book.specs.declared.call.Call.TheVariants as call
-use Rattle.trace_book.specs.declared.call.OpenMode.TheVariants as how
+use Rattle.dir_reconcile.specs.of_trace_book.declared.call.Call.{Call}
+use Rattle.dir_reconcile.specs.of_trace_book.declared.call.Call.TheVariants as call
+use Rattle.dir_reconcile.specs.of_trace_book.declared.call.OpenMode.TheVariants as how
 use Rattle.tree_model.specs.Same.{same_version}
 use Rattle.tree_model.specs.Packs.{packs_of, is_good_set, making_site_in, sync_site}
 use Rattle.tree_model.specs.State.{TreeState, held_at, kept_of, has_stamp_of, call_in, words_of, is_taken, openers}

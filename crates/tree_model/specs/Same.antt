@@ -8,11 +8,11 @@ use Rattle.locus_ids.specs.declared.ids.Brought.{Brought}
 use Rattle.locus_ids.specs.declared.refusal.Refusal.{Refusal}
 use Rattle.locus_ids.specs.declared.refusal.Refusal.TheVariants as refusal
 use Rattle.commit_graph.specs.Versions.{same_stamp}
-use Rattle.trace_book.specs.Same.{same_epoch}
-use Rattle.trace_book.specs.declared.operation.Outcome.{Outcome}
-use Rattle.trace_book.specs.declared.operation.Outcome.TheVariants as outcome
-use Rattle.trace_book.specs.declared.operation.Served.{Served}
-use Rattle.trace_book.specs.declared.operation.Served.TheVariants as served
+use Rattle.dir_reconcile.specs.of_trace_book.Same.{same_epoch}
+use Rattle.dir_reconcile.specs.of_trace_book.declared.operation.Outcome.{Outcome}
+use Rattle.dir_reconcile.specs.of_trace_book.declared.operation.Outcome.TheVariants as outcome
+use Rattle.dir_reconcile.specs.of_trace_book.declared.operation.Served.{Served}
+use Rattle.dir_reconcile.specs.of_trace_book.declared.operation.Served.TheVariants as served
 
 abbrev pub same_kind : Kind → Kind → Bool
 same_kind kind.File kind.File = true

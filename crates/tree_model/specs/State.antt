@@ -15,8 +15,8 @@ use Rattle.locus_ids.specs.declared.ids.Brought.{Brought}
 use Rattle.commit_graph.specs.declared.history.Version.{Version}
 use Rattle.commit_graph.specs.Versions.{same_file, same_stamp, is_stamp_below, kept}
 use Rattle.commit_graph.specs.Grants.{Opener, is_read}
-use Rattle.trace_book.specs.Same.{same_call, same_serial}
-use Rattle.trace_book.specs.declared.call.Call.{Call}
+use Rattle.dir_reconcile.specs.of_trace_book.Same.{same_call, same_serial}
+use Rattle.dir_reconcile.specs.of_trace_book.declared.call.Call.{Call}
 use Rattle.tree_model.specs.Lists.{put_first, latest}
 use Rattle.tree_model.specs.Same.{same_brought}
 use Rattle.tree_model.specs.declared.copy.HeldCopy.{HeldCopy}

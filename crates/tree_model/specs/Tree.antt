@@ -11,13 +11,13 @@ use Rattle.locus_ids.specs.declared.ids.Serial.{Serial}
 use Rattle.locus_ids.specs.declared.ids.Mode.{Mode}
 use Rattle.locus_ids.specs.declared.ids.Brought.{Brought}
 use Rattle.commit_graph.specs.declared.history.Version.{Version}
-use Rattle.trace_book.specs.Same.{same_epoch, same_call}
-use Rattle.trace_book.specs.declared.record.Record.{Record}
-use Rattle.trace_book.specs.declared.record.Record.TheVariants.{Up, Stopped, Leave, Join, Start, Accept, Grant, Refuse, Act, Commit, Release, Adopt}
-use Rattle.trace_book.specs.declared.operation.Op.{Op}
-use Rattle.trace_book.specs.declared.operation.Op.TheVariants as op
-use Rattle.trace_book.specs.declared.operation.Outcome.{Outcome}
-use Rattle.trace_book.specs.declared.operation.Outcome.TheVariants as outcome
+use Rattle.dir_reconcile.specs.of_trace_book.Same.{same_epoch, same_call}
+use Rattle.dir_reconcile.specs.of_trace_book.declared.record.Record.{Record}
+use Rattle.dir_reconcile.specs.of_trace_book.declared.record.Record.TheVariants.{Up, Stopped, Leave, Join, Start, Accept, Grant, Refuse, Act, Commit, Release, Adopt}
+use Rattle.dir_reconcile.specs.of_trace_book.declared.operation.Op.{Op}
+use Rattle.dir_reconcile.specs.of_trace_book.declared.operation.Op.TheVariants as op
+use Rattle.dir_reconcile.specs.of_trace_book.declared.operation.Outcome.{Outcome}
+use Rattle.dir_reconcile.specs.of_trace_book.declared.operation.Outcome.TheVariants as outcome
 use Rattle.file_effects.specs.Works.{begun, committed}
 use Rattle.tree_model.specs.declared.copy.HeldCopy.{HeldCopy}
 use Rattle.tree_model.specs.declared.instance.Granted.{Granted}

@@ -10,11 +10,11 @@ use Rattle.locus_ids.specs.Sizes.{pack_pages}
 use Rattle.commit_graph.specs.declared.history.Version.{Version}
 use Rattle.commit_graph.specs.Counters.{next_number}
 use Rattle.commit_graph.specs.Vectors.{vector_of}
-use Rattle.trace_book.specs.Same.{same_call}
-use Rattle.trace_book.specs.declared.operation.Op.{Op}
-use Rattle.trace_book.specs.declared.operation.Op.TheVariants as op
-use Rattle.trace_book.specs.declared.operation.Outcome.{Outcome}
-use Rattle.trace_book.specs.declared.operation.Outcome.TheVariants as outcome
+use Rattle.dir_reconcile.specs.of_trace_book.Same.{same_call}
+use Rattle.dir_reconcile.specs.of_trace_book.declared.operation.Op.{Op}
+use Rattle.dir_reconcile.specs.of_trace_book.declared.operation.Op.TheVariants as op
+use Rattle.dir_reconcile.specs.of_trace_book.declared.operation.Outcome.{Outcome}
+use Rattle.dir_reconcile.specs.of_trace_book.declared.operation.Outcome.TheVariants as outcome
 use Rattle.file_effects.specs.of_file_content.Pages.{pages_of}
 use Rattle.file_effects.specs.Effects.{Deed, As, Removes, Mends, Effect, effect}
 use Rattle.file_effects.specs.Works.{result_in, counted, operated, aborted, commit_result}

@@ -1,5 +1,5 @@
+use dir_reconcile::trace_book::Call;
 use locus_ids::{CallId, EpochId};
-use trace_book::Call;
 
 /// An accepted call, as the tree asks for it later.
 #[derive(Drop)]

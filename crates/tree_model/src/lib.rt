@@ -9,4 +9,5 @@ mod instance;
 
 pub use accepted::{AcceptedCall, Waiting};
 pub use copy::HeldCopy;
+pub use file_effects;
 pub use instance::{Granted, Instance};

@@ -9,11 +9,11 @@ ghost use Rattle.tree_model.specs.Working.{is_target};
 ghost use Rattle.tree_model.specs.declared.instance.Instance.{Instance};
 ghost use Rattle.tree_tables.specs.Worked.{worked};
 
-use file_effects::Work;
 use locus_ids::{CallId, FileId, Mode, NoMemory, Serial, Stamp};
 use std::alloc::Global;
 use std::marker::Model;
 use tree_model::Instance;
+use tree_model::file_effects::Work;
 
 /// The open instances of a group in an epoch, the earliest granted first.
 #[derive(Drop)]

@@ -2,10 +2,10 @@
 use Rattle.std.proofs.Common.{◌≡◌, ℕ, List, ◌∷◌, ◌++◌, Option, Some, None, refl, sym, ◌∙◌, ap, subst, append_assoc, inl, inr}
 use Rattle.trace_book.specs.declared.record.Record.{Record}
 use Rattle.trace_book.specs.declared.record.Record.TheVariants as says
-use Rattle.role_steps.specs.Own.{Every}
-use Rattle.role_steps.specs.Views.{Told, Shown, Promises, DiskWrite, first_written}
-use Rattle.role_steps.specs.declared.copies.FileCopy.{FileCopy}
-use Rattle.role_steps.proofs.Sending.{every_append}
+use Rattle.run_laws.specs.of_role_steps.Own.{Every}
+use Rattle.run_laws.specs.of_role_steps.Views.{Told, Shown, Promises, DiskWrite, first_written}
+use Rattle.run_laws.specs.of_role_steps.declared.copies.FileCopy.{FileCopy}
+use Rattle.run_laws.proofs.of_role_steps.Sending.{every_append}
 use Rattle.run_laws.proofs.of_the_run.Boots.{every_weaker}
 use Rattle.run_laws.specs.Words.{TalkRecord, Talk}
 use Rattle.vector_laws.specs.Held.{StillRecord, Still, Untouched, Writes, OnDisk}

@@ -7,25 +7,25 @@ use Rattle.locus_ids.specs.declared.ids.Mode.{Mode}
 use Rattle.locus_ids.specs.declared.ids.Mode.TheVariants as mode
 use Rattle.trace_book.specs.declared.record.Record.{Record}
 use Rattle.trace_book.specs.declared.record.Record.TheVariants as says
-use Rattle.wire_messages.specs.declared.packet.Packet.{Packet}
-use Rattle.wire_messages.specs.declared.body.Body.{Body}
-use Rattle.wire_messages.specs.declared.body.Body.TheVariants as body
-use Rattle.wire_messages.specs.declared.body.MadeVersion.{MadeVersion}
-use Rattle.role_steps.specs.Own.{Every}
-use Rattle.role_steps.specs.Views.{Store, SiteView, Told, Shown, DiskWrite, Outcome, joined_to, first_written, serial_key}
-use Rattle.role_steps.specs.declared.copies.FileCopy.{FileCopy}
-use Rattle.role_steps.specs.declared.instances.Instance.{Instance}
-use Rattle.role_steps.specs.declared.instances.Stage.{Stage}
-use Rattle.role_steps.specs.declared.instances.Stage.TheVariants as stage
-use Rattle.role_steps.specs.declared.pulls.Pull.{Pull}
-use Rattle.role_steps.specs.declared.rounds.InEpoch.{InEpoch}
-use Rattle.role_steps.specs.declared.synchronizing.SyncTable.{SyncTable}
-use Rattle.role_steps.specs.declared.synchronizing.FileRow.{FileRow}
-use Rattle.role_steps.specs.declared.synchronizing.VersionRow.{VersionRow}
-use Rattle.role_steps.specs.declared.synchronizing.OpenRow.{OpenRow}
-use Rattle.role_steps.specs.declared.synchronizing.OpenStage.{OpenStage}
-use Rattle.role_steps.specs.declared.synchronizing.OpenStage.TheVariants as opening
-use Rattle.role_steps.proofs.Sending.{every_append}
+use Rattle.run_laws.specs.of_wire_messages.declared.packet.Packet.{Packet}
+use Rattle.run_laws.specs.of_wire_messages.declared.body.Body.{Body}
+use Rattle.run_laws.specs.of_wire_messages.declared.body.Body.TheVariants as body
+use Rattle.run_laws.specs.of_wire_messages.declared.body.MadeVersion.{MadeVersion}
+use Rattle.run_laws.specs.of_role_steps.Own.{Every}
+use Rattle.run_laws.specs.of_role_steps.Views.{Store, SiteView, Told, Shown, DiskWrite, Outcome, joined_to, first_written, serial_key}
+use Rattle.run_laws.specs.of_role_steps.declared.copies.FileCopy.{FileCopy}
+use Rattle.run_laws.specs.of_role_steps.declared.instances.Instance.{Instance}
+use Rattle.run_laws.specs.of_role_steps.declared.instances.Stage.{Stage}
+use Rattle.run_laws.specs.of_role_steps.declared.instances.Stage.TheVariants as stage
+use Rattle.run_laws.specs.of_role_steps.declared.pulls.Pull.{Pull}
+use Rattle.run_laws.specs.of_role_steps.declared.rounds.InEpoch.{InEpoch}
+use Rattle.run_laws.specs.of_role_steps.declared.synchronizing.SyncTable.{SyncTable}
+use Rattle.run_laws.specs.of_role_steps.declared.synchronizing.FileRow.{FileRow}
+use Rattle.run_laws.specs.of_role_steps.declared.synchronizing.VersionRow.{VersionRow}
+use Rattle.run_laws.specs.of_role_steps.declared.synchronizing.OpenRow.{OpenRow}
+use Rattle.run_laws.specs.of_role_steps.declared.synchronizing.OpenStage.{OpenStage}
+use Rattle.run_laws.specs.of_role_steps.declared.synchronizing.OpenStage.TheVariants as opening
+use Rattle.run_laws.proofs.of_role_steps.Sending.{every_append}
 use Rattle.run_laws.proofs.of_the_run.Boots.{every_weaker}
 use Rattle.vector_laws.specs.Written.{NumberedRecord, NumberedTold, JoinsAll, WrittenAs, WasBegun, WasGranted, InstancesAgree}
 use Rattle.vector_laws.specs.Facts.{NotCommitRecord, NotCommit, NumberedAll, DiskFact, Fine, ReportedFact, BaseFact, MaybeMade, BodyFact, PacketFact, NoFact, Factless, CopyFact, PullFact, ClosingFact, StageFact, LastMade, InstanceFact, StoreFact, VersionFact, RowFact, GrantFact, OpenFact, TableFact, InEpochFact, ViewFact, onto, file_in}

@@ -1,7 +1,7 @@
 -- Adoptions, mends, and how an epoch is formed: what a site keeps and sends of versions is as it was told.
 use Rattle.std.proofs.Common.{◌≡◌, ℕ, ◌+◌, ◌==◌, Bool, true, false, cond, ◌&&◌, not, List, [], ◌∷◌, Option, Some, None, refl, sym, subst, arith}
 use Rattle.std.proofs.lemmas.Bool.Decides.{nat_tests}
-use Rattle.role_steps.proofs.of_plain_facts.Tests.{both_true, not_true}
+use Rattle.run_laws.proofs.of_role_steps.of_plain_facts.Tests.{both_true, not_true}
 use Rattle.locus_ids.specs.declared.ids.EpochId.{EpochId}
 use Rattle.locus_ids.specs.declared.ids.FileId.{FileId}
 use Rattle.locus_ids.specs.declared.sites.Links.{Links}
@@ -10,27 +10,27 @@ use Rattle.locus_ids.specs.declared.sites.Sites.{Sites}
 use Rattle.locus_ids.specs.declared.config.Config.{Config}
 use Rattle.trace_book.specs.Same.{same_epoch}
 use Rattle.trace_book.specs.declared.call.Call.TheVariants as call
-use Rattle.wire_messages.specs.declared.body.Body.TheVariants as body
-use Rattle.role_steps.specs.Own.{Every}
-use Rattle.role_steps.specs.Tables.{row, without_row, first_that}
-use Rattle.role_steps.specs.Views.{Frame, SiteView, Told, Shown, Promises, Outcome, quiet, sends, tells, and_then}
-use Rattle.role_steps.specs.Reports.{new_table, on_have_of}
-use Rattle.role_steps.specs.Storage.{copy_key, copy_of, with_copy, report_of, reported}
-use Rattle.role_steps.specs.Pulling.{pull_key}
-use Rattle.role_steps.specs.Using.{on_call, reply_record}
-use Rattle.role_steps.specs.Versions.{file_row, row_ino}
-use Rattle.role_steps.specs.Epochs.{is_epoch_below, frame_in, leaves_of, leaves, promises, promised_view, reached, poll_packet, polled_sites, polls, round_id, begins_round, boots_where, part_boot, starts_part_of, promise_packet, refuse_packet, on_poll, on_promise_of, on_refuse_of, report_packets, all_reports, joined_view, joins, may_install, is_in, joined_packet, on_install, on_joined, passed_over, unanswered, chosen_members, chosen_set, others_of, install_packet, installs_all, decides_if, passes_over_of, passes_over}
-use Rattle.role_steps.specs.Adoption.{notes_own_at, copy_adopted, adopt_record, table_group, with_store, without_pull, is_ready, is_above_own, adopts_pull, adopts_first}
-use Rattle.role_steps.specs.Mends.{has_mend_in, wants_mend, starts_mend_of, starts_mend, starts_mends_in, row_file}
-use Rattle.role_steps.specs.declared.copies.FileCopy.{FileCopy}
-use Rattle.role_steps.specs.declared.instances.Instance.{Instance}
-use Rattle.role_steps.specs.declared.pulls.Pull.{Pull}
-use Rattle.role_steps.specs.declared.rounds.InEpoch.{InEpoch}
-use Rattle.role_steps.specs.declared.rounds.Round.{Round}
-use Rattle.role_steps.specs.declared.synchronizing.SyncTable.{SyncTable}
-use Rattle.role_steps.specs.declared.synchronizing.FileRow.{FileRow}
-use Rattle.role_steps.specs.declared.users.WaitingCall.{WaitingCall}
-use Rattle.role_steps.proofs.Sending.{every_cond, every_map, every_flat_map}
+use Rattle.run_laws.specs.of_wire_messages.declared.body.Body.TheVariants as body
+use Rattle.run_laws.specs.of_role_steps.Own.{Every}
+use Rattle.run_laws.specs.of_role_steps.Tables.{row, without_row, first_that}
+use Rattle.run_laws.specs.of_role_steps.Views.{Frame, SiteView, Told, Shown, Promises, Outcome, quiet, sends, tells, and_then}
+use Rattle.run_laws.specs.of_role_steps.Reports.{new_table, on_have_of}
+use Rattle.run_laws.specs.of_role_steps.Storage.{copy_key, copy_of, with_copy, report_of, reported}
+use Rattle.run_laws.specs.of_role_steps.Pulling.{pull_key}
+use Rattle.run_laws.specs.of_role_steps.Using.{on_call, reply_record}
+use Rattle.run_laws.specs.of_role_steps.Versions.{file_row, row_ino}
+use Rattle.run_laws.specs.of_role_steps.Epochs.{is_epoch_below, frame_in, leaves_of, leaves, promises, promised_view, reached, poll_packet, polled_sites, polls, round_id, begins_round, boots_where, part_boot, starts_part_of, promise_packet, refuse_packet, on_poll, on_promise_of, on_refuse_of, report_packets, all_reports, joined_view, joins, may_install, is_in, joined_packet, on_install, on_joined, passed_over, unanswered, chosen_members, chosen_set, others_of, install_packet, installs_all, decides_if, passes_over_of, passes_over}
+use Rattle.run_laws.specs.of_role_steps.Adoption.{notes_own_at, copy_adopted, adopt_record, table_group, with_store, without_pull, is_ready, is_above_own, adopts_pull, adopts_first}
+use Rattle.run_laws.specs.of_role_steps.Mends.{has_mend_in, wants_mend, starts_mend_of, starts_mend, starts_mends_in, row_file}
+use Rattle.run_laws.specs.of_role_steps.declared.copies.FileCopy.{FileCopy}
+use Rattle.run_laws.specs.of_role_steps.declared.instances.Instance.{Instance}
+use Rattle.run_laws.specs.of_role_steps.declared.pulls.Pull.{Pull}
+use Rattle.run_laws.specs.of_role_steps.declared.rounds.InEpoch.{InEpoch}
+use Rattle.run_laws.specs.of_role_steps.declared.rounds.Round.{Round}
+use Rattle.run_laws.specs.of_role_steps.declared.synchronizing.SyncTable.{SyncTable}
+use Rattle.run_laws.specs.of_role_steps.declared.synchronizing.FileRow.{FileRow}
+use Rattle.run_laws.specs.of_role_steps.declared.users.WaitingCall.{WaitingCall}
+use Rattle.run_laws.proofs.of_role_steps.Sending.{every_cond, every_map, every_flat_map}
 use Rattle.run_laws.specs.of_the_run.Steps.{adopts_of, starts_mends_of, ends_event}
 use Rattle.run_laws.proofs.of_the_run.InsideSync.{every_row, every_without, Found, row_found}
 use Rattle.run_laws.specs.Naming.{Deeds, ViewOk}

@@ -1,9 +1,9 @@
 -- In every run what a site holds counts its own commits, where no stamp is given twice.
 use Rattle.std.proofs.Common.{◌≡◌, ◌≢◌, ℕ, ◌+◌, ◌-◌, ◌==◌, ◌≤◌, ◌<◌, Bool, true, false, cond, not, ◌&&◌, List, [], ◌∷◌, ◌++◌, map, Option, Some, None, refl, sym, ◌∙◌, ap, subst, inl, inr, arith, ⊎_elim}
 use Rattle.std.proofs.lemmas.Bool.Decides.{nat_tests}
-use Rattle.role_steps.proofs.of_plain_facts.Numbers.{equal}
-use Rattle.role_steps.proofs.of_plain_facts.Options.{some_same}
-use Rattle.role_steps.proofs.of_plain_facts.Tests.{both_true}
+use Rattle.run_laws.proofs.of_role_steps.of_plain_facts.Numbers.{equal}
+use Rattle.run_laws.proofs.of_role_steps.of_plain_facts.Options.{some_same}
+use Rattle.run_laws.proofs.of_role_steps.of_plain_facts.Tests.{both_true}
 use Rattle.locus_ids.specs.declared.ids.FileId.{FileId}
 use Rattle.locus_ids.specs.declared.ids.Stamp.{Stamp}
 use Rattle.locus_ids.specs.declared.config.Config.{Config}
@@ -23,14 +23,14 @@ use Rattle.trace_book.specs.declared.record.Record.{Record}
 use Rattle.trace_book.specs.declared.record.Record.TheVariants as says
 use Rattle.trace_book.specs.declared.record.StopCause.{StopCause}
 use Rattle.trace_book.specs.declared.record.StopCause.TheVariants as cause
-use Rattle.wire_messages.specs.declared.packet.Packet.{Packet}
-use Rattle.role_steps.specs.Own.{Every}
-use Rattle.role_steps.specs.Tables.{row, with_row}
-use Rattle.role_steps.specs.Views.{SiteView, Told, Shown, DiskWrite, Outcome, Receives, file_key}
-use Rattle.role_steps.specs.Storage.{copy_key}
-use Rattle.role_steps.specs.declared.copies.FileCopy.{FileCopy}
-use Rattle.role_steps.proofs.Rows.{row_other, row_same}
-use Rattle.role_steps.proofs.Sending.{every_map}
+use Rattle.run_laws.specs.of_wire_messages.declared.packet.Packet.{Packet}
+use Rattle.run_laws.specs.of_role_steps.Own.{Every}
+use Rattle.run_laws.specs.of_role_steps.Tables.{row, with_row}
+use Rattle.run_laws.specs.of_role_steps.Views.{SiteView, Told, Shown, DiskWrite, Outcome, Receives, file_key}
+use Rattle.run_laws.specs.of_role_steps.Storage.{copy_key}
+use Rattle.run_laws.specs.of_role_steps.declared.copies.FileCopy.{FileCopy}
+use Rattle.run_laws.proofs.of_role_steps.Rows.{row_other, row_same}
+use Rattle.run_laws.proofs.of_role_steps.Sending.{every_map}
 use Rattle.run_laws.specs.of_the_run.Disks.{Disk, Booted, Whole, CutOff, boots, cut_disk, is_on_disk}
 use Rattle.run_laws.specs.of_the_run.Steps.{step}
 use Rattle.run_laws.specs.of_the_run.Worlds.{World, Place, Running, Stopped, links_of, place_at, place_in, place_site, script_of, happened, disk_of, puts, arms, passed, stops_with, cause_of, acts, fresh, root_copy, formatted, first_place, first_world}

@@ -6,20 +6,20 @@ use Rattle.locus_ids.specs.declared.ids.Stamp.{Stamp}
 use Rattle.trace_book.specs.declared.call.Call.{Call}
 use Rattle.trace_book.specs.declared.operation.Op.{Op}
 use Rattle.trace_book.specs.declared.operation.Outcome.{Outcome as Result}
-use Rattle.wire_messages.specs.declared.body.Body.{Body}
-use Rattle.wire_messages.specs.declared.body.CloseAnswer.{CloseAnswer}
-use Rattle.wire_messages.specs.declared.body.LookAnswer.{LookAnswer}
-use Rattle.wire_messages.specs.declared.body.Granted.{Granted}
-use Rattle.wire_messages.specs.declared.body.Body.TheVariants as body
-use Rattle.role_steps.specs.Own.{Every}
-use Rattle.role_steps.specs.Views.{Frame, Store, Users, Outcome, sends}
-use Rattle.role_steps.specs.Looks.{LookRequest}
-use Rattle.role_steps.specs.Storage.{on_look_ss, on_pull}
-use Rattle.role_steps.specs.Pulling.{on_notify, on_page, pull_repeats}
-use Rattle.role_steps.specs.Requests.{users_repeats}
-use Rattle.role_steps.specs.Using.{on_call, on_open_done, on_op_done, on_close_done, on_look_done}
-use Rattle.role_steps.specs.declared.copies.FileCopy.{FileCopy}
-use Rattle.role_steps.specs.declared.pulls.Pull.{Pull}
+use Rattle.run_laws.specs.of_wire_messages.declared.body.Body.{Body}
+use Rattle.run_laws.specs.of_wire_messages.declared.body.CloseAnswer.{CloseAnswer}
+use Rattle.run_laws.specs.of_wire_messages.declared.body.LookAnswer.{LookAnswer}
+use Rattle.run_laws.specs.of_wire_messages.declared.body.Granted.{Granted}
+use Rattle.run_laws.specs.of_wire_messages.declared.body.Body.TheVariants as body
+use Rattle.run_laws.specs.of_role_steps.Own.{Every}
+use Rattle.run_laws.specs.of_role_steps.Views.{Frame, Store, Users, Outcome, sends}
+use Rattle.run_laws.specs.of_role_steps.Looks.{LookRequest}
+use Rattle.run_laws.specs.of_role_steps.Storage.{on_look_ss, on_pull}
+use Rattle.run_laws.specs.of_role_steps.Pulling.{on_notify, on_page, pull_repeats}
+use Rattle.run_laws.specs.of_role_steps.Requests.{users_repeats}
+use Rattle.run_laws.specs.of_role_steps.Using.{on_call, on_open_done, on_op_done, on_close_done, on_look_done}
+use Rattle.run_laws.specs.of_role_steps.declared.copies.FileCopy.{FileCopy}
+use Rattle.run_laws.specs.of_role_steps.declared.pulls.Pull.{Pull}
 use Rattle.run_laws.specs.of_law_walks.Kinds.{IsOfReader, IsUserRequest, IsOfUser}
 use Rattle.run_laws.specs.of_law_walks.Laws.{Law, body_law, ReadersKeep, UsersKeep}
 use Rattle.run_laws.proofs.of_law_walks.RoleWalks.{on_look_ss_walk, on_pull_walk, on_notify_walk, on_page_walk, pull_repeats_walk, users_repeats_walk, on_call_walk, on_open_done_walk, on_op_done_walk, on_close_done_walk, on_look_done_walk}

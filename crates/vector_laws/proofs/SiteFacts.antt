@@ -4,26 +4,26 @@ use Rattle.locus_ids.specs.declared.ids.Stamp.{Stamp}
 use Rattle.locus_ids.specs.declared.config.Config.{Config}
 use Rattle.trace_book.specs.declared.record.Record.{Record}
 use Rattle.trace_book.specs.declared.record.Record.TheVariants as says
-use Rattle.wire_messages.specs.declared.body.Body.{Body}
-use Rattle.wire_messages.specs.declared.body.Body.TheVariants as body
-use Rattle.role_steps.specs.Own.{Every}
-use Rattle.role_steps.specs.Tables.{row, first_that}
-use Rattle.role_steps.specs.Views.{Frame, Store, Users, SiteView, Told, Shown, DiskWrite, Outcome, quiet, sends, packet}
-use Rattle.role_steps.specs.Reports.{on_report, on_open, on_look, on_closed, on_have}
-use Rattle.role_steps.specs.Opens.{on_opened}
-use Rattle.role_steps.specs.Storage.{copy_of, instance_of}
-use Rattle.role_steps.specs.Pulling.{pull_key, pull_of, goes_on, begins_pull, replaces_pull, on_notify, is_awaited, on_page_of, on_page}
-use Rattle.role_steps.specs.Using.{on_open_done, on_op_done, on_close_done, on_look_done}
-use Rattle.role_steps.specs.Versions.{is_below}
+use Rattle.run_laws.specs.of_wire_messages.declared.body.Body.{Body}
+use Rattle.run_laws.specs.of_wire_messages.declared.body.Body.TheVariants as body
+use Rattle.run_laws.specs.of_role_steps.Own.{Every}
+use Rattle.run_laws.specs.of_role_steps.Tables.{row, first_that}
+use Rattle.run_laws.specs.of_role_steps.Views.{Frame, Store, Users, SiteView, Told, Shown, DiskWrite, Outcome, quiet, sends, packet}
+use Rattle.run_laws.specs.of_role_steps.Reports.{on_report, on_open, on_look, on_closed, on_have}
+use Rattle.run_laws.specs.of_role_steps.Opens.{on_opened}
+use Rattle.run_laws.specs.of_role_steps.Storage.{copy_of, instance_of}
+use Rattle.run_laws.specs.of_role_steps.Pulling.{pull_key, pull_of, goes_on, begins_pull, replaces_pull, on_notify, is_awaited, on_page_of, on_page}
+use Rattle.run_laws.specs.of_role_steps.Using.{on_open_done, on_op_done, on_close_done, on_look_done}
+use Rattle.run_laws.specs.of_role_steps.Versions.{is_below}
 use Rattle.commit_graph.specs.Versions.{same_stamp}
-use Rattle.role_steps.specs.Epochs.{frame_in, with_users}
-use Rattle.role_steps.specs.Adoption.{table_group, with_table, with_store}
-use Rattle.role_steps.specs.Mends.{mending, kept_stamps}
-use Rattle.role_steps.specs.declared.copies.FileCopy.{FileCopy}
-use Rattle.role_steps.specs.declared.instances.Instance.{Instance}
-use Rattle.role_steps.specs.declared.pulls.Pull.{Pull}
-use Rattle.role_steps.specs.declared.rounds.InEpoch.{InEpoch}
-use Rattle.role_steps.specs.declared.synchronizing.SyncTable.{SyncTable}
+use Rattle.run_laws.specs.of_role_steps.Epochs.{frame_in, with_users}
+use Rattle.run_laws.specs.of_role_steps.Adoption.{table_group, with_table, with_store}
+use Rattle.run_laws.specs.of_role_steps.Mends.{mending, kept_stamps}
+use Rattle.run_laws.specs.of_role_steps.declared.copies.FileCopy.{FileCopy}
+use Rattle.run_laws.specs.of_role_steps.declared.instances.Instance.{Instance}
+use Rattle.run_laws.specs.of_role_steps.declared.pulls.Pull.{Pull}
+use Rattle.run_laws.specs.of_role_steps.declared.rounds.InEpoch.{InEpoch}
+use Rattle.run_laws.specs.of_role_steps.declared.synchronizing.SyncTable.{SyncTable}
 use Rattle.run_laws.specs.of_the_run.Steps.{from_user, group_of, at_table_of, is_opened_in, takes_inside, with_pulls}
 use Rattle.run_laws.proofs.of_the_run.InsideSync.{every_row, Found, row_found, first_found}
 use Rattle.run_laws.proofs.of_the_run.Boots.{every_weaker}

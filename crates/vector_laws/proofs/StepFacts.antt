@@ -2,30 +2,30 @@
 use Rattle.std.proofs.Common.{◌≡◌, ℕ, ◌+◌, ◌==◌, nat_lt, Bool, true, false, ◌&&◌, ◌||◌, not, List, [], ◌∷◌, ◌++◌, Option, Some, None, refl, sym, subst, arith}
 use Rattle.std.proofs.lemmas.Bool.Decides.{nat_tests}
 use Rattle.std.specs.List.{flat_map}
-use Rattle.role_steps.proofs.of_plain_facts.Tests.{both_true, not_false, or_other}
+use Rattle.run_laws.proofs.of_role_steps.of_plain_facts.Tests.{both_true, not_false, or_other}
 use Rattle.locus_ids.specs.declared.ids.EpochId.{EpochId}
 use Rattle.locus_ids.specs.declared.ids.Stamp.{Stamp}
 use Rattle.locus_ids.specs.declared.sites.Links.{Links}
 use Rattle.locus_ids.specs.declared.config.Config.{Config}
 use Rattle.commit_graph.specs.Versions.{same_stamp}
 use Rattle.trace_book.specs.Same.{same_epoch}
-use Rattle.wire_messages.specs.Bodies.{kind_number}
-use Rattle.wire_messages.specs.declared.packet.Packet.{Packet}
-use Rattle.wire_messages.specs.declared.body.Body.{Body}
-use Rattle.wire_messages.specs.declared.body.Body.TheVariants as body
-use Rattle.role_steps.specs.Own.{Every}
-use Rattle.role_steps.specs.Views.{Frame, SiteView, Told, DiskWrite, Outcome, Event, Calls, Receives, Ticks, Parts, Merges, GivesUp, quiet, sends, joined_to, first_written, boot_in, packet}
-use Rattle.role_steps.specs.Reports.{sync_repeats}
-use Rattle.role_steps.specs.Storage.{copy_of, store_repeats}
-use Rattle.role_steps.specs.Pulling.{pull_of, goes_on, begins_pull, replaces_pull, on_notify, is_awaited, on_page_of, pull_repeats}
-use Rattle.role_steps.specs.Requests.{users_repeats}
-use Rattle.role_steps.specs.Versions.{is_below}
-use Rattle.role_steps.specs.Epochs.{frame_in, leaves, poll_packet, starts_merge, boots_where, merge_boot, starts_part, all_reports, unanswered, install_packet, poll_repeats, install_repeats}
-use Rattle.role_steps.specs.declared.copies.FileCopy.{FileCopy}
-use Rattle.role_steps.specs.declared.pulls.Pull.{Pull}
-use Rattle.role_steps.specs.declared.rounds.InEpoch.{InEpoch}
-use Rattle.role_steps.specs.declared.rounds.Round.{Round}
-use Rattle.role_steps.proofs.Sending.{every_append, every_map}
+use Rattle.run_laws.specs.of_wire_messages.Bodies.{kind_number}
+use Rattle.run_laws.specs.of_wire_messages.declared.packet.Packet.{Packet}
+use Rattle.run_laws.specs.of_wire_messages.declared.body.Body.{Body}
+use Rattle.run_laws.specs.of_wire_messages.declared.body.Body.TheVariants as body
+use Rattle.run_laws.specs.of_role_steps.Own.{Every}
+use Rattle.run_laws.specs.of_role_steps.Views.{Frame, SiteView, Told, DiskWrite, Outcome, Event, Calls, Receives, Ticks, Parts, Merges, GivesUp, quiet, sends, joined_to, first_written, boot_in, packet}
+use Rattle.run_laws.specs.of_role_steps.Reports.{sync_repeats}
+use Rattle.run_laws.specs.of_role_steps.Storage.{copy_of, store_repeats}
+use Rattle.run_laws.specs.of_role_steps.Pulling.{pull_of, goes_on, begins_pull, replaces_pull, on_notify, is_awaited, on_page_of, pull_repeats}
+use Rattle.run_laws.specs.of_role_steps.Requests.{users_repeats}
+use Rattle.run_laws.specs.of_role_steps.Versions.{is_below}
+use Rattle.run_laws.specs.of_role_steps.Epochs.{frame_in, leaves, poll_packet, starts_merge, boots_where, merge_boot, starts_part, all_reports, unanswered, install_packet, poll_repeats, install_repeats}
+use Rattle.run_laws.specs.of_role_steps.declared.copies.FileCopy.{FileCopy}
+use Rattle.run_laws.specs.of_role_steps.declared.pulls.Pull.{Pull}
+use Rattle.run_laws.specs.of_role_steps.declared.rounds.InEpoch.{InEpoch}
+use Rattle.run_laws.specs.of_role_steps.declared.rounds.Round.{Round}
+use Rattle.run_laws.proofs.of_role_steps.Sending.{every_append, every_map}
 use Rattle.run_laws.specs.of_the_run.Steps.{in_order, is_framed, is_forming, is_dropped, takes_inside, takes_framed, takes, adopts_in, tries_at, ends_event, whole, repeats_inside, repeats_of, repeats, ticks_after, call_frame, epoch_id, takes_call, step}
 use Rattle.run_laws.proofs.of_the_run.InsideSites.{adopts_of_plain}
 use Rattle.run_laws.proofs.of_the_run.InsideRoles.{on_call_still}

@@ -7,27 +7,27 @@ use Rattle.locus_ids.specs.declared.ids.Mode.{Mode}
 use Rattle.locus_ids.specs.declared.ids.Mode.TheVariants as mode
 use Rattle.trace_book.specs.declared.record.Record.{Record}
 use Rattle.trace_book.specs.declared.record.Record.TheVariants as says
-use Rattle.wire_messages.specs.declared.packet.Packet.{Packet}
-use Rattle.wire_messages.specs.declared.body.Body.{Body}
-use Rattle.wire_messages.specs.declared.body.Body.TheVariants as body
-use Rattle.wire_messages.specs.declared.body.MadeVersion.{MadeVersion}
-use Rattle.wire_messages.specs.declared.body.ReportedCopy.{ReportedCopy}
-use Rattle.role_steps.specs.Own.{Every}
-use Rattle.role_steps.specs.Views.{Store, SiteView, Told, Shown, DiskWrite, Outcome, serial_key}
-use Rattle.role_steps.specs.declared.copies.FileCopy.{FileCopy}
-use Rattle.role_steps.specs.declared.instances.Instance.{Instance}
-use Rattle.role_steps.specs.declared.instances.Stage.{Stage}
-use Rattle.role_steps.specs.declared.instances.Stage.TheVariants as stage
-use Rattle.role_steps.specs.declared.pulls.Pull.{Pull}
-use Rattle.role_steps.specs.declared.rounds.InEpoch.{InEpoch}
-use Rattle.role_steps.specs.declared.synchronizing.SyncTable.{SyncTable}
-use Rattle.role_steps.specs.declared.synchronizing.FileRow.{FileRow}
-use Rattle.role_steps.specs.declared.synchronizing.VersionRow.{VersionRow}
-use Rattle.role_steps.specs.declared.synchronizing.OpenRow.{OpenRow}
-use Rattle.role_steps.specs.declared.synchronizing.OpenStage.{OpenStage}
-use Rattle.role_steps.specs.declared.synchronizing.OpenStage.TheVariants as opening
-use Rattle.role_steps.specs.declared.synchronizing.LastLook.{LastLook}
-use Rattle.role_steps.specs.declared.synchronizing.Early.{Early}
+use Rattle.run_laws.specs.of_wire_messages.declared.packet.Packet.{Packet}
+use Rattle.run_laws.specs.of_wire_messages.declared.body.Body.{Body}
+use Rattle.run_laws.specs.of_wire_messages.declared.body.Body.TheVariants as body
+use Rattle.run_laws.specs.of_wire_messages.declared.body.MadeVersion.{MadeVersion}
+use Rattle.run_laws.specs.of_wire_messages.declared.body.ReportedCopy.{ReportedCopy}
+use Rattle.run_laws.specs.of_role_steps.Own.{Every}
+use Rattle.run_laws.specs.of_role_steps.Views.{Store, SiteView, Told, Shown, DiskWrite, Outcome, serial_key}
+use Rattle.run_laws.specs.of_role_steps.declared.copies.FileCopy.{FileCopy}
+use Rattle.run_laws.specs.of_role_steps.declared.instances.Instance.{Instance}
+use Rattle.run_laws.specs.of_role_steps.declared.instances.Stage.{Stage}
+use Rattle.run_laws.specs.of_role_steps.declared.instances.Stage.TheVariants as stage
+use Rattle.run_laws.specs.of_role_steps.declared.pulls.Pull.{Pull}
+use Rattle.run_laws.specs.of_role_steps.declared.rounds.InEpoch.{InEpoch}
+use Rattle.run_laws.specs.of_role_steps.declared.synchronizing.SyncTable.{SyncTable}
+use Rattle.run_laws.specs.of_role_steps.declared.synchronizing.FileRow.{FileRow}
+use Rattle.run_laws.specs.of_role_steps.declared.synchronizing.VersionRow.{VersionRow}
+use Rattle.run_laws.specs.of_role_steps.declared.synchronizing.OpenRow.{OpenRow}
+use Rattle.run_laws.specs.of_role_steps.declared.synchronizing.OpenStage.{OpenStage}
+use Rattle.run_laws.specs.of_role_steps.declared.synchronizing.OpenStage.TheVariants as opening
+use Rattle.run_laws.specs.of_role_steps.declared.synchronizing.LastLook.{LastLook}
+use Rattle.run_laws.specs.of_role_steps.declared.synchronizing.Early.{Early}
 use Rattle.run_laws.specs.of_the_run.Worlds.{World, Place, Running, Numbered, place_at}
 use Rattle.vector_laws.specs.Held.{copies_on}
 use Rattle.vector_laws.specs.Written.{past_of, CommitsAreNumbered, InstancesAgree, NumberedTold, CountsNone, JoinsAll, WrittenAs, WasBegun, WasGranted}

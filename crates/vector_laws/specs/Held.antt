@@ -5,12 +5,12 @@ use Rattle.locus_ids.specs.declared.ids.Stamp.{Stamp}
 use Rattle.locus_ids.specs.declared.config.Config.{Config}
 use Rattle.trace_book.specs.declared.record.Record.{Record}
 use Rattle.trace_book.specs.declared.record.Record.TheVariants as says
-use Rattle.role_steps.specs.Own.{Every}
-use Rattle.role_steps.specs.Tables.{row, with_row}
-use Rattle.role_steps.specs.Views.{Told, Shown, DiskWrite, file_key}
-use Rattle.role_steps.specs.Storage.{copy_key}
-use Rattle.role_steps.specs.Versions.{is_below}
-use Rattle.role_steps.specs.declared.copies.FileCopy.{FileCopy}
+use Rattle.run_laws.specs.of_role_steps.Own.{Every}
+use Rattle.run_laws.specs.of_role_steps.Tables.{row, with_row}
+use Rattle.run_laws.specs.of_role_steps.Views.{Told, Shown, DiskWrite, file_key}
+use Rattle.run_laws.specs.of_role_steps.Storage.{copy_key}
+use Rattle.run_laws.specs.of_role_steps.Versions.{is_below}
+use Rattle.run_laws.specs.of_role_steps.declared.copies.FileCopy.{FileCopy}
 use Rattle.run_laws.specs.of_the_run.Worlds.{World, Place, Running, Stopped, Line, place_at, formatted}
 
 -- ---- the last record of a version on a disk ----

@@ -6,9 +6,9 @@ use Rattle.locus_ids.specs.declared.ids.Stamp.{Stamp}
 use Rattle.version_vector.specs.Counters.{part, raised}
 use Rattle.trace_book.specs.declared.record.Record.{Record}
 use Rattle.trace_book.specs.declared.record.Record.TheVariants as says
-use Rattle.role_steps.specs.Own.{Every}
-use Rattle.role_steps.specs.Views.{Told, Shown, Begins, serial_key}
-use Rattle.role_steps.specs.declared.copies.FileCopy.{FileCopy}
+use Rattle.run_laws.specs.of_role_steps.Own.{Every}
+use Rattle.run_laws.specs.of_role_steps.Views.{Told, Shown, Begins, serial_key}
+use Rattle.run_laws.specs.of_role_steps.declared.copies.FileCopy.{FileCopy}
 use Rattle.run_laws.specs.of_the_run.Worlds.{World, Place, Line, place_at}
 use Rattle.vector_laws.specs.Held.{copies_on}
 

@@ -4,7 +4,7 @@ ghost use Rattle.locus_ids.specs.declared.config.Config.{Config};
 ghost use Rattle.schedule_lines.specs.declared.line.ScheduleLine.{ScheduleLine};
 ghost use Rattle.trace_book.specs.declared.entry.Entry.{Entry};
 ghost use Rattle.the_run.specs.Runs.{run_in};
-ghost use Rattle.rest_laws.specs.of_row_laws.Voids.{LinesFit};
+ghost use Rattle.fit_laws.specs.of_rest_laws.of_row_laws.Voids.{LinesFit};
 ghost use Rattle.order_laws.specs.Joining.{PacksAreOfSites};
 ghost use Rattle.tree_laws.specs.Printed.{entries};
 ghost use Rattle.version_text_laws.specs.Texts.{CommitFits, NameFits};

@@ -7,4 +7,5 @@ mod laws;
 mod vector;
 
 pub use laws::{joins_are_maxima, vectors_are_ordered};
+pub use locus_ids;
 pub use vector::{Ordering4, Spent, Vector};

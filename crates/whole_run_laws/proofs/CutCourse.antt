@@ -21,17 +21,17 @@ use Rattle.the_run.proofs.Boots.{at_each}
 use Rattle.run_laws.specs.Naming.{DeedsOf}
 use Rattle.lawful_trace.specs.Places.{line_at}
 use Rattle.lawful_trace.specs.Disks.{Arming, Stops, Fails, Disk, calls_of, first_disk, armed_by, newly_armed, disk_at}
-use Rattle.row_laws.specs.Shown.{trace_of, EachRecord}
-use Rattle.row_laws.specs.Events.{SiteTold, causes_of}
-use Rattle.row_laws.specs.ByLine.{IsLine, ArmsAs, KeptIn}
-use Rattle.row_laws.specs.Arms.{NoDisk}
-use Rattle.row_laws.specs.Voids.{LinesFit}
-use Rattle.row_laws.proofs.StepForms.{step_forms}
-use Rattle.row_laws.proofs.AskedRun.{own_given, Courses, courses_kept, first_courses, last_within}
-use Rattle.row_laws.proofs.Causes.{comes_own, sent_polls}
-use Rattle.row_laws.proofs.Scripts.{rises_with, armed_here, armed_other}
-use Rattle.row_laws.proofs.ArmsRun.{disk_next}
-use Rattle.row_laws.proofs.ByLine.{every_line}
+use Rattle.orderly_traces.specs.of_row_laws.Shown.{trace_of, EachRecord}
+use Rattle.orderly_traces.specs.of_row_laws.Events.{SiteTold, causes_of}
+use Rattle.orderly_traces.specs.of_row_laws.ByLine.{IsLine, ArmsAs, KeptIn}
+use Rattle.orderly_traces.specs.of_row_laws.Arms.{NoDisk}
+use Rattle.orderly_traces.specs.of_row_laws.Voids.{LinesFit}
+use Rattle.orderly_traces.proofs.of_row_laws.StepForms.{step_forms}
+use Rattle.orderly_traces.proofs.of_row_laws.AskedRun.{own_given, Courses, courses_kept, first_courses, last_within}
+use Rattle.orderly_traces.proofs.of_row_laws.Causes.{comes_own, sent_polls}
+use Rattle.orderly_traces.proofs.of_row_laws.Scripts.{rises_with, armed_here, armed_other}
+use Rattle.orderly_traces.proofs.of_row_laws.ArmsRun.{disk_next}
+use Rattle.orderly_traces.proofs.of_row_laws.ByLine.{every_line}
 use Rattle.rest_laws.specs.of_one_tree_laws.Rest.{IsRest, Past}
 use Rattle.rest_laws.specs.of_one_tree_laws.Roles.{EventFact, RolesDo}
 use Rattle.rest_laws.proofs.of_one_tree_laws.Staying.{stays}

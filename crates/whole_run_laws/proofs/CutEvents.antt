@@ -20,12 +20,12 @@ use Rattle.the_run.proofs.Events.{happened_keeps, puts_other, puts_same}
 use Rattle.vector_laws.specs.Held.{IsOf}
 use Rattle.lawful_trace.specs.Disks.{Armed, Disk, Writing, written, booted_with, stopped_with, disk_after, disk_at, armed_at, has_left}
 use Rattle.tree_laws.specs.Stores.{CopiesAreHeld}
-use Rattle.row_laws.specs.Shown.{shown, trace_of, EachRecord}
-use Rattle.row_laws.specs.Events.{Causes, SiteTold}
-use Rattle.row_laws.specs.Arms.{NoDisk, Rises}
-use Rattle.row_laws.proofs.ArmsTraced.{disk_more, quiet_onto, no_disks}
-use Rattle.row_laws.proofs.Scripts.{gone_script, other_script, rises_with, rises_without, armed_here, armed_other, script_site}
-use Rattle.row_laws.proofs.Versions.{VersionOf, version_of, Version, a_version}
+use Rattle.orderly_traces.specs.of_row_laws.Shown.{shown, trace_of, EachRecord}
+use Rattle.orderly_traces.specs.of_row_laws.Events.{Causes, SiteTold}
+use Rattle.orderly_traces.specs.of_row_laws.Arms.{NoDisk, Rises}
+use Rattle.orderly_traces.proofs.of_row_laws.ArmsTraced.{disk_more, quiet_onto, no_disks}
+use Rattle.orderly_traces.proofs.of_row_laws.Scripts.{gone_script, other_script, rises_with, rises_without, armed_here, armed_other, script_site}
+use Rattle.orderly_traces.proofs.of_row_laws.Versions.{VersionOf, version_of, Version, a_version}
 use Rattle.rest_laws.specs.of_one_tree_laws.Places.{SiteIn, WorldFact}
 use Rattle.rest_laws.specs.of_one_tree_laws.Rest.{IsRest, AllRest, Past}
 use Rattle.rest_laws.proofs.of_one_tree_laws.Composing.{rest_before, rest_told}

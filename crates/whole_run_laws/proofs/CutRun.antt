@@ -5,10 +5,10 @@ use Rattle.schedule_lines.specs.Cluster.{config_of}
 use Rattle.schedule_lines.specs.Schedule.{AreInOrder}
 use Rattle.schedule_lines.specs.declared.line.ScheduleLine.{ScheduleLine}
 use Rattle.the_run.specs.Runs.{run, run_in}
-use Rattle.row_laws.specs.Shown.{EachRecord, trace_of}
-use Rattle.row_laws.specs.Voids.{LinesFit}
-use Rattle.row_laws.proofs.Fitting.{schedule_fits}
-use Rattle.order_laws.specs.Joining.{PacksAreOfSites}
+use Rattle.orderly_traces.specs.of_row_laws.Shown.{EachRecord, trace_of}
+use Rattle.orderly_traces.specs.of_row_laws.Voids.{LinesFit}
+use Rattle.orderly_traces.proofs.of_row_laws.Fitting.{schedule_fits}
+use Rattle.rest_laws.specs.of_order_laws.Joining.{PacksAreOfSites}
 use Rattle.rest_laws.proofs.StoreStepFirst.{four_groups}
 use Rattle.rest_laws.specs.MendStepCounting.{IsCountedRow}
 use Rattle.rest_laws.proofs.Packs.{schedule_packs}

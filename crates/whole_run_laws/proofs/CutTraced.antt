@@ -18,10 +18,10 @@ use Rattle.tree_model.specs.Epochs.{is_up}
 use Rattle.the_run.specs.Disks.{Cut, Stops as Stopping, Fails as Failing}
 use Rattle.the_run.specs.Worlds.{World, Line, told_onto, cause_of}
 use Rattle.lawful_trace.specs.Disks.{Disk, armed_by, booted_with, stopped_with, disk_after, armed_at, writer_of, without_version, has_left, may_cut}
-use Rattle.row_laws.specs.ByLine.{begins_quietly, IsVoidIn, Gives}
-use Rattle.row_laws.specs.Shown.{with_told, shown, EachRecord}
-use Rattle.row_laws.specs.Arms.{NoDiskRecord, NoDisk}
-use Rattle.row_laws.proofs.Versions.{VersionOf}
+use Rattle.orderly_traces.specs.of_row_laws.ByLine.{begins_quietly, IsVoidIn, Gives}
+use Rattle.orderly_traces.specs.of_row_laws.Shown.{with_told, shown, EachRecord}
+use Rattle.orderly_traces.specs.of_row_laws.Arms.{NoDiskRecord, NoDisk}
+use Rattle.orderly_traces.proofs.of_row_laws.Versions.{VersionOf}
 use Rattle.rest_laws.specs.MendStepCounting.{CountedRecord, IsCountedRow}
 
 -- ---- boots and stops ----

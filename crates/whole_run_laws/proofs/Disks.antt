@@ -16,9 +16,9 @@ use Rattle.the_run.specs.Worlds.{Line, Place, Running, Stopped}
 use Rattle.tree_model.specs.Files.{held_version}
 use Rattle.tree_model.specs.Folds.{Trace}
 use Rattle.vector_laws.specs.Held.{copies_on}
-use Rattle.row_laws.specs.Voids.{LinesFit}
-use Rattle.row_laws.proofs.Fitting.{schedule_fits}
-use Rattle.order_laws.specs.Joining.{PacksAreOfSites}
+use Rattle.orderly_traces.specs.of_row_laws.Voids.{LinesFit}
+use Rattle.orderly_traces.proofs.of_row_laws.Fitting.{schedule_fits}
+use Rattle.rest_laws.specs.of_order_laws.Joining.{PacksAreOfSites}
 use Rattle.tree_laws.specs.Printed.{entries}
 use Rattle.tree_laws.specs.Stores.{copy_for}
 use Rattle.rest_laws.proofs.StoreStepFirst.{four_groups}

@@ -27,14 +27,14 @@ use Rattle.the_run.proofs.Runs.{every_run}
 use Rattle.run_laws.specs.Naming.{DeedsOf}
 use Rattle.lawful_trace.specs.Calm.{is_budget, tells_budget}
 use Rattle.lawful_trace.specs.Places.{line_at}
-use Rattle.row_laws.specs.ByLine.{IsLine, begins_quietly}
-use Rattle.row_laws.specs.Course.{Ascends}
-use Rattle.row_laws.specs.Events.{Causes, SiteRecord, SiteTold, Forms, FormingPacket, causes_of}
-use Rattle.row_laws.specs.Inward.{ServedRecord, RoleWrite}
-use Rattle.row_laws.specs.Shown.{shown, with_told, trace_of}
-use Rattle.row_laws.proofs.AskedRun.{Courses, courses_kept, first_courses}
-use Rattle.row_laws.proofs.ByLine.{line_keeps}
-use Rattle.row_laws.proofs.StepForms.{step_forms}
+use Rattle.orderly_traces.specs.of_row_laws.ByLine.{IsLine, begins_quietly}
+use Rattle.orderly_traces.specs.of_row_laws.Course.{Ascends}
+use Rattle.orderly_traces.specs.of_row_laws.Events.{Causes, SiteRecord, SiteTold, Forms, FormingPacket, causes_of}
+use Rattle.orderly_traces.specs.of_row_laws.Inward.{ServedRecord, RoleWrite}
+use Rattle.orderly_traces.specs.of_row_laws.Shown.{shown, with_told, trace_of}
+use Rattle.orderly_traces.proofs.of_row_laws.AskedRun.{Courses, courses_kept, first_courses}
+use Rattle.orderly_traces.proofs.of_row_laws.ByLine.{line_keeps}
+use Rattle.orderly_traces.proofs.of_row_laws.StepForms.{step_forms}
 use Rattle.run_laws.proofs.Run.{found_among}
 use Rattle.orderly_traces.proofs.of_orderly_laws.Counts.{Counted, acts_counts, taken_counts, counted_kept, first_counts}
 use Rattle.orderly_traces.proofs.of_orderly_laws.Rounds.{next_among}

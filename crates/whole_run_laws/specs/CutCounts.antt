@@ -5,8 +5,8 @@ use Rattle.schedule_lines.specs.declared.line.ScheduleLine.{ScheduleLine}
 use Rattle.the_run.specs.Disks.{Armed as Script, Cut, Stops as Stopping, Fails as Failing}
 use Rattle.the_run.specs.Worlds.{World, Place, Running, Stopped, place_at, script_of}
 use Rattle.lawful_trace.specs.Disks.{Armed, Arming, Stops, Fails, Disk, calls_of, disk_at}
-use Rattle.row_laws.specs.Arms.{Rises}
-use Rattle.row_laws.specs.Shown.{trace_of, EachRecord}
+use Rattle.orderly_traces.specs.of_row_laws.Arms.{Rises}
+use Rattle.orderly_traces.specs.of_row_laws.Shown.{trace_of, EachRecord}
 use Rattle.rest_laws.specs.MendStepCounting.{IsCountedRow}
 
 -- ---- one site ----

@@ -6,9 +6,9 @@ ghost use Rattle.schedule_lines.specs.Cluster.{config_of};
 ghost use Rattle.schedule_lines.specs.Schedule.{AreInOrder};
 ghost use Rattle.schedule_lines.specs.declared.line.ScheduleLine.{ScheduleLine};
 ghost use Rattle.the_run.specs.Runs.{run, run_in};
-ghost use Rattle.order_laws.specs.Joining.{PacksAreOfSites};
-ghost use Rattle.row_laws.specs.Shown.{EachRecord, trace_of};
-ghost use Rattle.row_laws.specs.Voids.{LinesFit};
+ghost use Rattle.rest_laws.specs.of_order_laws.Joining.{PacksAreOfSites};
+ghost use Rattle.orderly_traces.specs.of_row_laws.Shown.{EachRecord, trace_of};
+ghost use Rattle.orderly_traces.specs.of_row_laws.Voids.{LinesFit};
 ghost use Rattle.rest_laws.specs.MendStepCounting.{IsCountedRow};
 
 /// In the run of every schedule whose lines are in range for the cluster a site is stopped within a disk call only where the call can be

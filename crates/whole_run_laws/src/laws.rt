@@ -5,7 +5,7 @@ ghost use Rattle.schedule_lines.specs.Cluster.{config_of};
 ghost use Rattle.schedule_lines.specs.Schedule.{AreInOrder};
 ghost use Rattle.schedule_lines.specs.declared.line.ScheduleLine.{ScheduleLine};
 ghost use Rattle.the_run.specs.Runs.{run, run_in};
-ghost use Rattle.row_laws.specs.Shown.{trace_of};
+ghost use Rattle.orderly_traces.specs.of_row_laws.Shown.{trace_of};
 ghost use Rattle.whole_run_laws.specs.Disks.{DisksHold};
 ghost use Rattle.promises.specs.Progress.{LargeRoundsEnd};
 

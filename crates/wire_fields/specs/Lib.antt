@@ -4,3 +4,4 @@ pub mod Refusals
 pub mod Operations
 pub mod Memberships
 pub use Rattle.field_codec.specs as of_field_codec
+pub use Rattle.trace_book.specs as of_trace_book

@@ -1,6 +1,6 @@
 -- The laws of bodies: a line for each kind.
 use Rattle.std.proofs.Common.{◌≡◌, ℕ, ◌^◌, ◌<◌, IsTrue, refl, arith}
-use Rattle.locus_ids.specs.Sizes.{page_bytes}
+use Rattle.version_vector.specs.of_locus_ids.Sizes.{page_bytes}
 use Rattle.wire_fields.specs.of_field_codec.Codec.{u8, u16, u32, pair, empty, from_to}
 use Rattle.wire_fields.specs.of_field_codec.Sums.{tagged}
 use Rattle.wire_fields.proofs.of_field_codec.Laws.{Lawful, u8_laws, u16_laws, u32_laws, pair_laws, followed_by_laws, empty_laws}

@@ -2,7 +2,7 @@
 use Rattle.std.proofs.Common.{◌≡◌, ℕ, ◌+◌, ◌^◌, ◌<◌, ◌⊎◌, inl, inr, List, [], ◌++◌, length, Result, Ok, Err, refl, sym, ap, subst, ◌∙◌, append_assoc, arith}
 use Rattle.std.specs.Result.{OnOk}
 use Rattle.std.proofs.lemmas.List.{append-nil}
-use Rattle.locus_ids.specs.declared.ids.EpochId.{EpochId}
+use Rattle.version_vector.specs.of_locus_ids.declared.ids.EpochId.{EpochId}
 use Rattle.wire_fields.specs.of_field_codec.declared.faults.FieldFault.{FieldFault}
 use Rattle.wire_fields.specs.of_field_codec.Codec.{Codec, Unread, Read, ◌>>=◌, AreBytes, u32, whole}
 use Rattle.wire_fields.specs.of_field_codec.Shapes.{framed}

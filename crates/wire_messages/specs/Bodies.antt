@@ -1,15 +1,15 @@
 -- The bodies of packets as bytes, by cases on the kind and its fields.
 use Rattle.std.specs.Prelude.{ℕ, ◌<◌, ◌^◌, List}
-use Rattle.locus_ids.specs.Sizes.{page_bytes}
-use Rattle.locus_ids.specs.declared.ids.FileId.{FileId}
-use Rattle.locus_ids.specs.declared.ids.Kind.{Kind}
-use Rattle.locus_ids.specs.declared.ids.Mode.{Mode}
-use Rattle.locus_ids.specs.declared.ids.Serial.{Serial}
-use Rattle.locus_ids.specs.declared.ids.Stamp.{Stamp}
-use Rattle.locus_ids.specs.declared.sites.Sites.{Sites}
-use Rattle.trace_book.specs.declared.operation.What.{What}
-use Rattle.trace_book.specs.declared.packet_kind.PacketKind.{PacketKind}
-use Rattle.trace_book.specs.declared.packet_kind.PacketKind.TheVariants as packet
+use Rattle.version_vector.specs.of_locus_ids.Sizes.{page_bytes}
+use Rattle.version_vector.specs.of_locus_ids.declared.ids.FileId.{FileId}
+use Rattle.version_vector.specs.of_locus_ids.declared.ids.Kind.{Kind}
+use Rattle.version_vector.specs.of_locus_ids.declared.ids.Mode.{Mode}
+use Rattle.version_vector.specs.of_locus_ids.declared.ids.Serial.{Serial}
+use Rattle.version_vector.specs.of_locus_ids.declared.ids.Stamp.{Stamp}
+use Rattle.version_vector.specs.of_locus_ids.declared.sites.Sites.{Sites}
+use Rattle.wire_fields.specs.of_trace_book.declared.operation.What.{What}
+use Rattle.wire_fields.specs.of_trace_book.declared.packet_kind.PacketKind.{PacketKind}
+use Rattle.wire_fields.specs.of_trace_book.declared.packet_kind.PacketKind.TheVariants as packet
 use Rattle.wire_fields.specs.of_field_codec.Codec.{Codec, u8, u16, u32, u16_in, pair, followed_by, empty}
 use Rattle.wire_fields.specs.of_field_codec.Sums.{Kinds, kind, no_kind}
 use Rattle.wire_fields.specs.of_field_codec.Shapes.{Spelled, by, bytes_of, IsInRange, case_of, counted_bytes}

@@ -2,5 +2,5 @@ pub mod Answers
 pub mod Bodies
 pub mod Packets
 pub mod Outboxes
-pub use Rattle.trace_book.specs as of_trace_book
+pub use Rattle.wire_fields.specs.of_trace_book as of_trace_book
 pub use Rattle.wire_fields.specs as of_wire_fields

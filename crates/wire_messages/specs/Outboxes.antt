@@ -1,6 +1,6 @@
 -- What an event sends and tells, in order.
 use Rattle.std.specs.Prelude.{List}
-use Rattle.trace_book.specs.declared.record.Record.{Record}
+use Rattle.wire_fields.specs.of_trace_book.declared.record.Record.{Record}
 use Rattle.wire_messages.specs.declared.packet.Packet.{Packet}
 use Rattle.wire_messages.specs.declared.outbox.Outbox.TheInside.{Inside}
 

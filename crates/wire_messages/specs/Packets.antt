@@ -1,6 +1,6 @@
 -- Packets as bytes: a header of 25 bytes, of which the last four are the length of the body, and the body.
 use Rattle.std.specs.Prelude.{◌≡◌, ℕ, ◌<◌, ◌^◌, List, [], ◌++◌, length, Result, Ok, Err}
-use Rattle.locus_ids.specs.declared.ids.EpochId.{EpochId}
+use Rattle.version_vector.specs.of_locus_ids.declared.ids.EpochId.{EpochId}
 use Rattle.wire_fields.specs.of_field_codec.Codec.{Codec, u32, u8_in, pair, followed_by, ◌>>=◌}
 use Rattle.wire_fields.specs.of_field_codec.Shapes.{framed}
 use Rattle.wire_fields.specs.Parts.{sites, numbers, epochs}

@@ -1,10 +1,10 @@
-use locus_ids::sizes::SITES;
-use locus_ids::{
+use version_vector::Vector;
+use version_vector::locus_ids::sizes::SITES;
+use version_vector::locus_ids::{
     Bytes, EpochId, FileId, ItemList, Kind, Members, Mode, Refusal, Serial, SiteId, Sites, Stamp,
     Stamps,
 };
-use trace_book::{Op, Outcome, What};
-use version_vector::Vector;
+use wire_fields::trace_book::{Op, Outcome, What};
 
 /// How an open that a using site asks for is to be.
 #[derive(Clone, Copy, PartialEq, Eq)]

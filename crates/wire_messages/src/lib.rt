@@ -15,3 +15,4 @@ pub use body::{
 pub use laws::no_packet_begins_another;
 pub use outbox::{Outbox, Records};
 pub use packet::{Packet, Packets};
+pub use wire_fields::trace_book;

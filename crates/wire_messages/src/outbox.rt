@@ -1,10 +1,10 @@
 ghost use Rattle.std.specs.Prelude.{◌≡◌, [], ◌∷◌, ◌++◌, OnOk, OnErr};
 
 use crate::{Packet, Packets};
-use locus_ids::{ItemList, NoMemory};
 use std::alloc::Global;
 use std::marker::Model;
-use trace_book::Record;
+use version_vector::locus_ids::{ItemList, NoMemory};
+use wire_fields::trace_book::Record;
 
 /// What a site tells, the earliest record first.
 pub type Records = ItemList<Record>;

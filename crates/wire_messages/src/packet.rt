@@ -1,5 +1,5 @@
 use crate::Body;
-use locus_ids::{EpochId, ItemList, SiteId};
+use version_vector::locus_ids::{EpochId, ItemList, SiteId};
 
 /// What one boot of a site sends to one boot of another.
 #[derive(Drop)]

@@ -1,7 +1,7 @@
 use Rattle.std.proofs.Common.{rules, of_calls, Bool}
 use Rattle.std.proofs.lemmas.Fn.{always_returns_same}
-use Rattle.promises.specs.Past.{Copy}
-use Rattle.promises.specs.After.{is_copy_below}
+use Rattle.past_laws.specs.of_promises.Past.{Copy}
+use Rattle.past_laws.specs.of_promises.After.{is_copy_below}
 use Rattle.audit_copies.proofs.Splitting.{splits}
 use Rattle.audit_copies.proofs.file_rows.place_of.Goals as goal
 

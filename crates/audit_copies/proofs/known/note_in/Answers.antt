@@ -1,6 +1,6 @@
 use Rattle.std.proofs.Common.{◌≡◌, List, false, sym, ap, ◌∙◌, subst}
 use Rattle.locus_ids.specs.declared.ids.FileId.{FileId}
-use Rattle.promises.specs.Past.{Copy}
+use Rattle.past_laws.specs.of_promises.Past.{Copy}
 use Rattle.audit_copies.specs.Files.{AreByFile, FileCopies, file_count, is_file_at}
 use Rattle.audit_copies.proofs.ByFile.{put_beside}
 use Rattle.audit_copies.proofs.known.note_in.Goals as goal

@@ -1,5 +1,5 @@
 use Rattle.std.proofs.Common.{◌≡◌, take, map}
-use Rattle.promises.specs.Past.{Copy}
+use Rattle.past_laws.specs.of_promises.Past.{Copy}
 use Rattle.audit_copies.proofs.known.stamps_of.Given as goal
 
 abbrev pub invariant-loop-row : goal.invariant-loop-row

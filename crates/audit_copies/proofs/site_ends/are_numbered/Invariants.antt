@@ -1,6 +1,6 @@
 use Rattle.std.proofs.Common.{◌≡◌, ◌-◌, drop, length, map}
 use Rattle.std.specs.List.{list_all}
-use Rattle.promises.specs.Past.{Copy}
+use Rattle.past_laws.specs.of_promises.Past.{Copy}
 use Rattle.audit_versions.specs.Keeping.{has_number}
 use Rattle.audit_copies.proofs.site_ends.are_numbered.Given as goal
 

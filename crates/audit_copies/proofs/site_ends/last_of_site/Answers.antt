@@ -1,6 +1,6 @@
 use Rattle.std.proofs.Common.{List, ◌+◌, ◌-◌, ap, arith, length, take, drop}
 use Rattle.locus_ids.specs.declared.ids.Stamp.{Stamp}
-use Rattle.promises.specs.Past.{Copy}
+use Rattle.past_laws.specs.of_promises.Past.{Copy}
 use Rattle.audit_copies.proofs.Parting.{take_rest}
 use Rattle.audit_copies.proofs.Tops.{last_numbers, last_top, many_by}
 use Rattle.audit_copies.proofs.site_ends.last_of_site.Goals as goal

@@ -1,6 +1,6 @@
 use Rattle.std.proofs.Common.{rules, of_calls, Bool, ◌==◌}
 use Rattle.std.proofs.lemmas.Fn.{always_returns_same}
-use Rattle.promises.specs.Past.{Copy}
+use Rattle.past_laws.specs.of_promises.Past.{Copy}
 use Rattle.audit_copies.proofs.Tops.{split_of}
 use Rattle.audit_copies.proofs.site_ends.many_of_site.Goals as goal
 

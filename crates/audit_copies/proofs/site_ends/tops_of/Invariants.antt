@@ -1,5 +1,5 @@
 use Rattle.std.proofs.Common.{◌≡◌, ◌++◌, ◌-◌, drop, length, map}
-use Rattle.promises.specs.Past.{Copy}
+use Rattle.past_laws.specs.of_promises.Past.{Copy}
 use Rattle.audit_versions.specs.Keeping.{tops}
 use Rattle.audit_copies.proofs.site_ends.tops_of.Given as goal
 

@@ -1,6 +1,6 @@
 use Rattle.std.proofs.Common.{ap, sym, ◌∙◌, cond, set}
 use Rattle.std.proofs.lemmas.List.Edits.{map_over_more}
-use Rattle.promises.specs.Past.{Instance, is_writer}
+use Rattle.past_laws.specs.of_promises.Past.{Instance, is_writer}
 use Rattle.audit_instances.specs.Rows.{commits}
 use Rattle.audit_instances.proofs.instances.commit_all.Goals as goal
 

@@ -1,7 +1,7 @@
 use Rattle.std.proofs.Common.{◌≡◌, ℕ, ◌==◌, Bool, true, false, not, ◌&&◌, ◌||◌, List, [], ◌∷◌, refl, sym, ap, subst, ◌∙◌}
 use Rattle.std.proofs.lemmas.Bool.{false≢true}
 use Rattle.std.specs.List.{list_any}
-use Rattle.version_vector.specs.Counters.{all_le}
+use Rattle.dir_format.specs.of_version_vector.Counters.{all_le}
 use Rattle.dir_reconcile.specs.declared.kept.KeptVector.{KeptVector}
 use Rattle.dir_reconcile.specs.Rescues.{all_seen, has_live, is_unseen}
 use Rattle.dir_reconcile.proofs.wanting.wants_rescue.Goals as goal

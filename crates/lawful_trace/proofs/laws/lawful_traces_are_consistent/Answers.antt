@@ -1,4 +1,4 @@
-use Rattle.schedule_lines.specs.Cluster.{config_of}
+use Rattle.disk_calls.specs.of_schedule_lines.Cluster.{config_of}
 use Rattle.lawful_trace.proofs.Consistent.{consistent}
 use Rattle.lawful_trace.proofs.laws.lawful_traces_are_consistent.Goals as goal
 

@@ -1,5 +1,5 @@
 use Rattle.std.proofs.Common.{◌≡◌, drop, length}
-use Rattle.role_steps.specs.Tables.{sorted_onto}
+use Rattle.epoch_rules.specs.of_role_steps.Tables.{sorted_onto}
 use Rattle.the_run.specs.Steps.{is_before, in_order}
 use Rattle.packet_order.specs.Orders.{picked, ArePlaces}
 use Rattle.packet_order.proofs.sorting.order_of.Given as goal

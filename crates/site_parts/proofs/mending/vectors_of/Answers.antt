@@ -9,7 +9,7 @@ use Rattle.std.proofs.Common.{Some}
 use Rattle.std.specs.Prelude.{IfNone}
 use Rattle.role_steps.specs.declared.synchronizing.SyncTable.{SyncTable}
 use Rattle.std.specs.Prelude.{Option}
-use Rattle.site_tables.specs.Inodes.{AreInodes}
+use Rattle.site_mends.specs.of_site_tables.Inodes.{AreInodes}
 use Rattle.site_parts.specs.Fitting.{AreInodesOf}
 use Rattle.site_parts.proofs.Fits.{memory_fit}
 use Rattle.site_parts.proofs.mending.vectors_of.Goals as goal

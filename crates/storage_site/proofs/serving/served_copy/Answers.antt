@@ -1,6 +1,6 @@
 use Rattle.std.proofs.Common.{ℕ, List, sym, ap, ◌∙◌}
 use Rattle.role_steps.specs.Storage.{served_content}
-use Rattle.site_packs.specs.Packs.{copy_at}
+use Rattle.store_instances.specs.of_site_packs.Packs.{copy_at}
 use Rattle.storage_site.proofs.Serves.{served_none, served_other, served_same}
 use Rattle.store_instances.proofs.Fits.{memory_fit, refused_read}
 use Rattle.storage_site.proofs.serving.served_copy.Goals as goal

@@ -1,7 +1,7 @@
 use Rattle.std.proofs.Common.{◌≡◌, List, true, sym, ap, ◌∙◌}
 use Rattle.locus_ids.specs.declared.ids.FileId.{FileId}
-use Rattle.promises.specs.Past.{Copy}
-use Rattle.promises.specs.After.{is_copy_below, with_known}
+use Rattle.past_laws.specs.of_promises.Past.{Copy}
+use Rattle.past_laws.specs.of_promises.After.{is_copy_below, with_known}
 use Rattle.past_laws.specs.Agreement.{ascends}
 use Rattle.audit_copies.specs.Files.{FileCopies}
 use Rattle.audit_copies.proofs.Noting.{noted_old, noted_new}

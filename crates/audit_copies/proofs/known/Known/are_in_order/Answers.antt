@@ -1,6 +1,6 @@
 use Rattle.std.proofs.Common.{filter}
 use Rattle.commit_graph.specs.Versions.{same_file}
-use Rattle.promises.specs.Past.{Copy}
+use Rattle.past_laws.specs.of_promises.Past.{Copy}
 use Rattle.audit_copies.proofs.Tops.{numbers_are}
 use Rattle.audit_copies.proofs.known.Known.are_in_order.Goals as goal
 

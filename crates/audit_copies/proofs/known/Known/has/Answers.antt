@@ -2,7 +2,7 @@ use Rattle.std.proofs.Common.{filter, ap, ◌∙◌}
 use Rattle.std.specs.List.{list_any}
 use Rattle.locus_ids.specs.declared.ids.FileId.{FileId}
 use Rattle.commit_graph.specs.Versions.{same_file}
-use Rattle.promises.specs.Past.{Copy}
+use Rattle.past_laws.specs.of_promises.Past.{Copy}
 use Rattle.audit_copies.specs.Below.{is_version_of}
 use Rattle.audit_copies.proofs.ByFile.{any_of_file}
 use Rattle.audit_copies.proofs.known.Known.has.Goals as goal

@@ -1,5 +1,5 @@
 use Rattle.std.proofs.Common.{sym, ap, ◌∙◌, subst}
-use Rattle.promises.specs.After.{with_known}
+use Rattle.past_laws.specs.of_promises.After.{with_known}
 use Rattle.audit_copies.specs.Files.{AreByFile, all_copies}
 use Rattle.audit_copies.proofs.ByFile.{known_ordered, known_so}
 use Rattle.audit_copies.proofs.known.Known.note.Goals as goal

@@ -1,5 +1,5 @@
 use Rattle.std.proofs.Common.{◌≡◌, drop}
-use Rattle.promises.specs.After.{with_all_known}
+use Rattle.past_laws.specs.of_promises.After.{with_all_known}
 use Rattle.audit_copies.proofs.known.Known.note_all.Given as goal
 
 abbrev pub invariant-loop-copy : goal.invariant-loop-copy

@@ -1,7 +1,7 @@
 use Rattle.std.proofs.Common.{List, map, filter, sym, ap, ◌∙◌, subst}
 use Rattle.commit_graph.specs.Versions.{is_stamp_below, same_file}
-use Rattle.promises.specs.Past.{Copy}
-use Rattle.promises.specs.After.{is_copy_below}
+use Rattle.past_laws.specs.of_promises.Past.{Copy}
+use Rattle.past_laws.specs.of_promises.After.{is_copy_below}
 use Rattle.past_laws.specs.Agreement.{ascends}
 use Rattle.audit_copies.specs.Files.{AreByFile, FileCopies, all_copies}
 use Rattle.audit_copies.proofs.ByFile.{file_so, file_up, stamps_up}

@@ -1,6 +1,6 @@
 use Rattle.std.proofs.Common.{◌==◌, ◌+◌, ◌++◌, ◌<◌, ◌∙◌, List, drop, filter, sym, ap, subst, append-nil, arith}
 use Rattle.locus_ids.specs.declared.ids.FileId.{FileId}
-use Rattle.promises.specs.Past.{Copy}
+use Rattle.past_laws.specs.of_promises.Past.{Copy}
 use Rattle.audit_copies.specs.Files.{AreByFile, FileCopies, all_copies}
 use Rattle.audit_copies.proofs.ByFile.{group_ends, group_from, group_on}
 use Rattle.audit_copies.proofs.known.Known.of_group.Goals as goal

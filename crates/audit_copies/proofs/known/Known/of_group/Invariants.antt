@@ -1,5 +1,5 @@
 use Rattle.std.proofs.Common.{◌≡◌, ◌==◌, ◌++◌, drop, filter}
-use Rattle.promises.specs.Past.{Copy}
+use Rattle.past_laws.specs.of_promises.Past.{Copy}
 use Rattle.audit_copies.specs.Files.{all_copies}
 use Rattle.audit_copies.proofs.known.Known.of_group.Given as goal
 

@@ -1,6 +1,6 @@
 use Rattle.std.proofs.Common.{ap, ◌∙◌, refl, arith, length}
-use Rattle.promises.specs.Past.{is_writer}
-use Rattle.promises.specs.After.{change}
+use Rattle.past_laws.specs.of_promises.Past.{is_writer}
+use Rattle.past_laws.specs.of_promises.After.{change}
 use Rattle.audit_instances.specs.Rows.{commits}
 use Rattle.audit_instances.proofs.Own.{own_changed, written_back}
 use Rattle.audit_instances.proofs.instances.Instances.commit.Goals as goal

@@ -1,6 +1,6 @@
 use Rattle.std.proofs.Common.{ap, ◌∙◌, ◌≤◌, Some, List, length, filter, subst}
 use Rattle.std.specs.List.{find, position_from}
-use Rattle.promises.specs.Past.{Instance, is_named}
+use Rattle.past_laws.specs.of_promises.Past.{Instance, is_named}
 use Rattle.tree_tables.proofs.RowLists.{find-at, find-nowhere}
 use Rattle.audit_instances.proofs.instances.Instances.named.Goals as goal
 

@@ -1,6 +1,6 @@
 use Rattle.std.proofs.Common.{ap, ◌∙◌}
 use Rattle.std.specs.List.{list_any}
-use Rattle.promises.specs.Past.{is_named}
+use Rattle.past_laws.specs.of_promises.Past.{is_named}
 use Rattle.audit_instances.proofs.Own.{own_pushed}
 use Rattle.audit_instances.proofs.instances.Instances.push.Goals as goal
 

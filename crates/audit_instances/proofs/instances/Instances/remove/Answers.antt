@@ -1,4 +1,4 @@
-use Rattle.promises.specs.Past.{is_named}
+use Rattle.past_laws.specs.of_promises.Past.{is_named}
 use Rattle.audit_instances.proofs.Own.{gone_there, gone_nowhere, own_without}
 use Rattle.audit_instances.proofs.instances.Instances.remove.Goals as goal
 

@@ -1,7 +1,7 @@
 use Rattle.std.proofs.Common.{ap, ◌∙◌, Some}
 use Rattle.std.specs.List.{find, position_from}
 use Rattle.std.specs.Option.{option_map}
-use Rattle.promises.specs.Past.{Instance, is_named}
+use Rattle.past_laws.specs.of_promises.Past.{Instance, is_named}
 use Rattle.tree_tables.proofs.RowLists.{find-at, find-nowhere}
 use Rattle.audit_instances.specs.Rows.{no_work, with_work}
 use Rattle.audit_instances.proofs.Own.{changed_there, changed_nowhere, own_kept}

@@ -1,6 +1,6 @@
 use Rattle.std.proofs.Common.{ℕ, ◌++◌, ◌∷◌, [], ap, ◌∙◌, ◌≢◌}
 use Rattle.trace_book.specs.declared.record.Record.TheVariants as says
-use Rattle.site_tables.specs.Tables.{noting_own}
+use Rattle.site_parts.specs.of_site_tables.Tables.{noting_own}
 use Rattle.site_parts.specs.declared.fault.NodeFault.TheVariants.{NoMemory, NoNumber}
 use Rattle.site_node.proofs.Adoptions.{adopted_moves}
 use Rattle.site_parts.proofs.Cuts.{failed_still, pull_err, pull_failed, pull_ok, unread_adopt}

@@ -4,7 +4,7 @@ use Rattle.role_steps.specs.Mends.{starts_mends_in}
 use Rattle.role_steps.specs.Views.{SiteView}
 use Rattle.role_steps.specs.declared.synchronizing.SyncTable.{SyncTable}
 use Rattle.site_parts.specs.of_site_mends.Mending.{IsSeen}
-use Rattle.using_site.specs.Steps.{Gives}
+use Rattle.site_parts.specs.of_using_site.Steps.{Gives}
 use Rattle.site_parts.proofs.Cuts.{mends_ill, mends_well, untouched}
 use Rattle.site_node.proofs.Starts.{entered_frame, mends_inside, mends_outside}
 use Rattle.site_parts.specs.Faults.{fault_of_mend}

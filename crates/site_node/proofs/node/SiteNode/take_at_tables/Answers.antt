@@ -1,4 +1,4 @@
-use Rattle.site_tables.specs.Tables.{tables_take}
+use Rattle.site_parts.specs.of_site_tables.Tables.{tables_take}
 use Rattle.site_node.proofs.Parts.{tables_work}
 use Rattle.site_node.proofs.node.SiteNode.take_at_tables.Goals as goal
 

@@ -9,7 +9,7 @@ use Rattle.store_instances.specs.Writes.{Writes}
 use Rattle.store_instances.proofs.Stays.{nothing_written, same_at}
 use Rattle.storage_site.proofs.Placing.{placed_so, stand_same, gives_placed, quiet_store}
 use Rattle.keyed_tables.proofs.Placed.{absent_latest}
-use Rattle.site_packs.specs.Packs.{groups_of}
+use Rattle.store_instances.specs.of_site_packs.Packs.{groups_of}
 use Rattle.storage_site.specs.Fitting.{CanCloseAt, CanCloseOf}
 use Rattle.store_instances.proofs.Fits.{unfit_at}
 use Rattle.storage_site.proofs.store.Store.on_close.Goals as goal

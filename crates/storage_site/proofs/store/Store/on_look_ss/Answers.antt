@@ -4,7 +4,7 @@ use Rattle.wire_messages.specs.declared.body.Body.TheVariants as body
 use Rattle.role_steps.specs.Views.{packet}
 use Rattle.role_steps.specs.Looks.{LookRequest}
 use Rattle.role_steps.specs.Storage.{served_copy}
-use Rattle.site_packs.specs.Packs.{copy_at}
+use Rattle.store_instances.specs.of_site_packs.Packs.{copy_at}
 use Rattle.store_instances.specs.Stores.{store_of}
 use Rattle.storage_site.proofs.Serves.{sends_store}
 use Rattle.store_instances.proofs.Fits.{fit_at, memory_fit}

@@ -4,7 +4,7 @@ use Rattle.wire_messages.specs.declared.body.Body.TheVariants as body
 use Rattle.file_content.specs.Pages.{page_of}
 use Rattle.role_steps.specs.Views.{packet}
 use Rattle.role_steps.specs.Storage.{content_of, pulled_page}
-use Rattle.site_packs.specs.Packs.{copy_at}
+use Rattle.store_instances.specs.of_site_packs.Packs.{copy_at}
 use Rattle.store_instances.specs.Stores.{store_of}
 use Rattle.storage_site.specs.Serving.{has_page_of}
 use Rattle.store_instances.proofs.Latest.{nothing_more}

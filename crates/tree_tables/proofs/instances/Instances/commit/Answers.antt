@@ -1,7 +1,7 @@
 use Rattle.std.proofs.Common.{set, ap, ◌∙◌}
 use Rattle.tree_model.specs.State.{is_writer}
 use Rattle.tree_model.specs.Tree.{once_committed}
-use Rattle.file_effects.specs.Works.{committed}
+use Rattle.tree_model.specs.of_file_effects.Works.{committed}
 use Rattle.tree_tables.proofs.RowLists.{changed-at, change_first-nowhere}
 use Rattle.tree_tables.proofs.instances.Instances.commit.Goals as goal
 
