@@ -170,30 +170,49 @@ struct Change {
     new: [u8; 6],
 }
 
-/// Each crash within a change leaves the older version or the newer one.
-fn leaves_old_or_new<R: Abort>(rt: &R, alloc: Global, record: &RecordDisk, change: Change) {
+/// Each crash within a change, of those that leave this, leaves the older version or the newer one.
+fn leaves_old_or_new<R: Abort>(
+    rt: &R,
+    alloc: Global,
+    record: &RecordDisk,
+    change: Change,
+    leave: Leave,
+) {
     let [before, end] = change.calls;
     for calls in before..=end {
-        for leave in [Leave::Old, Leave::New, Leave::Byte(0x33)] {
-            let found = borders_after(rt, alloc, record, calls, leave);
-            let made = calls.saturating_sub(before);
-            holds(
-                rt,
-                is_old_or_new(made, change.gate, leave, found, change.new),
-            );
-        }
+        let found = borders_after(rt, alloc, record, calls, leave);
+        let made = calls.saturating_sub(before);
+        holds(
+            rt,
+            is_old_or_new(made, change.gate, leave, found, change.new),
+        );
     }
 }
 
-#[test]
-fn a_crash_within_an_adoption_of_the_greatest_content_leaves_the_older_one_or_it(rt: HostRuntime) {
-    let mut record = new_record(&rt, rt.alloc(), 2_400, 4_400_000);
-    let calls = two_versions(&rt, rt.alloc(), &mut record, 1_084, Second::Adopted);
+/// Each crash within an adoption of the greatest content over another one, of those that leave this, leaves the older one or it.
+fn greatest_is_old_or_new<R: Abort>(rt: &R, alloc: Global, leave: Leave) {
+    let mut record = new_record(rt, alloc, 2_400, 4_400_000);
+    let calls = two_versions(rt, alloc, &mut record, 1_084, Second::Adopted);
     let [before, end] = calls;
     // 1,084 pages, two tables, the slot, a sync, the gate, a sync, the old gate, a sync.
-    holds(&rt, end == before.saturating_add(1_092));
+    holds(rt, end == before.saturating_add(1_092));
     let (gate, new) = (1_089, [9; 6]);
-    leaves_old_or_new(&rt, rt.alloc(), &record, Change { calls, gate, new });
+    leaves_old_or_new(rt, alloc, &record, Change { calls, gate, new }, leave);
+}
+
+#[test]
+fn the_greatest_adoption_is_whole_or_absent_where_a_crash_loses_writes(rt: HostRuntime) {
+    greatest_is_old_or_new(&rt, rt.alloc(), Leave::Old);
+}
+
+#[test]
+fn the_greatest_adoption_is_whole_or_absent_where_a_crash_keeps_writes(rt: HostRuntime) {
+    greatest_is_old_or_new(&rt, rt.alloc(), Leave::New);
+}
+
+#[test]
+fn the_greatest_adoption_is_whole_or_absent_where_a_crash_spoils_writes(rt: HostRuntime) {
+    greatest_is_old_or_new(&rt, rt.alloc(), Leave::Byte(0x33));
 }
 
 #[test]
@@ -208,7 +227,10 @@ fn a_commit_writes_the_table_of_a_changed_page_alone(rt: HostRuntime) {
     // Two pages, the second table, the slot, a sync, the gate, a sync, the old gate, a sync.
     holds(&rt, end == before.saturating_add(9));
     let (gate, new) = (6, [7, 9, 7, 7, 9, 7]);
-    leaves_old_or_new(&rt, rt.alloc(), &record, Change { calls, gate, new });
+    let change = Change { calls, gate, new };
+    for leave in [Leave::Old, Leave::New, Leave::Byte(0x33)] {
+        leaves_old_or_new(&rt, rt.alloc(), &record, change, leave);
+    }
 }
 
 #[test]
