@@ -189,10 +189,10 @@ fn leaves_old_or_new<R: Abort>(
     }
 }
 
-/// Each crash within an adoption of the greatest content over another one, of those that leave this, leaves the older one or it.
-fn greatest_is_old_or_new<R: Abort>(rt: &R, alloc: Global, leave: Leave) {
+/// Each crash within a change of all pages of the greatest content, of those that leave this, leaves the older content or the newer one.
+fn greatest_is_old_or_new<R: Abort>(rt: &R, alloc: Global, second: Second, leave: Leave) {
     let mut record = new_record(rt, alloc, 2_400, 4_400_000);
-    let calls = two_versions(rt, alloc, &mut record, 1_084, Second::Adopted);
+    let calls = two_versions(rt, alloc, &mut record, 1_084, second);
     let [before, end] = calls;
     // 1,084 pages, two tables, the slot, a sync, the gate, a sync, the old gate, a sync.
     holds(rt, end == before.saturating_add(1_092));
@@ -202,17 +202,35 @@ fn greatest_is_old_or_new<R: Abort>(rt: &R, alloc: Global, leave: Leave) {
 
 #[test]
 fn the_greatest_adoption_is_whole_or_absent_where_a_crash_loses_writes(rt: HostRuntime) {
-    greatest_is_old_or_new(&rt, rt.alloc(), Leave::Old);
+    greatest_is_old_or_new(&rt, rt.alloc(), Second::Adopted, Leave::Old);
 }
 
 #[test]
 fn the_greatest_adoption_is_whole_or_absent_where_a_crash_keeps_writes(rt: HostRuntime) {
-    greatest_is_old_or_new(&rt, rt.alloc(), Leave::New);
+    greatest_is_old_or_new(&rt, rt.alloc(), Second::Adopted, Leave::New);
 }
 
 #[test]
 fn the_greatest_adoption_is_whole_or_absent_where_a_crash_spoils_writes(rt: HostRuntime) {
-    greatest_is_old_or_new(&rt, rt.alloc(), Leave::Byte(0x33));
+    greatest_is_old_or_new(&rt, rt.alloc(), Second::Adopted, Leave::Byte(0x33));
+}
+
+#[test]
+fn the_greatest_commit_is_whole_or_absent_where_a_crash_loses_writes(rt: HostRuntime) {
+    let second = Second::Committed([true; 1_084]);
+    greatest_is_old_or_new(&rt, rt.alloc(), second, Leave::Old);
+}
+
+#[test]
+fn the_greatest_commit_is_whole_or_absent_where_a_crash_keeps_writes(rt: HostRuntime) {
+    let second = Second::Committed([true; 1_084]);
+    greatest_is_old_or_new(&rt, rt.alloc(), second, Leave::New);
+}
+
+#[test]
+fn the_greatest_commit_is_whole_or_absent_where_a_crash_spoils_writes(rt: HostRuntime) {
+    let second = Second::Committed([true; 1_084]);
+    greatest_is_old_or_new(&rt, rt.alloc(), second, Leave::Byte(0x33));
 }
 
 #[test]
