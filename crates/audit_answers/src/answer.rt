@@ -5,7 +5,7 @@ use locus_ids::{Bytes, NoMemory};
 use std::alloc::Global;
 
 /// What an audit answers.
-#[derive(Clone, Copy, Debug, PartialEq, Eq)]
+#[derive(Clone, Copy, Debug)]
 pub enum Answer {
     /// All records are consistent, and there are so many.
     Yes { records: u32 },

@@ -2,7 +2,7 @@ use locus_ids::NoMemory;
 use thiserror::Error;
 
 /// Why an input gets no answer.
-#[derive(Clone, Copy, Debug, PartialEq, Eq, Error)]
+#[derive(Clone, Copy, Debug, Error)]
 pub enum AuditFault {
     /// The line with this number, from 1, is the first that may not stand where it does.
     #[error("bad line {line}")]

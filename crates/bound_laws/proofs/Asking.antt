@@ -11,7 +11,7 @@ use Rattle.trace_book.specs.declared.descriptor.Beginning.{Beginning}
 use Rattle.trace_book.specs.declared.descriptor.Beginning.TheVariants as begins
 use Rattle.trace_book.specs.declared.reply.Reply.{Reply}
 use Rattle.trace_book.specs.declared.reply.Reply.TheVariants as reply
-use Rattle.call_rules.specs.Descriptors.{lowest_free, beginning}
+use Rattle.call_rules.specs.Descriptors.{lowest_free}
 use Rattle.call_rules.specs.declared.answer.Answer.{Answer}
 use Rattle.call_rules.specs.declared.answer.Answer.TheVariants as answer
 use Rattle.call_rules.specs.declared.want.Want.{Want}
@@ -26,7 +26,7 @@ use Rattle.role_steps.specs.Own.{Every}
 use Rattle.role_steps.specs.Tables.{first_that}
 use Rattle.role_steps.specs.Views.{Frame, Users}
 use Rattle.role_steps.specs.Requests.{waiting_key, without_waiting, user_instance, with_user_instance, without_user_instance, descriptors_of, asks, next_request, asks_op_of, asks_close_of}
-use Rattle.role_steps.specs.Using.{after_reply, holds_again, is_hopeless, without_hope, is_packed, asks_want, next_want, goes_on, accepted, frees, on_call, with_answer, takes_answer, asks_open_of, opened_answer, kept_for, mended_file, takes_open, on_open_done_of, on_open_done, asks_op_number, op_answer, on_op_done_of, on_op_done, close_answer, on_close_done_of, on_close_done, looks_again, content_answer, with_brought, takes_look, asks_take, on_look_done_of, on_look_done, own_call}
+use Rattle.role_steps.specs.Using.{after_reply, holds_again, is_hopeless, without_hope, is_packed, asks_want, next_want, goes_on, frees, on_call, counted_users, counted_call, accepted_call, with_answer, takes_answer, takes_copied, asks_open_of, opened_answer, kept_for, mended_file, takes_open, version_read, on_open_done_of, on_open_done, asks_op_number, asks_held_number, op_answer, on_op_done_of, on_as_held_of, keeps_brought, on_op_done, on_as_held, close_answer, on_close_done_of, on_close_done, looks_again, content_answer, with_brought, takes_look, asks_take, on_look_done_of, on_look_done}
 use Rattle.role_steps.specs.Using as using
 use Rattle.role_steps.specs.declared.users.Asking.{Asking}
 use Rattle.role_steps.specs.declared.users.Asking.TheVariants as asking
@@ -36,6 +36,7 @@ use Rattle.the_run.proofs.InsideSync.{every_row, every_without, Found, first_fou
 use Rattle.bound_laws.specs.Requests.{most_requests, is_mend, IsRequest}
 use Rattle.bound_laws.specs.Asking.{IsBounded}
 use Rattle.bound_laws.proofs.Scripts.{scripts_end}
+use Rattle.role_steps.proofs.Caching.{kept_only}
 
 abbrev pub UsersBounded : Users → Type 0
 UsersBounded u = Every IsBounded u.waiting
@@ -100,7 +101,7 @@ frees_bounded process _ u g = g
 pub on_call_bounded : (f : Frame) (now : Option EpochId) (process : ℕ) (words : Call) (u : Users) → UsersBounded u → UsersBounded (on_call f now process words u).view
 on_call_bounded f now process words u g =
     let n : ℕ = u.calls + 1 in
-    goes_bounded f (accepted process n words (beginning (descriptors_of u process) now (own_call f.me f.boot n) words)) (frees process words (record u { calls = n })) refl (frees_bounded process words (record u { calls = n }) g)
+    goes_bounded f (accepted_call f now process words u) (counted_call f now process words u) refl (frees_bounded process words (counted_users f now process words u) g)
 
 -- ---- an answer is taken ----
 
@@ -108,7 +109,7 @@ answer_bounded : (f : Frame) (w : WaitingCall) (a : Answer) (u : Users) → IsBo
 answer_bounded f w a u h g = goes_bounded f (with_answer w a) u (h.numbered ∙ sym (length-append w.answers (a ∷ []))) g
 
 opened_bounded : (f : Frame) (kept : FileId → List Stamp) (serial : ℕ) (w : WaitingCall) (a : Granted) (u : Users) → IsBounded w → UsersBounded u → UsersBounded (takes_open f kept serial w a u).view
-opened_bounded f kept serial w (granted.Open ss ino size stamp vector) u h g = answer_bounded f w (opened_answer f serial ino stamp (kept_for kept (mended_file w.words)) w.words w.asking) (with_user_instance (record { serial = serial; ss = ss; vector = vector; ops = 0 }) u) h g
+opened_bounded f kept serial w (granted.Open ss ino size stamp vector) u h g = answer_bounded f w (opened_answer f serial ino stamp (kept_for kept (mended_file w.words)) w.words w.asking) (with_user_instance (record { serial = serial; ss = ss; vector = vector; ops = 0; reads = version_read size stamp w.asking }) u) h g
 opened_bounded f kept serial w (granted.No why) u h g = answer_bounded f w (answer.Refused why) u h g
 
 pub on_open_done_bounded : (f : Frame) (kept : FileId → List Stamp) (serial : ℕ) (a : Granted) (u : Users) → UsersBounded u → UsersBounded (on_open_done f kept serial a u).view
@@ -123,7 +124,18 @@ on_op_done_bounded f serial n r u g = by_call (first_that (asks_op_number serial
   where
     by_call : (o : Option WaitingCall) → Found IsBounded o → UsersBounded (on_op_done_of f r o u).view
     by_call None h = g
-    by_call (Some w) h = answer_bounded f w (op_answer r) u h g
+    by_call (Some w) h = answer_bounded f w (op_answer r) (keeps_brought w.asking r u) h (kept_only UsersBounded w.asking r u (λ pages. g))
+
+pub on_as_held_bounded : (f : Frame) (serial n : ℕ) (u : Users) → UsersBounded u → UsersBounded (on_as_held f serial n u).view
+on_as_held_bounded f serial n u g = by_call (first_that (asks_held_number serial n) u.waiting) (first_found IsBounded (asks_held_number serial n) u.waiting g)
+  where
+    by_copied : (w : WaitingCall) (copied : Option (List ℕ)) → IsBounded w → UsersBounded (takes_copied f w copied u).view
+    by_copied w None h = g
+    by_copied w (Some bytes) h = answer_bounded f w _ u h g
+
+    by_call : (o : Option WaitingCall) → Found IsBounded o → UsersBounded (on_as_held_of f o u).view
+    by_call None h = g
+    by_call (Some w) h = by_copied w w.copied h
 
 pub on_close_done_bounded : (f : Frame) (serial : ℕ) (a : CloseAnswer) (u : Users) → UsersBounded u → UsersBounded (on_close_done f serial a u).view
 on_close_done_bounded f serial a u g = by_call (first_that (using.asks_close_of serial) u.waiting) (first_found IsBounded (using.asks_close_of serial) u.waiting g)

@@ -29,10 +29,10 @@ use Rattle.role_steps.specs.Opens.{OpenRequest, Decision, Denies, Grants, decide
 use Rattle.role_steps.specs.Looks.{LookRequest, Service, is_look_before, is_same_look, letter, serving_letter, service, after_last, new_look, takes_look, look_key}
 use Rattle.role_steps.specs.Looks as looks
 use Rattle.role_steps.specs.Reports.{on_open, on_look, closed_ok, published_notices, closes_at, on_closed_of, on_closed, waits_early}
-use Rattle.role_steps.specs.Storage.{StoreRequest, copy_of, instance_of, opens, opens_made, own_ino, on_open_ss_of, on_open_ss, opened_packets, is_open, commits, is_spent, next_vector, next_stamp, shuts_again, closes_owing, closes, on_close_at, on_close_of, on_close, ends_at, on_closed_ok_of, on_closed_ok, shuts, on_look_ss, has_page, pulled_page, on_pull}
+use Rattle.role_steps.specs.Storage.{StoreRequest, copy_of, instance_of, opens, opens_made, own_ino, on_open_ss_of, on_open_ss, opened_packets, is_open, commits, is_spent, next_vector, next_stamp, shuts_again, closes_owing, closes, on_close_at, on_close_of, on_close, ends_at, on_closed_ok_of, on_closed_ok, shuts, on_look_ss, has_page, pulled_page, on_pull, on_want, wanted_delta}
 use Rattle.role_steps.specs.Operations.{executes_effect, acts, acts_committed, commits_owing, last_committed, commit_op, executes, op_again, by_number, on_op_at, on_op_of, on_op}
 use Rattle.role_steps.specs.OperationEffects.{Mending, effect_of}
-use Rattle.role_steps.specs.Pulling.{pull_packets, next_page, is_complete, replaces_pull, pull_of, begins_pull, goes_on, on_notify, is_awaited, on_page_of, on_page}
+use Rattle.role_steps.specs.Pulling.{next_asked, pull_packets, is_complete, replaces_pull, pull_over, pull_of, begins_pull, goes_on, on_notify, is_awaited, is_delta, pages_in, on_page_of, on_delta_of, on_page, on_delta}
 use Rattle.role_steps.specs.declared.copies.FileCopy.{FileCopy}
 use Rattle.role_steps.specs.declared.instances.Instance.{Instance}
 use Rattle.role_steps.specs.declared.instances.Stage.{Stage}
@@ -292,21 +292,37 @@ pulled_few f from file stamp page (Some x) = few_if (has_page stamp page x) _ re
 pub on_pull_few : (f : Frame) (from : ℕ) (file : FileId) (stamp : Stamp) (page : ℕ) (s : Store) → SendsFew (on_pull f from file stamp page s)
 on_pull_few f from file stamp page s = pulled_few f from file stamp page (copy_of s file)
 
-pull_few : (f : Frame) (p : Pull) → Few (pull_packets f p)
-pull_few f p = elim (is_complete p) as (λ b. Few (cond b [] (packet f p.holder (body.Pull p.file p.stamp (next_page p)) ∷ []))) [ true ↦ few_none | false ↦ few_one _ refl ]
+wanted_few : (f : Frame) (from : ℕ) (file : FileId) (wanted own : Stamp) (s : Store) (o : Option FileCopy) → Few (wanted_delta f from file wanted own s o)
+wanted_few f from file wanted own s None = few_none
+wanted_few f from file wanted own s (Some x) = few_if (same_stamp x.stamp wanted) _ refl
 
-begins_few : (f : Frame) (p : Pull) (pulls : List Pull) → SendsFew (begins_pull f p pulls)
-begins_few f p pulls = elim (replaces_pull p (pull_of pulls p.file)) as (λ b. SendsFew (elim b [ true ↦ goes_on f p pulls | false ↦ quiet pulls ])) [ true ↦ pull_few f p | false ↦ few_none ]
+pub on_want_few : (f : Frame) (from : ℕ) (file : FileId) (wanted own : Stamp) (s : Store) → SendsFew (on_want f from file wanted own s)
+on_want_few f from file wanted own s = wanted_few f from file wanted own s (copy_of s file)
+
+asked_few : (p : Pull) (base : Option Stamp) (wanted : Option (List ℕ)) → opens_mend (next_asked p base wanted) ≡ false
+asked_few p (Some own) None = refl
+asked_few p (Some own) (Some pages) = refl
+asked_few p None wanted = refl
+
+pull_few : (f : Frame) (p : Pull) → Few (pull_packets f p)
+pull_few f p = elim (is_complete p) as (λ b. Few (cond b [] (packet f p.holder (next_asked p p.base p.wanted) ∷ []))) [ true ↦ few_none | false ↦ few_one _ (asked_few p p.base p.wanted) ]
+
+begins_few : (f : Frame) (own : Option FileCopy) (p : Pull) (pulls : List Pull) → SendsFew (begins_pull f own p pulls)
+begins_few f own p pulls = elim (replaces_pull own p (pull_of pulls p.file)) as (λ b. SendsFew (elim b [ true ↦ goes_on f (pull_over own p) pulls | false ↦ quiet pulls ])) [ true ↦ pull_few f (pull_over own p) | false ↦ few_none ]
 
 pub on_notify_few : (f : Frame) (from : ℕ) (o : Option FileCopy) (p : Pull) (pulls : List Pull) → SendsFew (on_notify f from o p pulls)
-on_notify_few f from None p pulls = begins_few f p pulls
+on_notify_few f from None p pulls = begins_few f None p pulls
 on_notify_few f from (Some own) p pulls = elim (same_stamp own.stamp p.stamp) as (λ b. SendsFew (elim b [
   | true ↦ sends (packet f from (body.Have p.file p.stamp) ∷ []) pulls
-  | false ↦ elim (is_below own.vector p.vector) [ true ↦ begins_pull f p pulls | false ↦ quiet pulls ]
+  | false ↦ elim (is_below own.vector p.vector) [ true ↦ begins_pull f (Some own) p pulls | false ↦ quiet pulls ]
 ])) [
   | true ↦ few_one _ refl
-  | false ↦ elim (is_below own.vector p.vector) as (λ b. SendsFew (elim b [ true ↦ begins_pull f p pulls | false ↦ quiet pulls ])) [ true ↦ begins_few f p pulls | false ↦ few_none ]
+  | false ↦ elim (is_below own.vector p.vector) as (λ b. SendsFew (elim b [ true ↦ begins_pull f (Some own) p pulls | false ↦ quiet pulls ])) [ true ↦ begins_few f (Some own) p pulls | false ↦ few_none ]
 ]
+
+delta_few : (f : Frame) (own : ℕ) (stamp : Stamp) (pages : List ℕ) (o : Option Pull) (pulls : List Pull) → SendsFew (on_delta_of f own stamp pages o pulls)
+delta_few f own stamp pages None pulls = few_none
+delta_few f own stamp pages (Some p) pulls = elim (is_delta own p stamp pages) as (λ b. SendsFew (elim b [ true ↦ goes_on f (record p { wanted = Some pages }) pulls | false ↦ quiet pulls ])) [ true ↦ pull_few f (record p { wanted = Some pages }) | false ↦ few_none ]
 
 page_few : (f : Frame) (stamp : Stamp) (page : ℕ) (bytes : List ℕ) (o : Option Pull) (pulls : List Pull) → SendsFew (on_page_of f stamp page bytes o pulls)
 page_few f stamp page bytes None pulls = few_none
@@ -314,3 +330,6 @@ page_few f stamp page bytes (Some p) pulls = elim (is_awaited p stamp page bytes
 
 pub on_page_few : (f : Frame) (file : FileId) (stamp : Stamp) (page : ℕ) (bytes : List ℕ) (pulls : List Pull) → SendsFew (on_page f file stamp page bytes pulls)
 on_page_few f file stamp page bytes pulls = page_few f stamp page bytes (pull_of pulls file) pulls
+
+pub on_delta_few : (f : Frame) (own : Option FileCopy) (file : FileId) (stamp : Stamp) (pages : List ℕ) (pulls : List Pull) → SendsFew (on_delta f own file stamp pages pulls)
+on_delta_few f own file stamp pages pulls = delta_few f (pages_in own) stamp pages (pull_of pulls file) pulls

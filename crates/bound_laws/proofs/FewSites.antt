@@ -14,7 +14,7 @@ use Rattle.role_steps.specs.Own.{Every}
 use Rattle.role_steps.specs.Tables.{row, first_that}
 use Rattle.role_steps.specs.Views.{Frame, SiteView, Outcome, Receives, quiet, sends, and_then, to_some, sync_site}
 use Rattle.role_steps.specs.Storage.{copy_of, report_of, instance_of}
-use Rattle.role_steps.specs.Adoption.{table_group, is_ready, is_above_own, adopts_pull, without_pull, adopts_first}
+use Rattle.role_steps.specs.Adoption.{table_group, is_ready, adopts_pull, without_pull, adopts_first, fits_own}
 use Rattle.role_steps.specs.Mends.{mending, kept_stamps}
 use Rattle.role_steps.specs.Epochs.{is_epoch_below, frame_in, leaves_of, leaves, promises, reached, poll_packet, polled_sites, polls, round_id, begins_round, promise_packet, refuse_packet, on_poll, on_promise_of, on_refuse_of, report_packets, all_reports, joined_view, joins, may_install, is_in, joined_packet, on_install, passed_over, unanswered, chosen_members, chosen_set, others_of, install_packet, installs_all, decides_if, passes_over_of, passes_over}
 use Rattle.role_steps.specs.declared.pulls.Pull.{Pull}
@@ -26,8 +26,9 @@ use Rattle.the_run.specs.Steps.{from_user, group_of, in_order, at_table_of, is_o
 use Rattle.the_run.proofs.InsideSync.{Found, row_found}
 use Rattle.bound_laws.specs.Deliveries.{serves_other, opens_mend_in, count, SendsOne, is_report, LooksOpenNone}
 use Rattle.bound_laws.proofs.Counting.{Apart, ServesNone, apart_none, apart_one, apart_every, apart_append, few_none, few_apart, count_append, count_order}
-use Rattle.bound_laws.proofs.FewRoles.{SendsFew, on_open_few, on_opened_few, on_look_few, on_closed_few, on_open_ss_few, on_close_few, on_closed_ok_few, on_look_ss_few, on_op_few, on_pull_few, on_notify_few, on_page_few}
-use Rattle.bound_laws.proofs.FewUsers.{on_open_done_few, on_op_done_few, on_close_done_few, on_look_done_few}
+use Rattle.bound_laws.proofs.FewRoles.{SendsFew, on_open_few, on_opened_few, on_look_few, on_closed_few, on_open_ss_few, on_close_few, on_closed_ok_few, on_look_ss_few, on_op_few, on_pull_few, on_notify_few, on_page_few, on_want_few, on_delta_few}
+use Rattle.bound_laws.proofs.FewHeld.{on_read_held_few}
+use Rattle.bound_laws.proofs.FewUsers.{on_open_done_few, on_op_done_few, on_close_done_few, on_look_done_few, on_as_held_few}
 use Rattle.bound_laws.proofs.KeptLooks.{TablesFine}
 use Rattle.bound_laws.proofs.Mending.{mends_sent}
 
@@ -128,7 +129,9 @@ inside_few f from (body.OpenSs inst file mode set kind base vector parents) v n 
 inside_few f from (body.Opened inst answer) v n h = plain_few _ (first_that (is_opened_in inst) v.tables) v (on_opened_few f inst answer)
 inside_few f from (body.OpenDone serial answer) v n h = on_open_done_few f (kept_stamps v) serial answer v.users
 inside_few f from (body.Op serial number o seen) v n h = on_op_few f (mending v (group_of (instance_of v.store (from_user from serial)))) (from_user from serial) number o seen v.store
+inside_few f from (body.ReadHeld serial number at len) v n h = on_read_held_few f (from_user from serial) number at len v.store
 inside_few f from (body.OpDone serial number result) v n h = on_op_done_few f serial number result v.users
+inside_few f from (body.AsHeld serial number len) v n h = on_as_held_few f serial number v.users
 inside_few f from (body.Close serial) v n h = on_close_few f (from_user from serial) v.store
 inside_few f from (body.Closed inst made) v n h = plain_few _ (first_that (is_opened_in inst) v.tables) v (on_closed_few f from inst made)
 inside_few f from (body.ClosedOk inst) v n h = on_closed_ok_few f inst v.store
@@ -136,9 +139,11 @@ inside_few f from (body.CloseDone serial answer) v n h = on_close_done_few f ser
 inside_few f from (body.Look call process request take file what) v n h = table_few _ (row table_group file.group v.tables) v (on_look_few f from (record { call = call; process = process; request = request; take = take; file = file; what = what })) (row_found LooksOpenNone table_group file.group v.tables h)
 inside_few f from (body.LookSs us call process request take file what serve) v n h = on_look_ss_few f us (record { call = call; process = process; request = request; take = take; file = file; what = what }) serve v.store
 inside_few f from (body.LookDone call request take answer) v n h = on_look_done_few f call request take answer v.users
-inside_few f from (body.Notify file kind set size stamp vector holder) v n h = on_notify_few f from (copy_of v.store file) (record { file = file; kind = kind; set = set; size = size; stamp = stamp; vector = vector; holder = holder; content = [] }) v.pulls
+inside_few f from (body.Notify file kind set size stamp vector holder) v n h = on_notify_few f from (copy_of v.store file) (record { file = file; kind = kind; set = set; size = size; stamp = stamp; vector = vector; holder = holder; base = None; wanted = None; content = [] }) v.pulls
 inside_few f from (body.Pull file stamp page) v n h = on_pull_few f from file stamp page v.store
+inside_few f from (body.Want file wanted own) v n h = on_want_few f from file wanted own v.store
 inside_few f from (body.Page file stamp page bytes) v n h = on_page_few f file stamp page bytes v.pulls
+inside_few f from (body.Delta file wanted pages) v n h = on_delta_few f (copy_of v.store file) file wanted pages v.pulls
 inside_few f from (body.Have file stamp) v n h = plain_few _ (row table_group file.group v.tables) v (λ t. few_none)
 inside_few f from _ v n h = few_none
 
@@ -159,8 +164,8 @@ takes_few c me links p _ v n h = framed_few c me p v.epoch v n h
 adopts_apart : (f : Frame) (ps : List Pull) (v : SiteView) → SendsApart (adopts_first f ps v)
 adopts_apart f [] v = apart_none
 adopts_apart f (p ∷ ps) v =
-    elim (is_ready v p) as (λ t. SendsApart (elim t [ true ↦ elim (is_above_own p (copy_of v.store p.file)) [ true ↦ adopts_pull f p v | false ↦ adopts_first f ps (without_pull p v) ] | false ↦ adopts_first f ps v ])) [
-      | true ↦ elim (is_above_own p (copy_of v.store p.file)) as (λ t. SendsApart (elim t [ true ↦ adopts_pull f p v | false ↦ adopts_first f ps (without_pull p v) ])) [
+    elim (is_ready v p) as (λ t. SendsApart (elim t [ true ↦ elim (fits_own p (copy_of v.store p.file)) [ true ↦ adopts_pull f p v | false ↦ adopts_first f ps (without_pull p v) ] | false ↦ adopts_first f ps v ])) [
+      | true ↦ elim (fits_own p (copy_of v.store p.file)) as (λ t. SendsApart (elim t [ true ↦ adopts_pull f p v | false ↦ adopts_first f ps (without_pull p v) ])) [
         | true ↦ apart_every _ (some_apart f (body.Have p.file p.stamp) (sync_site f.config f.members p.file.group) refl)
         | false ↦ adopts_apart f ps (without_pull p v)
       ]
@@ -174,6 +179,7 @@ adopts_of_apart c me (Some e) v = adopts_apart (frame_in c me v.boot e) v.pulls 
 tries_apart : (c : Config) (me : ℕ) (x : Body) (v : SiteView) → SendsApart (tries_at c me x v)
 tries_apart c me (body.Notify file kind set size stamp vector holder) v = adopts_of_apart c me v.epoch v
 tries_apart c me (body.Page file stamp page bytes) v = adopts_of_apart c me v.epoch v
+tries_apart c me (body.Delta file wanted pages) v = adopts_of_apart c me v.epoch v
 tries_apart c me _ v = apart_none
 
 -- ---- the event ----

@@ -7,6 +7,7 @@ use Rattle.trace_book.specs.declared.call.OpenMode.{OpenMode}
 use Rattle.trace_book.specs.declared.call.OpenMode.TheVariants as mode
 use Rattle.trace_book.specs.declared.descriptor.Beginning.{Beginning}
 use Rattle.trace_book.specs.declared.operation.Op.{Op}
+use Rattle.trace_book.specs.declared.operation.Op.TheVariants as op
 use Rattle.trace_book.specs.declared.operation.Outcome.{Outcome as Result}
 use Rattle.call_rules.specs.Descriptors.{lowest_free}
 use Rattle.call_rules.specs.Scripts.{wants}
@@ -23,8 +24,8 @@ use Rattle.wire_messages.specs.declared.body.LookAnswer.{LookAnswer}
 use Rattle.wire_messages.specs.declared.body.LookAnswer.TheVariants as looked
 use Rattle.role_steps.specs.Tables.{first_that}
 use Rattle.role_steps.specs.Views.{Frame, Users, sync_site}
-use Rattle.role_steps.specs.Requests.{user_instance, with_user_instance, without_user_instance, descriptors_of, opening_of, asks_op_of, asks_close_of}
-use Rattle.role_steps.specs.Using.{is_packed, asks_want, next_want, goes_on, with_answer, takes_answer, asks_open_of, opened_answer, kept_for, mended_file, takes_open, on_open_done_of, on_open_done, asks_op_number, op_answer, on_op_done_of, on_op_done, close_answer, on_close_done_of, on_close_done, looks_again, content_answer, with_brought, takes_look, asks_take, on_look_done_of, on_look_done}
+use Rattle.role_steps.specs.Requests.{user_instance, with_user_instance, without_user_instance, descriptors_of, opening_of, asks_op_of, asks_close_of, operation_body}
+use Rattle.role_steps.specs.Using.{is_packed, asks_want, next_want, goes_on, with_answer, takes_answer, takes_copied, asks_open_of, opened_answer, kept_for, mended_file, takes_open, version_read, on_open_done_of, on_open_done, asks_op_number, asks_held_number, op_answer, on_op_done_of, on_as_held_of, keeps_brought, on_op_done, on_as_held, close_answer, on_close_done_of, on_close_done, looks_again, content_answer, with_brought, takes_look, asks_take, on_look_done_of, on_look_done}
 use Rattle.role_steps.specs.Using as using
 use Rattle.role_steps.specs.declared.users.Asking.{Asking}
 use Rattle.role_steps.specs.declared.users.Asking.TheVariants as asking
@@ -44,9 +45,13 @@ opening_few serial call process request file mode.Write = refl
 opening_few serial call process request file (mode.Resolve site) = refl
 opening_few serial call process request file mode.Steady = refl
 
+operation_few : (copied : Option (List ℕ)) (serial n : ℕ) (o : Op) (seen : List ℕ) → opens_mend (operation_body copied serial n o seen) ≡ false
+operation_few (Some bytes) serial n (op.Read at len) seen = refl
+operation_few copied serial n o seen = refl
+
 op_few : (f : Frame) (w : WaitingCall) (o : Op) (i : Option UserInstance) (u : Users) → SendsFew (asks_op_of f w o i u)
 op_few f w o None u = few_none
-op_few f w o (Some i) u = few_one _ refl
+op_few f w o (Some i) u = few_one _ (operation_few w.copied _ _ o _)
 
 close_few : (f : Frame) (w : WaitingCall) (i : Option UserInstance) (u : Users) → SendsFew (asks_close_of f w i u)
 close_few f w None u = few_none
@@ -73,7 +78,7 @@ answer_few : (f : Frame) (w : WaitingCall) (a : Answer) (u : Users) → SendsFew
 answer_few f w a u = want_few f (with_answer w a) (next_want f (with_answer w a) u) u (later_opens_none f.config.mounts (is_packed f) (lowest_free (descriptors_of u w.process)) w.words w.begins w.answers a)
 
 opened_few : (f : Frame) (kept : FileId → List Stamp) (serial : ℕ) (w : WaitingCall) (a : Granted) (u : Users) → SendsFew (takes_open f kept serial w a u)
-opened_few f kept serial w (granted.Open ss ino size stamp vector) u = answer_few f w (opened_answer f serial ino stamp (kept_for kept (mended_file w.words)) w.words w.asking) (with_user_instance (record { serial = serial; ss = ss; vector = vector; ops = 0 }) u)
+opened_few f kept serial w (granted.Open ss ino size stamp vector) u = answer_few f w (opened_answer f serial ino stamp (kept_for kept (mended_file w.words)) w.words w.asking) (with_user_instance (record { serial = serial; ss = ss; vector = vector; ops = 0; reads = version_read size stamp w.asking }) u)
 opened_few f kept serial w (granted.No why) u = answer_few f w (answer.Refused why) u
 
 pub on_open_done_few : (f : Frame) (kept : FileId → List Stamp) (serial : ℕ) (a : Granted) (u : Users) → SendsFew (on_open_done f kept serial a u)
@@ -88,7 +93,18 @@ on_op_done_few f serial n r u = by_call (first_that (asks_op_number serial n r) 
   where
     by_call : (o : Option WaitingCall) → SendsFew (on_op_done_of f r o u)
     by_call None = few_none
-    by_call (Some w) = answer_few f w (op_answer r) u
+    by_call (Some w) = answer_few f w (op_answer r) (keeps_brought w.asking r u)
+
+pub on_as_held_few : (f : Frame) (serial n : ℕ) (u : Users) → SendsFew (on_as_held f serial n u)
+on_as_held_few f serial n u = by_call (first_that (asks_held_number serial n) u.waiting)
+  where
+    by_copied : (w : WaitingCall) (copied : Option (List ℕ)) → SendsFew (takes_copied f w copied u)
+    by_copied w None = few_none
+    by_copied w (Some bytes) = answer_few f w _ u
+
+    by_call : (o : Option WaitingCall) → SendsFew (on_as_held_of f o u)
+    by_call None = few_none
+    by_call (Some w) = by_copied w w.copied
 
 pub on_close_done_few : (f : Frame) (serial : ℕ) (a : CloseAnswer) (u : Users) → SendsFew (on_close_done f serial a u)
 on_close_done_few f serial a u = by_call (first_that (using.asks_close_of serial) u.waiting)

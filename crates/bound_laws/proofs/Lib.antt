@@ -6,6 +6,7 @@ pub mod EachView
 pub mod RunsAsk
 pub mod Counting
 pub mod FewRoles
+pub mod FewHeld
 pub mod FewUsers
 pub mod Mending
 pub mod KeptLooks

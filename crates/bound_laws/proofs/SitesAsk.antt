@@ -12,8 +12,8 @@ use Rattle.wire_messages.specs.declared.body.Body.{Body}
 use Rattle.wire_messages.specs.declared.body.Body.TheVariants as body
 use Rattle.role_steps.specs.Tables.{row, without_row, first_that}
 use Rattle.role_steps.specs.Views.{Frame, SiteView, Outcome, Event, Calls, Receives, Ticks, Parts, Merges, GivesUp, quiet, sends, and_then}
-use Rattle.role_steps.specs.Storage.{copy_of, with_copy}
-use Rattle.role_steps.specs.Adoption.{notes_own_at, copy_adopted, with_store, table_group, is_ready, is_above_own, adopts_pull, without_pull, adopts_first}
+use Rattle.role_steps.specs.Storage.{copy_of}
+use Rattle.role_steps.specs.Adoption.{notes_own_at, table_group, is_ready, adopts_pull, without_pull, adopts_first, with_adopted, fits_own}
 use Rattle.role_steps.specs.Mends.{kept_stamps, has_mend_in, wants_mend, row_file, starts_mend_of, starts_mend, starts_mends_in}
 use Rattle.role_steps.specs.Epochs.{is_epoch_below, frame_in, leaves_of, leaves, promises, reached, begins_round, starts_merge, starts_part_of, starts_part, promise_packet, refuse_packet, on_poll, on_promise_of, on_refuse_of, joins, may_install, is_in, joined_packet, on_install, on_joined, passed_over, unanswered, decides_if, passes_over_of, passes_over}
 use Rattle.role_steps.specs.declared.pulls.Pull.{Pull}
@@ -22,7 +22,7 @@ use Rattle.role_steps.specs.declared.rounds.Round.{Round}
 use Rattle.role_steps.specs.declared.synchronizing.FileRow.{FileRow}
 use Rattle.role_steps.specs.declared.synchronizing.SyncTable.{SyncTable}
 use Rattle.the_run.specs.Steps.{at_table_of, is_opened_in, takes_inside, is_dropped, takes_framed, takes, adopts_of, adopts_in, tries_at, starts_mends_of, ends_event, whole, call_frame, epoch_id, takes_call, step}
-use Rattle.bound_laws.proofs.Asking.{UsersBounded, on_call_bounded, on_open_done_bounded, on_op_done_bounded, on_close_done_bounded, on_look_done_bounded}
+use Rattle.bound_laws.proofs.Asking.{UsersBounded, on_call_bounded, on_open_done_bounded, on_op_done_bounded, on_close_done_bounded, on_look_done_bounded, on_as_held_bounded}
 
 abbrev pub ViewBounded : SiteView → Type 0
 ViewBounded v = UsersBounded v.users
@@ -48,9 +48,9 @@ noted_keeps f p (Some t) v h = h
 adopts_keeps : (f : Frame) (ps : List Pull) (v : SiteView) → Keeps v (adopts_first f ps v)
 adopts_keeps f [] v h = h
 adopts_keeps f (p ∷ ps) v h =
-    elim (is_ready v p) as (λ t. Leaves (elim t [ true ↦ elim (is_above_own p (copy_of v.store p.file)) [ true ↦ adopts_pull f p v | false ↦ adopts_first f ps (without_pull p v) ] | false ↦ adopts_first f ps v ])) [
-      | true ↦ elim (is_above_own p (copy_of v.store p.file)) as (λ t. Leaves (elim t [ true ↦ adopts_pull f p v | false ↦ adopts_first f ps (without_pull p v) ])) [
-        | true ↦ (let now : SiteView = without_pull p (with_store v (with_copy (copy_adopted p) v.store)) in noted_keeps f p (row table_group p.file.group now.tables) now h)
+    elim (is_ready v p) as (λ t. Leaves (elim t [ true ↦ elim (fits_own p (copy_of v.store p.file)) [ true ↦ adopts_pull f p v | false ↦ adopts_first f ps (without_pull p v) ] | false ↦ adopts_first f ps v ])) [
+      | true ↦ elim (fits_own p (copy_of v.store p.file)) as (λ t. Leaves (elim t [ true ↦ adopts_pull f p v | false ↦ adopts_first f ps (without_pull p v) ])) [
+        | true ↦ (let now : SiteView = with_adopted p v in noted_keeps f p (row table_group p.file.group now.tables) now h)
         | false ↦ adopts_keeps f ps (without_pull p v) h
       ]
       | false ↦ adopts_keeps f ps v h
@@ -63,6 +63,7 @@ adopts_of_keeps c me (Some e) v h = adopts_keeps (frame_in c me v.boot e) v.pull
 tries_keeps : (c : Config) (me : ℕ) (x : Body) (v : SiteView) → Keeps v (tries_at c me x v)
 tries_keeps c me (body.Notify file kind set size stamp vector holder) v h = adopts_of_keeps c me v.epoch v h
 tries_keeps c me (body.Page file stamp page bytes) v h = adopts_of_keeps c me v.epoch v h
+tries_keeps c me (body.Delta file wanted pages) v h = adopts_of_keeps c me v.epoch v h
 tries_keeps c me _ v h = h
 
 -- ---- mends ----
@@ -147,6 +148,7 @@ inside_keeps f from (body.Open serial call process request file how) v h = table
 inside_keeps f from (body.Opened inst answer) v h = table_keeps _ (first_that (is_opened_in inst) v.tables) v h
 inside_keeps f from (body.OpenDone serial answer) v h = on_open_done_bounded f (kept_stamps v) serial answer v.users h
 inside_keeps f from (body.OpDone serial n result) v h = on_op_done_bounded f serial n result v.users h
+inside_keeps f from (body.AsHeld serial n len) v h = on_as_held_bounded f serial n v.users h
 inside_keeps f from (body.CloseDone serial answer) v h = on_close_done_bounded f serial answer v.users h
 inside_keeps f from (body.Closed inst made) v h = table_keeps _ (first_that (is_opened_in inst) v.tables) v h
 inside_keeps f from (body.Look call process request take file what) v h = table_keeps _ (row table_group file.group v.tables) v h

@@ -1,5 +1,5 @@
 -- What answers open, and what a call holds by them.
-use Rattle.std.proofs.Common.{◌≡◌, ℕ, ◌⊎◌, true, false, List, [], ◌∷◌, ◌++◌, refl, inl, inr}
+use Rattle.std.proofs.Common.{◌≡◌, ℕ, ◌⊎◌, true, false, List, [], ◌∷◌, ◌++◌, Option, Some, None, refl, inl, inr}
 use Rattle.role_steps.proofs.of_plain_facts.Numbers.{equal}
 use Rattle.role_steps.proofs.of_plain_facts.Tests.{false_true}
 use Rattle.locus_ids.specs.declared.ids.Serial.{Serial}
@@ -17,7 +17,7 @@ use Rattle.call_rules.specs.declared.answer.Answer.{Answer}
 use Rattle.call_rules.specs.declared.answer.Answer.TheVariants as answer
 use Rattle.role_steps.specs.Own.{Every}
 use Rattle.role_steps.specs.Views.{Frame}
-use Rattle.role_steps.specs.Using.{last_opened, own_serial, asked_answer, opened_answer, op_answer, close_answer, content_answer, with_brought, asks_open_of, asks_op_number}
+use Rattle.role_steps.specs.Using.{last_opened, own_serial, asked_answer, opened_answer, op_answer, close_answer, content_answer, with_brought, asks_open_of, asks_op_number, asks_held_number}
 use Rattle.role_steps.specs.Using as using
 use Rattle.wire_messages.specs.declared.body.Opening.TheVariants as how
 use Rattle.role_steps.specs.declared.users.Asking.{Asking}
@@ -251,3 +251,13 @@ op_test serial n r w (asking.Close s ss) h = false_true h
 
 pub op_asked : (serial n : ℕ) (r : Result) (w : WaitingCall) → asks_op_number serial n r w ≡ true → AsksOperation w.asking
 op_asked serial n r w h = op_test serial n r w w.asking h
+
+held_test : (serial n : ℕ) (w : WaitingCall) (copied : Option (List ℕ)) (a : Asking) → asks_held_number serial n (record w { copied = copied; asking = a }) ≡ true → AsksOperation a
+held_test serial n w None a h = absurd (false_true h)
+held_test serial n w (Some bytes) (asking.Op s ss m o seen) h = tt
+held_test serial n w (Some bytes) (asking.Look file x take) h = false_true h
+held_test serial n w (Some bytes) (asking.Open s file how) h = false_true h
+held_test serial n w (Some bytes) (asking.Close s ss) h = false_true h
+
+pub held_asked : (serial n : ℕ) (w : WaitingCall) → asks_held_number serial n w ≡ true → AsksOperation w.asking
+held_asked serial n w h = held_test serial n w w.copied w.asking h

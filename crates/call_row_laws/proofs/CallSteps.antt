@@ -17,7 +17,8 @@ use Rattle.role_steps.specs.Own.{Every}
 use Rattle.role_steps.specs.Tables.{row}
 use Rattle.role_steps.specs.Views.{Frame, Users, Shown}
 use Rattle.role_steps.specs.Requests.{waiting_of, waiting_key, instance_serial, user_instance, fd_key, descriptor_key, descriptor_in, descriptors_of, without_descriptor, waiting_span}
-use Rattle.role_steps.specs.Using.{own_call, is_packed, next_want, goes_on, frees, accepted, on_call, changed_records, users_leave}
+use Rattle.role_steps.specs.of_page_cache.Cached.{CachedPages}
+use Rattle.role_steps.specs.Using.{own_call, is_packed, next_want, goes_on, frees, accepted, with_copied, accepted_call, counted_users, on_call, changed_records, users_leave}
 use Rattle.role_steps.specs.declared.users.WaitingCall.{WaitingCall}
 use Rattle.role_steps.specs.declared.users.DescriptorRow.{DescriptorRow}
 use Rattle.tree_model.specs.Folds.{Trace}
@@ -97,28 +98,33 @@ unopened (inl e) = absurd e
 unopened (inr e) = absurd e
 
 -- a call that closes no descriptor holds nothing yet
-other_ready : (K : EpochId → Type 0) (f : Frame) (now : Option EpochId) (t : Trace) (u : Users) (process n : ℕ) (words : Call) → ((s : ℕ) → Frees s words (beginning (descriptors_of u process) now (own_call f.me f.boot n) words) → ⊥) → Owned K now u → Ready K f now t (record u { calls = n }) (accepted process n words (beginning (descriptors_of u process) now (own_call f.me f.boot n) words))
-other_ready K f now t u process n words none o = record {
+other_ready : (K : EpochId → Type 0) (f : Frame) (now : Option EpochId) (t : Trace) (u : Users) (pages : CachedPages) (copied : Option (List ℕ)) (process n : ℕ) (words : Call) → ((s : ℕ) → Frees s words (beginning (descriptors_of u process) now (own_call f.me f.boot n) words) → ⊥) → Owned K now u →
+    Ready K f now t (record u { calls = n; cache = pages }) (with_copied copied (accepted process n words (beginning (descriptors_of u process) now (own_call f.me f.boot n) words)))
+other_ready K f now t u pages copied process n words none o = record {
   low = λ s k. absurd (held s k);
   calls = λ x s a k l. absurd (held s l);
   rows = λ d a p k. held (serial_of d) k;
   opened = λ e. unopened e;
-  stays = λ l. absurd (lost_none b (record u { calls = n }) (next_want f w (record u { calls = n })) (wants_starts f.config.mounts (is_packed f) (lowest_free (descriptors_of u process)) (descriptors_of u process) now (own_call f.me f.boot n) words) (λ i h. begun_has K now u process (own_call f.me f.boot n) words i o h) l);
+  stays = λ l. absurd (lost_none b v (next_want f w v) (wants_starts f.config.mounts (is_packed f) (lowest_free (descriptors_of u process)) (descriptors_of u process) now (own_call f.me f.boot n) words) (λ i h. begun_has K now u process (own_call f.me f.boot n) words i o h) l);
 }
   where
     b : Beginning
     b = beginning (descriptors_of u process) now (own_call f.me f.boot n) words
 
     w : WaitingCall
-    w = accepted process n words b
+    w = with_copied copied (accepted process n words b)
+
+    v : Users
+    v = record u { calls = n; cache = pages }
 
     held : (s : ℕ) → Own s w → ⊥
     held s (inl k) = k
     held s (inr k) = none s k
 
 -- a close holds what its descriptor held
-close_ready : (K : EpochId → Type 0) (f : Frame) (now : Option EpochId) (t : Trace) (u : Users) (process n fd : ℕ) → Owned K now u → Ready K f now t (without_descriptor process fd (record u { calls = n })) (accepted process n (call.Close fd) (beginning (descriptors_of u process) now (own_call f.me f.boot n) (call.Close fd)))
-close_ready K f now t u process n fd o = record {
+close_ready : (K : EpochId → Type 0) (f : Frame) (now : Option EpochId) (t : Trace) (u : Users) (pages : CachedPages) (copied : Option (List ℕ)) (process n fd : ℕ) → Owned K now u →
+    Ready K f now t (without_descriptor process fd (record u { calls = n; cache = pages })) (with_copied copied (accepted process n (call.Close fd) (beginning (descriptors_of u process) now (own_call f.me f.boot n) (call.Close fd))))
+close_ready K f now t u pages copied process n fd o = record {
   low = λ s k. (let r : OnRow now u process fd s = held s k in let l : serial_of r.row ≤ u.serials = o.low r.row r.there in subst (λ (x : ℕ). x ≤ u.serials) r.serial l);
   calls = λ x s a k l. (let r : OnRow now u process fd s = held s l in absurd (o.no_call r.row x r.there r.open_now a (subst (λ (y : ℕ). Holds y x) (sym r.serial) k)));
   rows = λ d a p k. (let r : OnRow now u process fd (serial_of d) = held (serial_of d) k in let old : Among d u.descriptors × (descriptor_key d ≡ fd_key process fd → ⊥) = freed_old K now process fd u o d a in old.1 (o.one_descriptor d r.row old.0 r.there p r.open_now (sym r.serial) ∙ r.key));
@@ -130,34 +136,33 @@ close_ready K f now t u process n fd o = record {
     b = beginning (descriptors_of u process) now (own_call f.me f.boot n) (call.Close fd)
 
     w : WaitingCall
-    w = accepted process n (call.Close fd) b
+    w = with_copied copied (accepted process n (call.Close fd) b)
 
     v : Users
-    v = without_descriptor process fd (record u { calls = n })
+    v = without_descriptor process fd (record u { calls = n; cache = pages })
 
     held : (s : ℕ) → Own s w → OnRow now u process fd s
     held s (inl k) = absurd k
     held s (inr k) = freed_row now u process fd s k
 
 -- the call as it goes on, with what it frees
-accepted_do : (K : EpochId → Type 0) (f : Frame) (now : Option EpochId) (m process : ℕ) (t : Trace) (words : Call) (u : Users) → Owned K now u → Goes f.me f.boot t (u.calls + 1) u.waiting (accepted process (u.calls + 1) words (beginning (descriptors_of u process) now (own_call f.me f.boot (u.calls + 1)) words)) →
-    UsersDo K f.me f.boot now m t (goes_on f (accepted process (u.calls + 1) words (beginning (descriptors_of u process) now (own_call f.me f.boot (u.calls + 1)) words)) (frees process words (record u { calls = u.calls + 1 })))
-accepted_do K f now m process t (call.Close fd) u o g =
-    goes_do K f now m t (without_descriptor process fd (record u { calls = u.calls + 1 })) (accepted process (u.calls + 1) (call.Close fd) (beginning (descriptors_of u process) now (own_call f.me f.boot (u.calls + 1)) (call.Close fd))) g
-    (freed_owned K now process fd (record u { calls = u.calls + 1 }) (counts_owned K now (u.calls + 1) u o)) (close_ready K f now t u process (u.calls + 1) fd o)
-accepted_do K f now m process t words u o g =
-    goes_do K f now m t (record u { calls = u.calls + 1 }) (accepted process (u.calls + 1) words (beginning (descriptors_of u process) now (own_call f.me f.boot (u.calls + 1)) words)) g
-    (counts_owned K now (u.calls + 1) u o) (other_ready K f now t u process (u.calls + 1) words (λ s h. h) o)
+accepted_do : (K : EpochId → Type 0) (f : Frame) (now : Option EpochId) (m process : ℕ) (t : Trace) (words : Call) (u : Users) (pages : CachedPages) (copied : Option (List ℕ)) → Owned K now u → Goes f.me f.boot t (u.calls + 1) u.waiting (with_copied copied (accepted process (u.calls + 1) words (beginning (descriptors_of u process) now (own_call f.me f.boot (u.calls + 1)) words))) →
+    UsersDo K f.me f.boot now m t (goes_on f (with_copied copied (accepted process (u.calls + 1) words (beginning (descriptors_of u process) now (own_call f.me f.boot (u.calls + 1)) words))) (frees process words (record u { calls = u.calls + 1; cache = pages })))
+accepted_do K f now m process t (call.Close fd) u pages copied o g =
+    goes_do K f now m t (without_descriptor process fd (record u { calls = u.calls + 1; cache = pages })) (with_copied copied (accepted process (u.calls + 1) (call.Close fd) (beginning (descriptors_of u process) now (own_call f.me f.boot (u.calls + 1)) (call.Close fd)))) g
+    (freed_owned K now process fd (record u { calls = u.calls + 1; cache = pages }) (counts_owned K now (u.calls + 1) pages u o)) (close_ready K f now t u pages copied process (u.calls + 1) fd o)
+accepted_do K f now m process t words u pages copied o g =
+    goes_do K f now m t (record u { calls = u.calls + 1; cache = pages }) (with_copied copied (accepted process (u.calls + 1) words (beginning (descriptors_of u process) now (own_call f.me f.boot (u.calls + 1)) words))) g
+    (counts_owned K now (u.calls + 1) pages u o) (other_ready K f now t u pages copied process (u.calls + 1) words (λ s h. h) o)
 
 pub on_call_do : (K : EpochId → Type 0) (f : Frame) (now : Option EpochId) (m process : ℕ) (t : Trace) (words : Call) (u : Users) → ((r : WaitingCall) → Among r u.waiting → waiting_key r ≡ waiting_of process words → ⊥) → KeyedAs process words → Idle process words u.waiting →
     Waits f.me f.boot t u.calls u.waiting → Owned K now u → UsersDo K f.me f.boot now m t (on_call f now process words u)
 on_call_do K f now m process t words u alone keyed idle h o =
-    let d : UsersDo K f.me f.boot now m next (goes_on f (accepted process (u.calls + 1) words b) (frees process words (record u { calls = u.calls + 1 }))) = accepted_do K f now m process next words u o (accept_goes f.me f.boot m u.calls process t u.waiting words b o.waiting alone keyed h) in
+    let w : WaitingCall = accepted_call f now process words u in
+    let counted : Users = counted_users f now process words u in
+    let d : UsersDo K f.me f.boot now m next (goes_on f w (frees process words counted)) = accepted_do K f now m process next words u counted.cache w.copied o (accept_goes f.me f.boot m u.calls process t u.waiting words w.begins w.copied o.waiting alone keyed h) in
     record { waits = d.waits; owned = d.owned; rows = (accept_row f.me f.boot u.calls process t u.waiting words idle h, d.rows); own = (refl, d.own); none = d.none }
   where
-    b : Beginning
-    b = beginning (descriptors_of u process) now (own_call f.me f.boot (u.calls + 1)) words
-
     next : Trace
     next = with_told m (Shown (says.Accept f.me process (own_call f.me f.boot (u.calls + 1)) words)) t
 

@@ -15,13 +15,12 @@ use Rattle.trace_book.specs.declared.operation.Op.{Op}
 use Rattle.trace_book.specs.declared.record.Record.{Record}
 use Rattle.trace_book.specs.declared.record.Record.TheVariants as says
 use Rattle.trace_book.specs.declared.record.StopCause.TheVariants as cause
-use Rattle.call_rules.specs.Descriptors.{beginning}
 use Rattle.call_rules.specs.declared.want.Want.{Want}
 use Rattle.call_rules.specs.declared.want.Want.TheVariants as want
 use Rattle.role_steps.specs.Own.{Every}
 use Rattle.role_steps.specs.Views.{Frame, Users, SiteView, Told, Shown, DiskWrite, Outcome, Event, Calls, Receives, Ticks, Parts, Merges, GivesUp, quiet, first_written}
-use Rattle.role_steps.specs.Requests.{descriptors_of, user_instance, asks_op_of, asks_close_of}
-use Rattle.role_steps.specs.Using.{own_call, accepted, on_call, goes_on, next_want, asks_want, frees}
+use Rattle.role_steps.specs.Requests.{user_instance, asks_op_of, asks_close_of}
+use Rattle.role_steps.specs.Using.{own_call, on_call, counted_users, accepted_call, goes_on, next_want, asks_want, frees}
 use Rattle.role_steps.specs.declared.rounds.InEpoch.{InEpoch}
 use Rattle.role_steps.specs.declared.users.UserInstance.{UserInstance}
 use Rattle.role_steps.specs.declared.users.WaitingCall.{WaitingCall}
@@ -168,10 +167,10 @@ frame_accepts c s process words links v f now me plain h = record {
 }
   where
     freed : Users
-    freed = frees process words (record v.users { calls = v.users.calls + 1 })
+    freed = frees process words (counted_users f now process words v.users)
 
     w : WaitingCall
-    w = accepted process (v.users.calls + 1) words (beginning (descriptors_of v.users process) now (own_call f.me f.boot (v.users.calls + 1)) words)
+    w = accepted_call f now process words v.users
 
     went : Outcome Users
     went = goes_on f w freed

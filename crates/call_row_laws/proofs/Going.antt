@@ -1,5 +1,5 @@
 -- A call that waits goes on: its row is put or replaced, or it is answered and its row taken away.
-use Rattle.std.proofs.Common.{◌≡◌, ◌≤◌, ℕ, ◌+◌, ◌==◌, ◌⊎◌, Bool, true, false, cond, ◌&&◌, List, [], ◌∷◌, Some, None, refl, sym, ◌∙◌, ap, subst, inl, inr, arith}
+use Rattle.std.proofs.Common.{◌≡◌, ◌≤◌, ℕ, ◌+◌, ◌==◌, ◌⊎◌, Bool, true, false, cond, ◌&&◌, List, [], ◌∷◌, Option, Some, None, refl, sym, ◌∙◌, ap, subst, inl, inr, arith}
 use Rattle.std.proofs.lemmas.Bool.Decides.{nat_tests}
 use Rattle.std.specs.List.{find}
 use Rattle.role_steps.proofs.of_plain_facts.Numbers.{equal_test}
@@ -16,7 +16,7 @@ use Rattle.trace_book.specs.declared.reply.Reply.{Reply}
 use Rattle.trace_book.specs.declared.reply.Reply.TheVariants as reply
 use Rattle.role_steps.specs.Tables.{with_row, without_row}
 use Rattle.role_steps.specs.Requests.{waiting_of, waiting_key}
-use Rattle.role_steps.specs.Using.{own_call, reply_record, accepted, changed_records}
+use Rattle.role_steps.specs.Using.{own_call, reply_record, accepted, with_copied, changed_records}
 use Rattle.role_steps.specs.declared.users.WaitingCall.{WaitingCall}
 use Rattle.tree_model.specs.declared.accepted.Waiting.{Waiting}
 use Rattle.tree_model.specs.Folds.{Trace}
@@ -135,9 +135,9 @@ goes_again s boot calls now rows w v rises a same h = record {
 -- ---- a call is accepted ----
 
 -- no row has its key, so that the process waits for nothing
-pub accept_goes : (s boot m calls process : ℕ) (now : Trace) (rows : List WaitingCall) (words : Call) (b : Beginning) → Rises waiting_key 0 rows → ((r : WaitingCall) → Among r rows → waiting_key r ≡ waiting_of process words → ⊥) → KeyedAs process words →
-    Waits s boot now calls rows → Goes s boot (record { line = m; what = says.Accept s process (own_call s boot (calls + 1)) words } ∷ now) (calls + 1) rows (accepted process (calls + 1) words b)
-accept_goes s boot m calls process now rows words b rises alone keyed h = record {
+pub accept_goes : (s boot m calls process : ℕ) (now : Trace) (rows : List WaitingCall) (words : Call) (b : Beginning) (copied : Option (List ℕ)) → Rises waiting_key 0 rows → ((r : WaitingCall) → Among r rows → waiting_key r ≡ waiting_of process words → ⊥) → KeyedAs process words →
+    Waits s boot now calls rows → Goes s boot (record { line = m; what = says.Accept s process (own_call s boot (calls + 1)) words } ∷ now) (calls + 1) rows (with_copied copied (accepted process (calls + 1) words b))
+accept_goes s boot m calls process now rows words b copied rises alone keyed h = record {
   up = h.up;
   boot_is = h.boot_is;
   counted = ap (λ (t : Bool). cond t (calls_accepted now s + 1) (calls_accepted now s)) (equal_test s s refl) ∙ ap (λ (n : ℕ). n + 1) h.counted;
@@ -154,7 +154,7 @@ accept_goes s boot m calls process now rows words b rises alone keyed h = record
 }
   where
     w : WaitingCall
-    w = accepted process (calls + 1) words b
+    w = with_copied copied (accepted process (calls + 1) words b)
 
     by_place : (x : Waiting) → Among x (waiting (record { line = m; what = says.Accept s process (own_call s boot (calls + 1)) words } ∷ now)) → x.site ≡ s → Matches s boot x w ⊎ ((r : WaitingCall) × (Among r rows × (IsOther w r × Matches s boot x r)))
     by_place x (inl e) f = inl (ap (λ (y : Waiting). y.process) e, ap (λ (y : Waiting). y.call) e)

@@ -12,17 +12,17 @@ use Rattle.wire_messages.specs.declared.body.Body.TheVariants as body
 use Rattle.role_steps.specs.Own.{Every}
 use Rattle.role_steps.specs.Tables.{row, first_that}
 use Rattle.role_steps.specs.Views.{Frame, Store, Users, SiteView, Outcome, quiet}
-use Rattle.role_steps.specs.Adoption.{notes_own_at, notes_own, copy_adopted, with_store, table_group, is_ready, is_above_own, adopts_pull, without_pull, adopts_first}
+use Rattle.role_steps.specs.Adoption.{notes_own_at, notes_own, table_group, is_ready, adopts_pull, without_pull, adopts_first, with_adopted, fits_own}
 use Rattle.role_steps.specs.Epochs.{frame_in}
 use Rattle.role_steps.specs.Looks.{LookRequest}
 use Rattle.role_steps.specs.Mends.{mends_in, is_mend_in, has_mend_in, mending, kept_stamps, wants_mend, row_file, starts_mend_of, starts_mend, starts_mends_in}
 use Rattle.role_steps.specs.Opens.{OpenRequest, on_opened}
-use Rattle.role_steps.specs.Operations.{on_op}
-use Rattle.role_steps.specs.Pulling.{on_notify, on_page}
+use Rattle.role_steps.specs.Operations.{on_op, on_read_held}
+use Rattle.role_steps.specs.Pulling.{on_notify, on_page, on_delta}
 use Rattle.role_steps.specs.Reports.{on_report, on_open, on_look, on_closed, on_have}
 use Rattle.role_steps.specs.Requests.{waiting_of, waiting_span}
-use Rattle.role_steps.specs.Storage.{copy_of, with_copy, instance_of, on_open_ss, on_close, on_closed_ok, on_look_ss, on_pull}
-use Rattle.role_steps.specs.Using.{on_call, on_open_done, on_op_done, on_close_done, on_look_done}
+use Rattle.role_steps.specs.Storage.{copy_of, instance_of, on_open_ss, on_close, on_closed_ok, on_look_ss, on_pull, on_want}
+use Rattle.role_steps.specs.Using.{on_call, on_open_done, on_op_done, on_as_held, on_close_done, on_look_done}
 use Rattle.role_steps.specs.Versions.{file_row}
 use Rattle.role_steps.specs.declared.pulls.Pull.{Pull}
 use Rattle.role_steps.specs.declared.rounds.InEpoch.{InEpoch}
@@ -33,11 +33,11 @@ use Rattle.row_laws.specs.of_the_run.Kept.{Among}
 use Rattle.row_laws.specs.of_the_run.Steps.{from_user, group_of, at_store, at_users, at_pulls, at_table_of, is_opened_in, takes_inside, takes_framed, adopts_of, tries_at, starts_mends_of, epoch_id}
 use Rattle.row_laws.proofs.of_the_run.InsideSync.{Found, every_row, row_found, first_found}
 use Rattle.row_laws.specs.Inward.{AllServed, LooksInward, TableInwardly}
-use Rattle.row_laws.proofs.Walks.{on_opened_inward, on_open_inward, on_look_inward, on_report_inward, on_closed_inward, have_ok, on_have_inward, on_open_ss_serves, on_close_serves, on_closed_ok_serves, on_look_ss_serves, on_pull_serves, on_op_serves, on_notify_serves, on_page_serves}
+use Rattle.row_laws.proofs.Walks.{on_opened_inward, on_open_inward, on_look_inward, on_report_inward, on_closed_inward, have_ok, on_have_inward, on_open_ss_serves, on_close_serves, on_closed_ok_serves, on_look_ss_serves, on_pull_serves, on_want_serves, on_op_serves, on_read_held_serves, on_notify_serves, on_page_serves, on_delta_serves}
 use Rattle.call_row_laws.specs.Serials.{Owned}
 use Rattle.call_row_laws.specs.Waiting.{after, KeyedAs, CallFree}
 use Rattle.call_row_laws.specs.Standing.{UsersDo, WasIn, IsInside, Stands, SiteDone, SiteDoes}
-use Rattle.call_row_laws.proofs.UserSteps.{on_open_done_do, on_op_done_do, on_close_done_do, on_look_done_do}
+use Rattle.call_row_laws.proofs.UserSteps.{on_open_done_do, on_op_done_do, on_as_held_do, on_close_done_do, on_look_done_do}
 use Rattle.call_row_laws.proofs.CallSteps.{on_call_do}
 use Rattle.call_row_laws.proofs.Sites.{all_served_free, plain_done, quiet_done, users_done, then_does}
 
@@ -81,7 +81,9 @@ inside_done c s m t from (body.OpenDone serial answer) v e here h = inside_users
 inside_done c s m t from (body.Op serial n o seen) v e here h =
     store_done s m t (on_op (frame_in c s v.boot e) (mending v (group_of (instance_of v.store (from_user from serial)))) (from_user from serial) n o seen) v
     (on_op_serves (frame_in c s v.boot e) (mending v (group_of (instance_of v.store (from_user from serial)))) (from_user from serial) n o seen v.store) h
+inside_done c s m t from (body.ReadHeld serial n at len) v e here h = store_done s m t (on_read_held (frame_in c s v.boot e) (from_user from serial) n at len) v (on_read_held_serves (frame_in c s v.boot e) (from_user from serial) n at len v.store) h
 inside_done c s m t from (body.OpDone serial n result) v e here h = inside_users s m t (on_op_done (frame_in c s v.boot e) serial n result) v e here (λ k o. on_op_done_do (WasIn s t) (frame_in c s v.boot e) (Some e.id) m t serial n result v.users k h.waits o) h
+inside_done c s m t from (body.AsHeld serial n len) v e here h = inside_users s m t (on_as_held (frame_in c s v.boot e) serial n) v e here (λ k o. on_as_held_do (WasIn s t) (frame_in c s v.boot e) (Some e.id) m t serial n v.users k h.waits o) h
 inside_done c s m t from (body.Close serial) v e here h = store_done s m t (on_close (frame_in c s v.boot e) (from_user from serial)) v (on_close_serves (frame_in c s v.boot e) (from_user from serial) v.store) h
 inside_done c s m t from (body.Closed inst made) v e here h = with_done s m t (on_closed (frame_in c s v.boot e) from inst made) (is_opened_in inst) v (on_closed_inward (frame_in c s v.boot e) from inst made) h
 inside_done c s m t from (body.ClosedOk inst) v e here h = store_done s m t (on_closed_ok (frame_in c s v.boot e) inst) v (on_closed_ok_serves (frame_in c s v.boot e) inst v.store) h
@@ -90,9 +92,11 @@ inside_done c s m t from (body.Look call process request take file what) v e her
 inside_done c s m t from (body.LookSs us call process request take file what serve) v e here h = (let l : LookRequest = record { call = call; process = process; request = request; take = take; file = file; what = what } in store_done s m t (on_look_ss (frame_in c s v.boot e) us l serve) v (on_look_ss_serves (frame_in c s v.boot e) us l serve v.store) h)
 inside_done c s m t from (body.LookDone call request take answer) v e here h = inside_users s m t (on_look_done (frame_in c s v.boot e) call request take answer) v e here (λ k o. on_look_done_do (WasIn s t) (frame_in c s v.boot e) (Some e.id) m t call request take answer v.users h.waits o) h
 inside_done c s m t from (body.Notify file kind set size stamp vector holder) v e here h =
-    (let p : Pull = record { file = file; kind = kind; set = set; size = size; stamp = stamp; vector = vector; holder = holder; content = [] } in pulls_done s m t (on_notify (frame_in c s v.boot e) from (copy_of v.store file) p) v (on_notify_serves (frame_in c s v.boot e) from (copy_of v.store file) p v.pulls) h)
+    (let p : Pull = record { file = file; kind = kind; set = set; size = size; stamp = stamp; vector = vector; holder = holder; base = None; wanted = None; content = [] } in pulls_done s m t (on_notify (frame_in c s v.boot e) from (copy_of v.store file) p) v (on_notify_serves (frame_in c s v.boot e) from (copy_of v.store file) p v.pulls) h)
 inside_done c s m t from (body.Pull file stamp page) v e here h = store_done s m t (on_pull (frame_in c s v.boot e) from file stamp page) v (on_pull_serves (frame_in c s v.boot e) from file stamp page v.store) h
+inside_done c s m t from (body.Want file wanted own) v e here h = store_done s m t (on_want (frame_in c s v.boot e) from file wanted own) v (on_want_serves (frame_in c s v.boot e) from file wanted own v.store) h
 inside_done c s m t from (body.Page file stamp page bytes) v e here h = pulls_done s m t (on_page (frame_in c s v.boot e) file stamp page bytes) v (on_page_serves (frame_in c s v.boot e) file stamp page bytes v.pulls) h
+inside_done c s m t from (body.Delta file wanted pages) v e here h = pulls_done s m t (on_delta (frame_in c s v.boot e) (copy_of v.store file) file wanted pages) v (on_delta_serves (frame_in c s v.boot e) (copy_of v.store file) file wanted pages v.pulls) h
 inside_done c s m t from (body.Have file stamp) v e here h = group_done s m t (on_have from file stamp) file.group v (on_have_inward from file stamp) h
 inside_done c s m t from body.Poll v e here h = quiet_done s m t v h
 inside_done c s m t from (body.Promise reach) v e here h = quiet_done s m t v h
@@ -127,7 +131,7 @@ noted_tables f p (Some t) v k ok = every_row LooksInward table_group _ v.tables 
 
 adopts_pull_adopts : (f : Frame) (p : Pull) (v : SiteView) → Adopts v (adopts_pull f p v)
 adopts_pull_adopts f p v =
-    let kept : SiteView = without_pull p (with_store v (with_copy (copy_adopted p) v.store)) in
+    let kept : SiteView = with_adopted p v in
     let same : ((notes_own f p kept).users ≡ v.users) × ((notes_own f p kept).epoch ≡ v.epoch) × ((notes_own f p kept).boot ≡ v.boot) = noted_same f p (row table_group p.file.group v.tables) kept in
     record {
       users = same.0;
@@ -140,8 +144,8 @@ adopts_pull_adopts f p v =
 adopts_first_adopts : (f : Frame) (ps : List Pull) (v : SiteView) → Adopts v (adopts_first f ps v)
 adopts_first_adopts f [] v = quiet_adopts v
 adopts_first_adopts f (p ∷ ps) v =
-    elim (is_ready v p) as (λ t. Adopts v (elim t [ true ↦ elim (is_above_own p (copy_of v.store p.file)) [ true ↦ adopts_pull f p v | false ↦ adopts_first f ps (without_pull p v) ] | false ↦ adopts_first f ps v ])) [
-      | true ↦ elim (is_above_own p (copy_of v.store p.file)) as (λ t. Adopts v (elim t [ true ↦ adopts_pull f p v | false ↦ adopts_first f ps (without_pull p v) ])) [
+    elim (is_ready v p) as (λ t. Adopts v (elim t [ true ↦ elim (fits_own p (copy_of v.store p.file)) [ true ↦ adopts_pull f p v | false ↦ adopts_first f ps (without_pull p v) ] | false ↦ adopts_first f ps v ])) [
+      | true ↦ elim (fits_own p (copy_of v.store p.file)) as (λ t. Adopts v (elim t [ true ↦ adopts_pull f p v | false ↦ adopts_first f ps (without_pull p v) ])) [
         | true ↦ adopts_pull_adopts f p v
         | false ↦ (let g : Adopts (without_pull p v) (adopts_first f ps (without_pull p v)) = adopts_first_adopts f ps (without_pull p v) in record { users = g.users; epoch = g.epoch; boot = g.boot; tables = g.tables; free = g.free })
       ]
@@ -155,6 +159,7 @@ adopts_of_adopts c me (Some e) v = adopts_first_adopts (frame_in c me v.boot e) 
 pub tries_adopts : (c : Config) (me : ℕ) (x : Body) (v : SiteView) → Adopts v (tries_at c me x v)
 tries_adopts c me (body.Notify file kind set size stamp vector holder) v = adopts_of_adopts c me v.epoch v
 tries_adopts c me (body.Page file stamp page bytes) v = adopts_of_adopts c me v.epoch v
+tries_adopts c me (body.Delta file wanted pages) v = adopts_of_adopts c me v.epoch v
 tries_adopts c me _ v = quiet_adopts v
 
 -- ---- mends ----

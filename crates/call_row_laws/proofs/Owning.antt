@@ -4,6 +4,7 @@ use Rattle.role_steps.proofs.of_plain_facts.Numbers.{at_most_of}
 use Rattle.role_steps.proofs.of_plain_facts.Tests.{false_true}
 use Rattle.locus_ids.specs.declared.ids.EpochId.{EpochId}
 use Rattle.locus_ids.specs.declared.ids.FileId.{FileId}
+use Rattle.role_steps.specs.of_page_cache.Cached.{CachedPages}
 use Rattle.role_steps.specs.Views.{Users}
 use Rattle.role_steps.specs.Requests.{waiting_key, with_waiting, without_waiting, instance_serial, with_user_instance, without_user_instance, fd_key, descriptor_key, with_descriptor, without_descriptor}
 use Rattle.role_steps.specs.Using.{last_opened, no_serial}
@@ -20,8 +21,9 @@ zero_least n = omega arith
 
 -- ---- what doesn't matter ----
 
-pub counts_owned : (K : EpochId → Type 0) (now : Option EpochId) (n : ℕ) (u : Users) → Owned K now u → Owned K now (record u { calls = n })
-counts_owned K now n u h = record { waiting = h.waiting; descriptors = h.descriptors; held_low = h.held_low; one_call = h.one_call; low = h.low; no_call = h.no_call; one_descriptor = h.one_descriptor; there = h.there; asked_there = h.asked_there; epochs = h.epochs }
+-- the calls are counted, and pages are used or kept
+pub counts_owned : (K : EpochId → Type 0) (now : Option EpochId) (n : ℕ) (pages : CachedPages) (u : Users) → Owned K now u → Owned K now (record u { calls = n; cache = pages })
+counts_owned K now n pages u h = record { waiting = h.waiting; descriptors = h.descriptors; held_low = h.held_low; one_call = h.one_call; low = h.low; no_call = h.no_call; one_descriptor = h.one_descriptor; there = h.there; asked_there = h.asked_there; epochs = h.epochs }
 
 pub hopes_owned : (K : EpochId → Type 0) (now : Option EpochId) (files : List FileId) (u : Users) → Owned K now u → Owned K now (record u { hopeless = files })
 hopes_owned K now files u h = record { waiting = h.waiting; descriptors = h.descriptors; held_low = h.held_low; one_call = h.one_call; low = h.low; no_call = h.no_call; one_descriptor = h.one_descriptor; there = h.there; asked_there = h.asked_there; epochs = h.epochs }

@@ -12,6 +12,7 @@ use Rattle.trace_book.specs.declared.descriptor.Beginning.TheVariants as begins
 use Rattle.trace_book.specs.declared.descriptor.OneVersion.{OneVersion}
 use Rattle.trace_book.specs.declared.operation.Op.{Op}
 use Rattle.trace_book.specs.declared.operation.Outcome.{Outcome as Result}
+use Rattle.trace_book.specs.declared.operation.Outcome.TheVariants as result
 use Rattle.trace_book.specs.declared.reply.Reply.{Reply}
 use Rattle.trace_book.specs.declared.reply.Reply.TheVariants as reply
 use Rattle.wire_messages.specs.declared.body.Granted.{Granted}
@@ -28,13 +29,14 @@ use Rattle.call_rules.specs.declared.want.Want.TheVariants as want
 use Rattle.role_steps.specs.Tables.{first_that}
 use Rattle.role_steps.specs.Views.{Frame, Users, quiet}
 use Rattle.role_steps.specs.Requests.{waiting_key, without_waiting, instance_serial, user_instance, with_user_instance, without_user_instance, descriptors_of, with_descriptor, asks, next_request, asks_open, asks_op_of, asks_close_of, seen_by}
-use Rattle.role_steps.specs.Using.{last_opened, no_serial, opened_row, is_hopeless, without_hope, holds_again, after_reply, replies, is_packed, asks_want, next_want, goes_on, with_answer, takes_answer, asks_open_of, own_serial, opened_answer, kept_for, mended_file, takes_open, on_open_done_of, on_open_done, asks_op_number, op_answer, on_op_done_of, on_op_done, close_answer, on_close_done_of, on_close_done, asks_take, looks_again, content_answer, with_brought, takes_look, on_look_done_of, on_look_done}
+use Rattle.role_steps.specs.Using.{last_opened, no_serial, opened_row, is_hopeless, without_hope, holds_again, after_reply, replies, is_packed, asks_want, next_want, goes_on, with_answer, takes_answer, asks_open_of, own_serial, opened_answer, kept_for, mended_file, version_read, takes_open, on_open_done_of, on_open_done, asks_op_number, op_answer, on_op_done_of, on_op_done, asks_held_number, takes_copied, on_as_held_of, on_as_held, close_answer, on_close_done_of, on_close_done, asks_take, looks_again, content_answer, with_brought, takes_look, on_look_done_of, on_look_done}
 use Rattle.role_steps.specs.Using as using
 use Rattle.role_steps.specs.declared.users.Asking.{Asking}
 use Rattle.role_steps.specs.declared.users.Asking.TheVariants as asking
 use Rattle.role_steps.specs.declared.users.WaitingCall.{WaitingCall}
 use Rattle.role_steps.specs.declared.users.DescriptorRow.{DescriptorRow}
 use Rattle.role_steps.specs.declared.users.UserInstance.{UserInstance}
+use Rattle.role_steps.proofs.Caching.{kept_only}
 use Rattle.tree_model.specs.Folds.{Trace}
 use Rattle.row_laws.specs.of_the_run.Kept.{Among}
 use Rattle.call_row_laws.specs.Scripts.{EndsOpened, HasRead, HoldsOpened, GivesRead, ClosedReply, Closed}
@@ -46,8 +48,8 @@ use Rattle.call_row_laws.proofs.Scripts.{wants_closed}
 use Rattle.call_row_laws.proofs.Rereads.{wants_read}
 use Rattle.call_row_laws.proofs.Keeping.{key_same}
 use Rattle.call_row_laws.proofs.Going.{put_waits, answer_waits, goes_again}
-use Rattle.call_row_laws.proofs.Owning.{hopes_owned, put_owned, answered_owned, renewed_has, renewed_owned, closed_owned, opened_owned}
-use Rattle.call_row_laws.proofs.Answers.{last_more, ends_last, ends_own, holds_own, read_last, did_last, opened_more, own_answers, begins_own, opens_it, opened_is, OpensNone, none_opens, none_opened, IsPlain, plain_none, plain_did, open_did, op_none, close_none, content_none, SameStage, stage_self, brought_stage, open_under, close_under, close_plain, op_asked}
+use Rattle.call_row_laws.proofs.Owning.{counts_owned, hopes_owned, put_owned, answered_owned, renewed_has, renewed_owned, closed_owned, opened_owned}
+use Rattle.call_row_laws.proofs.Answers.{last_more, ends_last, ends_own, holds_own, read_last, did_last, opened_more, own_answers, begins_own, opens_it, opened_is, OpensNone, none_opens, none_opened, IsPlain, plain_none, plain_did, open_did, op_none, close_none, content_none, SameStage, stage_self, brought_stage, open_under, close_under, close_plain, op_asked, held_asked}
 
 -- ---- what a call may do next ----
 
@@ -255,7 +257,7 @@ takes_open_do K f now m t kept serial w (granted.Open ss ino size stamp vector) 
     by_end
   where
     i : UserInstance
-    i = record { serial = serial; ss = ss; vector = vector; ops = 0 }
+    i = record { serial = serial; ss = ss; vector = vector; ops = 0; reads = version_read size stamp w.asking }
 
     stamps : List Stamp
     stamps = kept_for kept (mended_file w.words)
@@ -279,20 +281,41 @@ on_open_done_do K f now m t kept serial a u k h o = by_found (first_that (asks_o
     by_found None e = quiet_do K f now m t u h o
     by_found (Some w) e = let r : Among w u.waiting × (asks_open_of serial w ≡ true) = first_found (asks_open_of serial) u.waiting w e in takes_open_do K f now m t kept serial w a u k r.0 (open_under serial w r.1) h o
 
--- ---- OpDone, CloseDone ----
+-- ---- OpDone ----
 
-pub on_op_done_do : (K : EpochId → Type 0) (f : Frame) (now : Option EpochId) (m : ℕ) (t : Trace) (serial n : ℕ) (x : Result) (u : Users) → K f.epoch → Waits f.me f.boot t u.calls u.waiting → Owned K now u → UsersDo K f.me f.boot now m t (on_op_done f serial n x u)
-on_op_done_do K f now m t serial n x u known h o = by_found (first_that (asks_op_number serial n x) u.waiting) refl
+-- the answer to the operation that a call asks, in either form
+done_do : (K : EpochId → Type 0) (f : Frame) (now : Option EpochId) (m : ℕ) (t : Trace) (w : WaitingCall) (x : Result) (u : Users) → K f.epoch → Among w u.waiting → AsksOperation w.asking → Waits f.me f.boot t u.calls u.waiting → Owned K now u → UsersDo K f.me f.boot now m t (takes_answer f w (op_answer x) u)
+done_do K f now m t w x u known there asks h o =
+    none_do K f now m t u w w ans (op_none x) there (stage_self w) h o
+    (λ l. (subst (λ (j : Serial). HasInstance j.serial u) (sym (did_last no_serial w.answers ans (read_last w.answers ans l).0)) (o.asked_there w there asks (read_last w.answers ans l).1), known))
   where
     ans : Answer
     ans = op_answer x
 
+pub on_op_done_do : (K : EpochId → Type 0) (f : Frame) (now : Option EpochId) (m : ℕ) (t : Trace) (serial n : ℕ) (x : Result) (u : Users) → K f.epoch → Waits f.me f.boot t u.calls u.waiting → Owned K now u → UsersDo K f.me f.boot now m t (on_op_done f serial n x u)
+on_op_done_do K f now m t serial n x u known h o = by_found (first_that (asks_op_number serial n x) u.waiting) refl
+  where
     by_found : (w : Option WaitingCall) → first_that (asks_op_number serial n x) u.waiting ≡ w → UsersDo K f.me f.boot now m t (on_op_done_of f x w u)
     by_found None e = quiet_do K f now m t u h o
     by_found (Some w) e =
         let r : Among w u.waiting × (asks_op_number serial n x w ≡ true) = first_found (asks_op_number serial n x) u.waiting w e in
-        none_do K f now m t u w w ans (op_none x) r.0 (stage_self w) h o
-        (λ l. (subst (λ (j : Serial). HasInstance j.serial u) (sym (did_last no_serial w.answers ans (read_last w.answers ans l).0)) (o.asked_there w r.0 (op_asked serial n x w r.1) (read_last w.answers ans l).1), known))
+        kept_only (λ (y : Users). UsersDo K f.me f.boot now m t (takes_answer f w (op_answer x) y)) w.asking x u
+        (λ pages. done_do K f now m t w x (record u { cache = pages }) known r.0 (op_asked serial n x w r.1) h (counts_owned K now u.calls pages u o))
+
+-- ---- AsHeld ----
+
+pub on_as_held_do : (K : EpochId → Type 0) (f : Frame) (now : Option EpochId) (m : ℕ) (t : Trace) (serial n : ℕ) (u : Users) → K f.epoch → Waits f.me f.boot t u.calls u.waiting → Owned K now u → UsersDo K f.me f.boot now m t (on_as_held f serial n u)
+on_as_held_do K f now m t serial n u known h o = by_found (first_that (asks_held_number serial n) u.waiting) refl
+  where
+    by_copied : (w : WaitingCall) (copied : Option (List ℕ)) → Among w u.waiting → AsksOperation w.asking → UsersDo K f.me f.boot now m t (takes_copied f w copied u)
+    by_copied w None there asks = quiet_do K f now m t u h o
+    by_copied w (Some bytes) there asks = done_do K f now m t w (result.Data bytes) u known there asks h o
+
+    by_found : (x : Option WaitingCall) → first_that (asks_held_number serial n) u.waiting ≡ x → UsersDo K f.me f.boot now m t (on_as_held_of f x u)
+    by_found None e = quiet_do K f now m t u h o
+    by_found (Some w) e = let r : Among w u.waiting × (asks_held_number serial n w ≡ true) = first_found (asks_held_number serial n) u.waiting w e in by_copied w w.copied r.0 (held_asked serial n w r.1)
+
+-- ---- CloseDone ----
 
 pub on_close_done_do : (K : EpochId → Type 0) (f : Frame) (now : Option EpochId) (m : ℕ) (t : Trace) (serial : ℕ) (a : CloseAnswer) (u : Users) → Waits f.me f.boot t u.calls u.waiting → Owned K now u → UsersDo K f.me f.boot now m t (on_close_done f serial a u)
 on_close_done_do K f now m t serial a u h o = by_found (first_that (using.asks_close_of serial) u.waiting) refl

@@ -30,13 +30,8 @@ pub(crate) fn opens_file(
     }
     match answers {
         [] => Ok(Want::Open { file, mode }),
-        [Answer::Opened { inst: _, ino: _ }] => Ok(numbered(free)),
-        [
-            Answer::Reading {
-                inst: _,
-                version: _,
-            },
-        ] => Ok(numbered(free)),
+        [Answer::Opened { .. }] => Ok(numbered(free)),
+        [Answer::Reading { .. }] => Ok(numbered(free)),
         [Answer::Refused { why }] => {
             let why = why.copy()?;
             Ok(Want::Give {

@@ -8,15 +8,14 @@ use Rattle.trace_book.specs.declared.descriptor.Beginning.TheVariants as begins
 use Rattle.trace_book.specs.declared.operation.Op.{Op}
 use Rattle.trace_book.specs.declared.reply.Reply.{Reply}
 use Rattle.trace_book.specs.declared.reply.Reply.TheVariants as reply
-use Rattle.call_rules.specs.Descriptors.{beginning}
 use Rattle.call_rules.specs.declared.want.Want.{Want}
 use Rattle.call_rules.specs.declared.want.Want.TheVariants as want
 use Rattle.locus_ids.specs.declared.refusal.Refusal.{Refusal}
 use Rattle.wire_messages.specs.declared.packet.Packet.{Packet}
 use Rattle.role_steps.specs.Tables.{with_row, first_that}
 use Rattle.role_steps.specs.Views.{Frame, Users, SiteView, Outcome, quiet}
-use Rattle.role_steps.specs.Requests.{descriptors_of, waiting_key, user_instance, with_user_instance, without_waiting, request_packets, asks, asks_op_of, asks_close_of}
-use Rattle.role_steps.specs.Using.{is_hopeless, without_hope, after_reply, holds_again, replies, asks_want, next_want, goes_on, frees, accepted, on_call, own_call}
+use Rattle.role_steps.specs.Requests.{waiting_key, user_instance, with_user_instance, without_waiting, request_packets, asks, asks_op_of, asks_close_of}
+use Rattle.role_steps.specs.Using.{is_hopeless, without_hope, after_reply, holds_again, replies, asks_want, next_want, goes_on, frees, on_call, counted_users, counted_call, accepted_call}
 use Rattle.role_steps.specs.Mends.{starts_mend_of, starts_mend, starts_mends_in, starts_mends, has_mend_in, wants_mend, row_file}
 use Rattle.role_steps.specs.declared.synchronizing.FileRow.{FileRow}
 use Rattle.role_steps.specs.declared.synchronizing.SyncTable.{SyncTable}
@@ -121,15 +120,15 @@ want_calls f w want.Never u y m = inl m
 pub goes_calls : (f : Frame) (w : WaitingCall) (u : Users) → CallsAsk f u.waiting (goes_on f w u).view.waiting (goes_on f w u).sent
 goes_calls f w u = want_calls f w (next_want f w u) u
 
-frees_waiting : (process : ℕ) (words : Call) (u : Users) → (frees process words u).waiting ≡ u.waiting
+pub frees_waiting : (process : ℕ) (words : Call) (u : Users) → (frees process words u).waiting ≡ u.waiting
 frees_waiting process (call.Close fd) u = refl
 frees_waiting process _ u = refl
 
 call_calls : (f : Frame) (now : Option EpochId) (process : ℕ) (words : Call) (u : Users) → CallsAsk f u.waiting (on_call f now process words u).view.waiting (on_call f now process words u).sent
-call_calls f now process words u y m = over (goes_calls f (accepted process (u.calls + 1) words (beginning (descriptors_of u process) now (own_call f.me f.boot (u.calls + 1)) words)) (frees process words (record u { calls = u.calls + 1 })) y m)
+call_calls f now process words u y m = over (goes_calls f (accepted_call f now process words u) (counted_call f now process words u) y m)
   where
-    over : Among y (frees process words (record u { calls = u.calls + 1 })).waiting ⊎ IsSent f y (on_call f now process words u).sent → Among y u.waiting ⊎ IsSent f y (on_call f now process words u).sent
-    over (inl k) = inl (subst (λ (xs : List WaitingCall). Among y xs) (frees_waiting process words (record u { calls = u.calls + 1 })) k)
+    over : Among y (counted_call f now process words u).waiting ⊎ IsSent f y (on_call f now process words u).sent → Among y u.waiting ⊎ IsSent f y (on_call f now process words u).sent
+    over (inl k) = inl (subst (λ (xs : List WaitingCall). Among y xs) (frees_waiting process words (counted_users f now process words u)) k)
     over (inr k) = inr k
 
 -- ---- mends that start ----

@@ -1,11 +1,14 @@
 -- Which kinds of packets carry which requests.
-use Rattle.std.proofs.Common.{ℕ, ◌⊎◌, Option, sym, ap, subst, inl, inr}
+use Rattle.std.proofs.Common.{ℕ, ◌⊎◌, List, Option, Some, sym, ap, subst, inl, inr}
 use Rattle.locus_ids.specs.declared.config.Config.{Config}
+use Rattle.trace_book.specs.declared.operation.Op.{Op}
+use Rattle.trace_book.specs.declared.operation.Op.TheVariants as op
 use Rattle.wire_messages.specs.declared.body.Body.{Body}
 use Rattle.wire_messages.specs.declared.body.Body.TheVariants as body
 use Rattle.wire_messages.specs.declared.body.MadeVersion.{MadeVersion}
 use Rattle.wire_messages.specs.declared.body.OpenedAs.{OpenedAs}
 use Rattle.wire_messages.specs.declared.packet.Packet.{Packet}
+use Rattle.role_steps.specs.Requests.{operation_body}
 use Rattle.role_steps.specs.declared.rounds.InEpoch.{InEpoch}
 use Rattle.role_steps.specs.declared.synchronizing.OpenRow.{OpenRow}
 use Rattle.role_steps.specs.declared.users.Asking.{Asking}
@@ -32,7 +35,9 @@ MayCarry (asking.Open serial file how) (body.OpenSs inst f mode set kind base ve
 MayCarry (asking.Open serial file how) (body.Opened inst answer) = Unit {0}
 MayCarry (asking.Open serial file how) (body.OpenDone number answer) = Unit {0}
 MayCarry (asking.Op serial ss n o seen) (body.Op number k what saw) = Unit {0}
+MayCarry (asking.Op serial ss n o seen) (body.ReadHeld number k at len) = Unit {0}
 MayCarry (asking.Op serial ss n o seen) (body.OpDone number k result) = Unit {0}
+MayCarry (asking.Op serial ss n o seen) (body.AsHeld number k len) = Unit {0}
 MayCarry (asking.Close serial ss) (body.Close number) = Unit {0}
 MayCarry (asking.Close serial ss) (body.Closed inst made) = Unit {0}
 MayCarry (asking.Close serial ss) (body.ClosedOk inst) = Unit {0}
@@ -63,9 +68,14 @@ carrier_kind c e at s x (asking.Open serial file how) p k = over k.2
     over (inr (inr h)) = is_kind (MayCarry (asking.Open serial file how)) c e k.0 s (body.OpenDone serial h.answer) p tt h.goes
 carrier_kind c e at s x (asking.Op serial ss n o seen) p k = over k
   where
-    over : CarriesOp c e s serial ss n o seen p → MayCarry (asking.Op serial ss n o seen) p.body
-    over (inl g) = is_kind (MayCarry (asking.Op serial ss n o seen)) c e s ss (body.Op serial n o seen) p tt g
-    over (inr h) = is_kind (MayCarry (asking.Op serial ss n o seen)) c e ss s (body.OpDone serial n h.result) p tt h.goes
+    asks : (copied : Option (List ℕ)) (what : Op) → MayCarry (asking.Op serial ss n o seen) (operation_body copied serial n what seen)
+    asks (Some bytes) (op.Read at len) = tt
+    asks copied what = tt
+
+    over : CarriesOp c e s serial ss n x.copied o seen p → MayCarry (asking.Op serial ss n o seen) p.body
+    over (inl g) = is_kind (MayCarry (asking.Op serial ss n o seen)) c e s ss (operation_body x.copied serial n o seen) p (asks x.copied o) g
+    over (inr (inl h)) = is_kind (MayCarry (asking.Op serial ss n o seen)) c e ss s (body.OpDone serial n h.result) p tt h.goes
+    over (inr (inr h)) = is_kind (MayCarry (asking.Op serial ss n o seen)) c e ss s (body.AsHeld serial n h.many) p tt h.goes
 carrier_kind c e at s x (asking.Close serial ss) p k = over k
   where
     way : (css : ℕ) → ((made : Option MadeVersion) × Goes c e ss css (body.Closed (own_serial s serial) made) p) ⊎ Goes c e css ss (body.ClosedOk (own_serial s serial)) p → MayCarry (asking.Close serial ss) p.body

@@ -13,7 +13,7 @@ use Rattle.wire_messages.specs.declared.body.CloseAnswer.TheVariants as closing
 use Rattle.wire_messages.specs.declared.body.MadeVersion.{MadeVersion}
 use Rattle.wire_messages.specs.declared.body.ReportedCopy.{ReportedCopy}
 use Rattle.wire_messages.specs.declared.packet.Packet.{Packet}
-use Rattle.role_steps.specs.Storage.{closes, closes_owing, commits, copy_made, copy_of, instance_committed, instance_key, instance_of, is_spent, made_version, next_stamp, next_vector, on_close, on_close_at, on_close_of, shut, shuts, shuts_again, shuts_with, with_copy, with_instance}
+use Rattle.role_steps.specs.Storage.{closes, closes_owing, commits, copy_of, instance_committed, instance_key, instance_of, is_spent, made_version, next_stamp, next_vector, on_close, on_close_at, on_close_of, shut, shuts, shuts_again, shuts_with, with_instance, with_commit}
 use Rattle.role_steps.specs.Tables.{row}
 use Rattle.role_steps.specs.Views.{Frame, Store, SiteView, Outcome, and_then, packet, quiet, serial_key, sync_site}
 use Rattle.role_steps.specs.declared.instances.Instance.{Instance}
@@ -136,7 +136,7 @@ module _ (c : Config) (e : InEpoch) (m : ℕ) where
   ]
     where
       copied : Store
-      copied = with_copy (copy_made i (next_vector f i) (next_stamp f (next_vector f i))) s
+      copied = with_commit i (next_vector f i) (next_stamp f (next_vector f i)) s
 
       kept : StoreHas (commits f i s).view inst
       kept = puts_unended copied (instance_committed i (next_vector f i) (next_stamp f (next_vector f i))) u inst (record { instance = h.instance; found = h.found; unended = h.unended })

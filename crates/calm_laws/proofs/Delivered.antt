@@ -84,6 +84,7 @@ stopped_running d v e = cc
 tries_quiet : (c : Config) (m : ℕ) (b : Body) (u : SiteView) → TriesNone b → tries_at c m b u ≡ quiet u
 tries_quiet c m (body.Notify file kind set size stamp vector holder) u h = absurd h
 tries_quiet c m (body.Page file stamp page bytes) u h = absurd h
+tries_quiet c m (body.Delta file wanted pages) u h = absurd h
 tries_quiet c m _ u h = refl
 
 pub takes_event : (c : Config) (lines : List ScheduleLine) (n : ℕ) (e : InEpoch) (x : Numbered) (w : World) (d : Delivery c lines n e x w) → FormsNone x.packet.body → TriesNone x.packet.body → LeavesSite d.view (handles c e x.packet.to x.packet d.view).view →

@@ -1,5 +1,5 @@
 -- The end of a calm round: nothing is under way between members any more, so no group waits for a report, and no call waits.
-use Rattle.std.proofs.Common.{◌≡◌, ℕ, ◌⊎◌, true, false, ◌&&◌, List, Some, sym, ◌∙◌, ap, inl, inr}
+use Rattle.std.proofs.Common.{◌≡◌, ℕ, ◌⊎◌, true, false, ◌&&◌, List, Option, Some, sym, ◌∙◌, ap, inl, inr}
 use Rattle.role_steps.proofs.of_plain_facts.Options.{some_same}
 use Rattle.role_steps.proofs.of_plain_facts.Tests.{both_true, true_false}
 use Rattle.locus_ids.specs.Sites.{has}
@@ -14,6 +14,7 @@ use Rattle.wire_messages.specs.declared.packet.Packet.{Packet}
 use Rattle.role_steps.specs.Adoption.{table_group}
 use Rattle.role_steps.specs.Epochs.{frame_in}
 use Rattle.role_steps.specs.Reports.{have_all_reported}
+use Rattle.role_steps.specs.Requests.{operation_body}
 use Rattle.role_steps.specs.Tables.{row}
 use Rattle.role_steps.specs.Views.{SiteView, all_sites, is_member, pack_sites, sync_site}
 use Rattle.role_steps.specs.declared.rounds.InEpoch.{InEpoch}
@@ -54,9 +55,10 @@ open_goes c e at s x serial file how css p (inr (inl k)) = by_way k.way
     by_way (inr g) = record { from = k.opened.ss; to = css; body = body.Opened (own_serial s serial) g.0; goes = g.1 }
 open_goes c e at s x serial file how css p (inr (inr k)) = record { from = css; to = s; body = body.OpenDone serial k.answer; goes = k.goes }
 
-op_goes : (c : Config) (e : InEpoch) (s serial ss n : ℕ) (o : Op) (seen : List ℕ) (p : Packet) → CarriesOp c e s serial ss n o seen p → Way c e p
-op_goes c e s serial ss n o seen p (inl g) = record { from = s; to = ss; body = body.Op serial n o seen; goes = g }
-op_goes c e s serial ss n o seen p (inr k) = record { from = ss; to = s; body = body.OpDone serial n k.result; goes = k.goes }
+op_goes : (c : Config) (e : InEpoch) (s serial ss n : ℕ) (copied : Option (List ℕ)) (o : Op) (seen : List ℕ) (p : Packet) → CarriesOp c e s serial ss n copied o seen p → Way c e p
+op_goes c e s serial ss n copied o seen p (inl g) = record { from = s; to = ss; body = operation_body copied serial n o seen; goes = g }
+op_goes c e s serial ss n copied o seen p (inr (inl k)) = record { from = ss; to = s; body = body.OpDone serial n k.result; goes = k.goes }
+op_goes c e s serial ss n copied o seen p (inr (inr k)) = record { from = ss; to = s; body = body.AsHeld serial n k.many; goes = k.goes }
 
 close_goes : (c : Config) (e : InEpoch) (at : Places) (s serial ss : ℕ) (p : Packet) → CarriesClose c e at s serial ss p → Way c e p
 close_goes c e at s serial ss p (inl g) = record { from = s; to = ss; body = body.Close serial; goes = g }
@@ -70,7 +72,7 @@ close_goes c e at s serial ss p (inr (inr k)) = record { from = ss; to = s; body
 pub carrier_goes : (c : Config) (e : InEpoch) (at : Places) (s : ℕ) (x : WaitingCall) (a : Asking) (p : Packet) → Carries c e at s x a p → Way c e p
 carrier_goes c e at s x (asking.Look file w take) p k = look_goes c e s x file w take k.0 p k.2
 carrier_goes c e at s x (asking.Open serial file how) p k = open_goes c e at s x serial file how k.0 p k.2
-carrier_goes c e at s x (asking.Op serial ss n o seen) p k = op_goes c e s serial ss n o seen p k
+carrier_goes c e at s x (asking.Op serial ss n o seen) p k = op_goes c e s serial ss n x.copied o seen p k
 carrier_goes c e at s x (asking.Close serial ss) p k = close_goes c e at s serial ss p k
 
 -- ---- what holds a request, and where ----

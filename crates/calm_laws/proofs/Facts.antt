@@ -1,5 +1,5 @@
 -- The one-tree invariant in each world of a round: what each site has and each packet carries is so by the trace.
-use Rattle.std.proofs.Common.{◌≡◌, ℕ, zero, suc, ◌+◌, ◌-◌, ◌≤◌, true, List, [], ◌∷◌, ◌++◌, length, take, Some, refl, sym, ◌∙◌, ap, subst, inl, inr, slice_index_or, arith}
+use Rattle.std.proofs.Common.{◌≡◌, ℕ, zero, suc, ◌+◌, ◌-◌, ◌≤◌, true, List, [], ◌∷◌, ◌++◌, length, take, refl, sym, ◌∙◌, ap, subst, inl, inr, slice_index_or, arith}
 use Rattle.std.proofs.lemmas.Bool.Decides.{nat_tests}
 use Rattle.locus_ids.specs.declared.config.Config.{Config}
 use Rattle.schedule_lines.specs.Ranges.{fits_event}
@@ -8,46 +8,33 @@ use Rattle.schedule_lines.specs.declared.line.Line.TheVariants as line
 use Rattle.schedule_lines.specs.declared.line.ScheduleLine.{ScheduleLine}
 use Rattle.schedule_lines.specs.declared.line.ScheduleLine.TheVariants.{Passed, Event as EventLine}
 use Rattle.trace_book.specs.declared.record.Record.TheVariants as says
-use Rattle.role_steps.specs.Views.{SiteView, Shown, Event, Receives, Ticks, all_sites}
+use Rattle.role_steps.specs.Views.{Shown, Ticks, all_sites}
 use Rattle.lawful_trace.specs.Places.{line_at, lines_before}
 use Rattle.the_run.specs.Runs.{delivers, ticks_to, run_in}
-use Rattle.the_run.specs.Steps.{step}
-use Rattle.the_run.specs.Worlds.{World, Running, Line, number_of, place_at, links_of, passed, acts}
-use Rattle.the_run.proofs.InsideSync.{every_without}
+use Rattle.the_run.specs.Worlds.{World, Line}
 use Rattle.orderly_traces.specs.of_row_laws.Voids.{LinesFit}
 use Rattle.orderly_laws.specs.Calm.{delivered}
 use Rattle.orderly_laws.proofs.Rounds.{RoundKept, ticks_kept}
-use Rattle.calm_sent_laws.specs.of_one_tree_laws.Places.{NumberedFact, WorldFact}
+use Rattle.calm_sent_laws.specs.of_one_tree_laws.Places.{WorldFact}
 use Rattle.calm_sent_laws.specs.of_one_tree_laws.Rest.{EachRest, IsRest}
-use Rattle.calm_sent_laws.specs.of_one_tree_laws.Roles.{EventFact, RolesDo}
-use Rattle.calm_sent_laws.proofs.of_one_tree_laws.Cuts.{step_writes}
-use Rattle.calm_sent_laws.proofs.of_one_tree_laws.Run.{run_holds}
-use Rattle.calm_sent_laws.proofs.of_one_tree_laws.Staying.{Stays, stays}
-use Rattle.calm_sent_laws.proofs.of_one_tree_laws.Steps.{step_fine}
-use Rattle.calm_sent_laws.proofs.of_one_tree_laws.Worlds.{Holds, acts_holds, says_holds}
+use Rattle.calm_sent_laws.specs.of_one_tree_laws.Roles.{RolesDo}
+use Rattle.calm_sent_laws.proofs.of_one_tree_laws.Run.{does, pass_holds, receives_holds, run_holds}
+use Rattle.calm_sent_laws.proofs.of_one_tree_laws.Staying.{stays}
+use Rattle.calm_sent_laws.proofs.of_one_tree_laws.Worlds.{Holds, says_holds}
 use Rattle.fit_laws.proofs.of_rest_laws.Resting.{run_low, run_rests}
 use Rattle.fit_laws.proofs.of_rest_laws.Roles.{roles_do}
 use Rattle.calm_laws.specs.Rounds.{IsInRound}
 use Rattle.calm_laws.proofs.Limits.{line_there, take_length, take_fit}
-use Rattle.calm_laws.proofs.Lists.{every_among}
 use Rattle.calm_laws.proofs.Moments.{GoesOn, goes_itself, goes_round_kept}
 use Rattle.calm_laws.proofs.Rounds.{delivered_kept, delivered_then}
 use Rattle.calm_laws.proofs.Twins.{EndsAs, delivers_as, with_round, round_run}
 
 -- ---- what a round keeps ----
 
-pass_holds : (c : Config) (k : ℕ) (w : World) → Holds c w → Holds c (passed k w)
-pass_holds c k w g = λ r. (let f : WorldFact c w = g r in record { followed = f.followed; places = f.places; sent = f.sent; underway = every_without (NumberedFact c w.trace) number_of k w.underway f.underway })
-
-does : (c : Config) → RolesDo c → Stays c → (n s : ℕ) (e : Event) (v : SiteView) (w : World) → place_at w s ≡ Some (Running v) → (IsRest c w.trace → EventFact c w.trace s v e) → Holds c w → Holds c (acts n s v (step c s (links_of w s) v e) w)
-does c roles stays n s e v w here fact g = acts_holds c roles stays n s v (step c s (links_of w s) v e) w here
-    (λ old r f. step_fine c roles stays n s (links_of w s) w.trace v e old (f.places s (Running v) here) (fact old.rest) r)
-    (λ old f. step_writes c roles n s (links_of w s) w.trace v e old (f.places s (Running v) here) (fact old.rest)) g
-
-holds_round : (c : Config) (n : ℕ) → RolesDo c → RoundKept c n (Holds c)
+pub holds_round : (c : Config) (n : ℕ) → RolesDo c → RoundKept c n (Holds c)
 holds_round c n roles = record {
-  ticks = λ s v w here g. does c roles (stays c) n s Ticks v w here (λ r. tt) g;
-  receives = λ x v w here a undropped g. does c roles (stays c) n x.packet.to (Receives x.packet) v (passed x.number w) here (λ r. (refl, every_among (NumberedFact c w.trace) x w.underway a (g r).underway)) (pass_holds c x.number w g);
+  ticks = λ s v w here g. does c roles (stays c) n s Ticks v w here (λ r. tt) (λ r. tt) g;
+  receives = λ x v w here a undropped g. receives_holds c roles (stays c) n x v w here (inr a) g;
   drops = λ x w a dropped g. pass_holds c x.number w g;
   budgets = λ w g. says_holds c roles (stays c) n (Shown says.Budget ∷ []) w (tt, tt) g;
 }

@@ -43,6 +43,7 @@ pub mod Opened
 pub mod Closed
 pub mod LookRequests
 pub mod Asked
+pub mod HeldOperation
 pub mod Operation
 pub mod TableThere
 pub mod Sorts

@@ -19,7 +19,7 @@ use Rattle.role_steps.specs.Epochs.{frame_in}
 use Rattle.role_steps.specs.Tables.{first_that}
 use Rattle.role_steps.specs.Mends.{kept_stamps}
 use Rattle.role_steps.specs.Requests.{with_user_instance}
-use Rattle.role_steps.specs.Using.{asks_open_of, opened_answer, kept_for, mended_file, takes_open, on_open_done, on_open_done_of}
+use Rattle.role_steps.specs.Using.{asks_open_of, opened_answer, kept_for, mended_file, takes_open, version_read, on_open_done, on_open_done_of}
 use Rattle.role_steps.specs.Views.{Frame, Users, SiteView}
 use Rattle.role_steps.specs.declared.rounds.InEpoch.{InEpoch}
 use Rattle.role_steps.specs.declared.users.Asking.{Asking}
@@ -86,7 +86,7 @@ asked c e at s y p (asking.Close serial ss) is kind k = absurd (only_opens (aski
 -- ---- the handler ----
 
 taken_calls : (f : Frame) (kept : FileId → List Stamp) (serial : ℕ) (w : WaitingCall) (r : Granted) (u : Users) → CallsAsk f u.waiting (takes_open f kept serial w r u).view.waiting (takes_open f kept serial w r u).sent
-taken_calls f kept serial w (granted.Open ss ino size stamp vector) u y a = answer_calls f w (opened_answer f serial ino stamp (kept_for kept (mended_file w.words)) w.words w.asking) (with_user_instance (record { serial = serial; ss = ss; vector = vector; ops = 0 }) u) y a
+taken_calls f kept serial w (granted.Open ss ino size stamp vector) u y a = answer_calls f w (opened_answer f serial ino stamp (kept_for kept (mended_file w.words)) w.words w.asking) (with_user_instance (record { serial = serial; ss = ss; vector = vector; ops = 0; reads = version_read size stamp w.asking }) u) y a
 taken_calls f kept serial w (granted.No why) u y a = answer_calls f w (answer.Refused why) u y a
 
 done_calls : (f : Frame) (kept : FileId → List Stamp) (serial : ℕ) (r : Granted) (o : Option WaitingCall) (u : Users) → CallsAsk f u.waiting (on_open_done_of f kept serial r o u).view.waiting (on_open_done_of f kept serial r o u).sent

@@ -17,6 +17,7 @@ use Rattle.trace_book.specs.declared.operation.Outcome.{Outcome as Result}
 use Rattle.trace_book.specs.declared.operation.Outcome.TheVariants as result
 use Rattle.trace_book.specs.declared.record.Record.TheVariants as says
 use Rattle.call_rules.specs.declared.want.Want.TheVariants as want
+use Rattle.dir_reconcile.specs.of_dir_format.Entries.{nothing_seen}
 use Rattle.file_effects.specs.Effects.{Effect}
 use Rattle.file_effects.specs.Works.{aborted, counted, operated, result_in}
 use Rattle.file_effects.specs.declared.work.Work.{Work}
@@ -26,8 +27,8 @@ use Rattle.wire_messages.specs.declared.body.ReportedCopy.{ReportedCopy}
 use Rattle.wire_messages.specs.declared.packet.Packet.{Packet}
 use Rattle.role_steps.specs.Mends.{mending}
 use Rattle.role_steps.specs.OperationEffects.{Mending, effect_of}
-use Rattle.role_steps.specs.Operations.{acts, acts_committed, by_number, commit_op, commits_owing, executes, executes_effect, last_committed, on_op, on_op_at, on_op_of, op_again}
-use Rattle.role_steps.specs.Storage.{commits, content_of, copy_made, copy_of, free_pages, instance_committed, instance_key, instance_of, is_spent, next_stamp, next_vector, with_copy}
+use Rattle.role_steps.specs.Operations.{acts, acts_committed, by_number, commit_op, commits_owing, executes, executes_effect, last_committed, nothing_to_mend, on_op, on_op_at, on_op_of, on_read_held, op_again}
+use Rattle.role_steps.specs.Storage.{commits, content_of, copy_of, free_pages, instance_committed, instance_key, instance_of, is_spent, next_stamp, next_vector, with_commit}
 use Rattle.role_steps.specs.Using.{answers_op, close_answer}
 use Rattle.role_steps.specs.Views.{Frame, Store, SiteView, Told, Shown, Outcome, and_then, packet, quiet, serial_key}
 use Rattle.role_steps.specs.declared.instances.Instance.{Instance}
@@ -47,11 +48,11 @@ use Rattle.tree_laws.specs.Packets.{OpFact, OpsNow, PacketFact, serial_of}
 use Rattle.tree_laws.specs.Past.{ActRecord, EndRecord, Printed, WasBegun, WasDone, WasNamed, WasReleased, WasReleasedWith}
 use Rattle.calm_sent_laws.specs.of_one_tree_laws.Places.{InsideFact}
 use Rattle.calm_sent_laws.specs.of_one_tree_laws.Rest.{Past}
-use Rattle.calm_laws.specs.Carrying.{frame_of, Goes, IsUnended, own_serial, CarriesOp, Carries, IsMember}
+use Rattle.calm_laws.specs.Carrying.{frame_of, Goes, IsUnended, own_serial, AnswersHeld, AnswersOp, CarriesOp, Carries, IsMember}
 use Rattle.calm_laws.specs.Rounds.{CarriesOn, IsOp, IsInRound}
 use Rattle.role_steps.specs.Own.{Every}
 use Rattle.role_steps.specs.Reports.{stamp_made}
-use Rattle.role_steps.specs.Requests.{request_packets}
+use Rattle.role_steps.specs.Requests.{operation_body, request_packets}
 use Rattle.tree_model.specs.declared.accepted.Waiting.{Waiting}
 use Rattle.tree_model.specs.declared.instance.Instance.{Instance as Open}
 use Rattle.tree_model.specs.Calls.{granted_to}
@@ -90,6 +91,7 @@ use Rattle.calm_laws.proofs.CloseAgreed.{member_low, past_of, same_instance}
 use Rattle.calm_laws.proofs.Delivered.{inside_fact}
 use Rattle.calm_laws.proofs.Facts.{RoundFacts, round_facts}
 use Rattle.calm_laws.proofs.Handing.{StillWaits}
+use Rattle.calm_laws.proofs.HeldOperation.{FormsAnswer, InForm, IsDoneSent, form_view, held_answer}
 use Rattle.calm_laws.proofs.Lists.{every_among}
 use Rattle.calm_laws.proofs.OpenAtStorage.{release_of}
 use Rattle.calm_laws.proofs.Rows.{AllGoToMembers, TriesNone}
@@ -130,7 +132,7 @@ module _ (f : Frame) where
       j = instance_committed i (next_vector f i) (next_stamp f (next_vector f i))
 
       copied : Store
-      copied = with_copy (copy_made i (next_vector f i) (next_stamp f (next_vector f i))) s
+      copied = with_commit i (next_vector f i) (next_stamp f (next_vector f i)) s
 
       kept : StoreHas (commits f i s).view inst
       kept = puts_unended copied j u inst (record { instance = h.instance; found = h.found; unended = h.unended })
@@ -168,6 +170,10 @@ module _ (f : Frame) where
       over : (z : Option Instance) → StoreHas (on_op_of f m z n o seen s).view inst
       over None = h
       over (Some i) = at_stay m i i.stage n o seen s inst refl h
+
+-- a read whose asker has the bytes leaves the instances too
+held_stay : (f : Frame) (named : Serial) (n at len : ℕ) (s : Store) (inst : Serial) → StoreHas s inst → StoreHas (on_read_held f named n at len s).view inst
+held_stay f named n at len s inst h = subst (λ (t : Store). StoreHas t inst) (sym (form_view (instance_of s named) (on_op f nothing_to_mend named n (op.Read at len) nothing_seen s))) (operations_stay f nothing_to_mend named n (op.Read at len) nothing_seen s inst h)
 
 -- ---- what a call asks an operation of isn't released ----
 
@@ -256,9 +262,6 @@ counted_now c t f y serial n o h frame fact asked count x found low = over (oper
 next_number : (a b : ℕ) → a ≡ b + 1 → ((a == b) ≡ false) × ((a == b + 1) ≡ true)
 next_number a b e = (grind (arith, nat_tests), grind (arith, nat_tests))
 
-abbrev IsDoneSent : Config → InEpoch → ℕ → Serial → ℕ → Op → Outcome Store → Type 0
-IsDoneSent c e m inst n o out = (r : Result) × Among (packet (frame_of c e m) inst.us (body.OpDone inst.serial n r)) out.sent × (answers_op o r ≡ true)
-
 -- the last one is answered again
 again_sent : (c : Config) (w : World) (e : InEpoch) → OperationsAreDone c e w → Past c w.trace → (m : ℕ) (i : Instance) (n : ℕ) (o : Op) (was : Result) (s : Store) → WasDone w.trace e.id i.inst n o was → n ≡ i.work.ops → (k : Option Result) → AnsweredFact w.trace (frame_of c e m) i k →
     IsDoneSent c e m i.inst n o (record { view = s; sent = op_again (frame_of c e m) i n k; told = []; written = None })
@@ -267,17 +270,21 @@ again_sent c w e left past m i n o was s done last (Some r) fact = (r, inl refl,
 
 -- ---- which calls it carries ----
 
-asks_op : (c : Config) (e : InEpoch) (s serial ss n : ℕ) (o : Op) (seen : List ℕ) (p : Packet) → IsOp p.body → CarriesOp c e s serial ss n o seen p → Goes c e s ss (body.Op serial n o seen) p
-asks_op c e s serial ss n o seen p k (inl g) = g
-asks_op c e s serial ss n o seen p k (inr h) = absurd (of_kind IsOp c e ss s (body.OpDone serial n h.result) p k h.goes)
+asks_op : (c : Config) (e : InEpoch) (s serial ss n : ℕ) (copied : Option (List ℕ)) (o : Op) (seen : List ℕ) (p : Packet) → IsOp p.body → CarriesOp c e s serial ss n copied o seen p → Goes c e s ss (operation_body copied serial n o seen) p
+asks_op c e s serial ss n copied o seen p k (inl g) = g
+asks_op c e s serial ss n copied o seen p k (inr (inl h)) = absurd (of_kind IsOp c e ss s (body.OpDone serial n h.result) p k h.goes)
+asks_op c e s serial ss n copied o seen p k (inr (inr h)) = absurd (of_kind IsOp c e ss s (body.AsHeld serial n h.many) p k h.goes)
 
 other_kind : (a : Asking) (b : Body) → IsOp b → ((serial ss n : ℕ) (o : Op) (seen : List ℕ) → a ≡ asking.Op serial ss n o seen → ⊥) → MayCarry a b → ⊥
 other_kind (asking.Op serial ss n o seen) b k not j = not serial ss n o seen refl
 other_kind (asking.Look file what take) (body.Op serial n o seen) k not j = j
+other_kind (asking.Look file what take) (body.ReadHeld serial n at len) k not j = j
 other_kind (asking.Look file what take) _ k not j = k
 other_kind (asking.Open serial file how) (body.Op number n o seen) k not j = j
+other_kind (asking.Open serial file how) (body.ReadHeld number n at len) k not j = j
 other_kind (asking.Open serial file how) _ k not j = k
 other_kind (asking.Close serial ss) (body.Op number n o seen) k not j = j
+other_kind (asking.Close serial ss) (body.ReadHeld number n at len) k not j = j
 other_kind (asking.Close serial ss) _ k not j = k
 
 look_op : (file : _) (what : _) (take serial ss n : ℕ) (o : Op) (seen : List ℕ) → asking.Look file what take ≡ asking.Op serial ss n o seen → ⊥
@@ -293,14 +300,17 @@ close_op serial place number ss n o seen e = cc
 
 abbrev on_asked : Frame → ℕ → Body → SiteView → Store → Outcome Store
 on_asked f from (body.Op serial n o seen) v s = on_op f (mending v (group_of (instance_of v.store (from_user from serial)))) (from_user from serial) n o seen s
+on_asked f from (body.ReadHeld serial n at len) v s = on_read_held f (from_user from serial) n at len s
 on_asked f from _ v s = quiet s
 
 handler_is : (f : Frame) (from : ℕ) (b : Body) (v : SiteView) → IsOp b → takes_inside f from b v ≡ at_store (on_asked f from b v) v
 handler_is f from (body.Op serial n o seen) v k = refl
+handler_is f from (body.ReadHeld serial n at len) v k = refl
 handler_is f from _ v k = absurd k
 
 forms : (b : Body) → IsOp b → FormsNone b × TriesNone b
 forms (body.Op serial n o seen) k = (tt, tt)
+forms (body.ReadHeld serial n at len) k = (tt, tt)
 forms _ k = absurd k
 
 no_report : (c : Config) (e : InEpoch) (p : Packet) → IsOp p.body → (from to group : ℕ) (copies : List ReportedCopy) → Goes c e from to (body.Report group copies) p → ⊥
@@ -332,20 +342,17 @@ operation_row c members left lines n e x w d kind old =
 
     go_on : (b : Body) → IsOp b → InstancesGoOn c e m d.view.store (on_asked f x.packet.from b d.view d.view.store)
     go_on (body.Op serial number o seen) k inst member h = inl (operations_stay f (mending d.view (group_of (instance_of d.view.store (from_user x.packet.from serial)))) (from_user x.packet.from serial) number o seen d.view.store inst h)
+    go_on (body.ReadHeld serial number at len) k inst member h = inl (held_stay f (from_user x.packet.from serial) number at len d.view.store inst h)
     go_on _ k inst member h = absurd k
 
     takes : (now : Places) (s : ℕ) (y : WaitingCall) → StillWaits e (place_at w) now s y → (a : Asking) → y.asking ≡ a → Carries c e (place_at w) s y a x.packet → (q : Packet) × Among q (on_asked f x.packet.from x.packet.body d.view d.view.store).sent × Carries c e now s y a q
-    takes now s y k (asking.Op serial ss number o seen) is h = (
-      packet f s (body.OpDone serial number sent.0),
-      subst (λ (out : Outcome Store). Among (packet f s (body.OpDone serial number sent.0)) out.sent) (sym (ap (λ (p : Packet). on_asked f p.from p.body d.view d.view.store) g.is)) sent.1,
-      inr (record { result = sent.0; fits = sent.2; goes = subst (λ (z : ℕ). Goes c e z s (body.OpDone serial number sent.0) (packet f s (body.OpDone serial number sent.0))) same (record { sender = d.member; receiver = k.member; is = refl }) }),
-    )
+    takes now s y k (asking.Op serial ss number o seen) is h = by_copied y.copied o refl refl g (subst (λ (a : Asking). Every (PacketFact c w.trace) (request_packets (frame_of c e s) y a)) is fact.sent).0
       where
         inst : Serial
         inst = own_serial s serial
 
-        g : Goes c e s ss (body.Op serial number o seen) x.packet
-        g = asks_op c e s serial ss number o seen x.packet kind h
+        g : Goes c e s ss (operation_body y.copied serial number o seen) x.packet
+        g = asks_op c e s serial ss number y.copied o seen x.packet kind h
 
         same : m ≡ ss
         same = ap (λ (q : Packet). q.to) g.is
@@ -371,9 +378,6 @@ operation_row c members left lines n e x w d kind old =
         count : number ≡ ops_asked c w.trace inst
         count = op_number c w.trace (frame_of c e s) y serial ss number o seen fact is
 
-        stands : OpFact c w.trace e.id m inst number o seen
-        stands = subst (λ (z : ℕ). OpFact c w.trace e.id z inst number o seen) (sym same) (subst (λ (a : Asking). Every (PacketFact c w.trace) (request_packets (frame_of c e s) y a)) is fact.sent).0
-
         begun : (file : FileId) × WasBegun w.trace m e.id inst file
         begun = subst (λ (z : ℕ). (file : FileId) × WasBegun w.trace z e.id inst file) (sym same)
             (asked_here c w.trace past e.id s serial ss low (subst (λ (z : Asking). AskedBegun w.trace e.id s z) is (round_begun c lines n w d.round s user.view e y user.here user.epoch there)))
@@ -396,57 +400,93 @@ operation_row c members left lines n e x w d kind old =
         unreleased_now : WasReleased w.trace e.id i.inst → ⊥
         unreleased_now was = asked_unreleased c w.trace past.followed e.id (own_call s (frame_of c e s).boot y.call) inst o uses.inside asked (subst (WasReleased w.trace e.id) name was)
 
-        named : WasNamed w.trace e.id i.inst
-        named = subst (WasNamed w.trace e.id) (sym name) (over stands)
+        -- the operation is done, or was done, and its answer is sent
+        sent_of : (saw : List ℕ) → OpFact c w.trace e.id m inst number o saw → IsDoneSent c e m inst number o (on_op f (mending d.view (group_of (instance_of d.view.store inst))) inst number o saw d.view.store)
+        sent_of saw stands = subst (λ (z : Option Instance). IsDoneSent c e m inst number o (on_op_of f (mending d.view (group_of z)) z number o saw d.view.store)) (sym found.1)
+            (subst (λ (z : Stage). IsDoneSent c e m inst number o (on_op_at f (mending d.view i.file.group) i z number o saw d.view.store)) (sym running.0)
+            (subst (λ (t : Serial). IsDoneSent c e m t number o (by_number f (mending d.view i.file.group) i number o saw d.view.store)) name (by_fact stands)))
           where
-            over : OpFact c w.trace e.id m inst number o seen → WasNamed w.trace e.id inst
-            over (inl q) = done_named c w.trace past.followed e.id inst number o q.0 q.1
-            over (inr q) = open_named c w.trace e.id inst q.at q.open_at.found
+            named : WasNamed w.trace e.id i.inst
+            named = subst (WasNamed w.trace e.id) (sym name) (over stands)
+              where
+                over : OpFact c w.trace e.id m inst number o saw → WasNamed w.trace e.id inst
+                over (inl q) = done_named c w.trace past.followed e.id inst number o q.0 q.1
+                over (inr q) = open_named c w.trace e.id inst q.at q.open_at.found
 
-        runs : (z : Stage) → i.stage ≡ z → stores.StageFact c w.trace f i z → (i.stage ≡ stage.Running) × ((j : Open) × WorksAs c w.trace f i j)
-        runs stage.Running q z = (q, works z.0)
+            runs : (z : Stage) → i.stage ≡ z → stores.StageFact c w.trace f i z → (i.stage ≡ stage.Running) × ((j : Open) × WorksAs c w.trace f i j)
+            runs stage.Running q z = (q, works z.0)
+              where
+                works : RunsAs c w.trace f i → (j : Open) × WorksAs c w.trace f i j
+                works (inl j) = j
+                works (inr j) = absurd (j.unnamed named)
+            runs (stage.Closing made a) q z = absurd (over z.0.ends)
+              where
+                over : WasReleasedWith c w.trace e.id i.inst (stamp_made made) (close_answer a) ⊎ EndsAs c w.trace f i made a → ⊥
+                over (inl j) = unreleased_now (release_of c w.trace e.id i.inst (stamp_made made) (close_answer a) j)
+                over (inr j) = do_close inst i.inst o (sym asked ∙ (ap (asked_now c w.trace) (one_has c w.trace e.id inst (own_call s (frame_of c e s).boot y.call) j.now.closes.call past.followed uses.inside j.now.closes.inside uses.asks
+                    (asking_now c w.trace j.now.closes.call (want.Close i.inst) j.now.closes.asks) uses.has (subst (λ (t : Serial). has_instances c w.trace j.now.closes.call t ≡ true) name (close_had c w.trace j.now.closes.call i.inst past.followed (j.now.closes.inside.accepted, j.now.closes.inside.named) j.now.closes.asks.asked))) ∙ j.now.closes.asks.asked))
+            runs (stage.Closed a) q z = absurd (unreleased_now (release_of c w.trace e.id i.inst z.0.0 (close_answer a) z.0.1))
+
+            running : (i.stage ≡ stage.Running) × ((j : Open) × WorksAs c w.trace f i j)
+            running = runs i.stage refl known.0.stage
+
+            j : Open
+            j = running.1.0
+
+            at_now : instance_now c w.trace e.id inst ≡ Some j
+            at_now = subst (λ (t : Serial). instance_now c w.trace e.id t ≡ Some j) name running.1.1.open_at.found
+
+            ops_are : j.work.ops ≡ i.work.ops
+            ops_are = ap (λ (z : Work). z.ops) running.1.1.work_is
+
+            by_fact : OpFact c w.trace e.id m inst number o saw → IsDoneSent c e m i.inst number o (by_number f (mending d.view i.file.group) i number o saw d.view.store)
+            by_fact (inl q) = subst (λ (b : Bool). IsDoneSent c e m i.inst number o (elim b as (λ (z : Bool). Outcome Store) [ true ↦ record { view = d.view.store; sent = op_again f i number i.answered; told = []; written = None } | false ↦ elim (number == i.work.ops + 1) as (λ (z : Bool). Outcome Store) [ true ↦ executes f (mending d.view i.file.group) i o saw d.view.store | false ↦ quiet d.view.store ] ]))
+                (sym (equal_test number i.work.ops last)) (again_sent c w e (left lines n e w d.round d.before) past m i number o q.0 d.view.store (subst (λ (t : Serial). WasDone w.trace e.id t number o q.0) (sym name) q.1) last i.answered known.0.answered)
+              where
+                last : number ≡ i.work.ops
+                last = counted_now c w.trace (frame_of c e s) y serial number o past.followed theirs.frame fact asked count j at_now (done_low c w.trace past.followed e.id inst number o q.0 j q.1 at_now) ∙ ops_are
+            by_fact (inr q) = subst (λ (b : Bool). IsDoneSent c e m i.inst number o (elim b as (λ (z : Bool). Outcome Store) [ true ↦ record { view = d.view.store; sent = op_again f i number i.answered; told = []; written = None } | false ↦ elim (number == i.work.ops + 1) as (λ (z : Bool). Outcome Store) [ true ↦ executes f (mending d.view i.file.group) i o saw d.view.store | false ↦ quiet d.view.store ] ]))
+                (sym (next_number number i.work.ops next).0)
+                (subst (λ (b : Bool). IsDoneSent c e m i.inst number o (elim b as (λ (z : Bool). Outcome Store) [ true ↦ executes f (mending d.view i.file.group) i o saw d.view.store | false ↦ quiet d.view.store ])) (sym (next_number number i.work.ops next).1)
+                ((left lines n e w d.round d.before).done m d.view d.member d.here i (subst (λ (t : Serial). instance_of d.view.store t ≡ Some i) (sym name) found.1) running.0 number o saw (subst (λ (t : Serial). OpsNow c w.trace e.id m t number o saw) (sym name) q) next))
+              where
+                next : number ≡ i.work.ops + 1
+                next = q.next ∙ ap (λ (k : ℕ). k + 1) (ap (λ (z : Open). z.work.ops) (some_same q.at j (sym q.open_at.found ∙ at_now)) ∙ ops_are)
+
+        Answered : Type 0
+        Answered = (q : Packet) × Among q (on_asked f x.packet.from x.packet.body d.view d.view.store).sent × Carries c e now s y (asking.Op serial ss number o seen) q
+
+        -- it is the handler's, by the packet that came
+        came : (b : Body) → x.packet ≡ packet (frame_of c e s) ss b → (q : Packet) → Among q (on_asked f s b d.view d.view.store).sent → Among q (on_asked f x.packet.from x.packet.body d.view d.view.store).sent
+        came b eq q a = subst (λ (out : Outcome Store). Among q out.sent) (sym (ap (λ (p : Packet). on_asked f p.from p.body d.view d.view.store) eq)) a
+
+        in_full : Goes c e s ss (body.Op serial number o seen) x.packet → OpFact c w.trace e.id ss inst number o seen → Answered
+        in_full goes fits = (
+          packet f s (body.OpDone serial number sent.0),
+          came (body.Op serial number o seen) goes.is (packet f s (body.OpDone serial number sent.0)) sent.1,
+          inr (inl (record { result = sent.0; fits = sent.2; goes = subst (λ (z : ℕ). Goes c e z s (body.OpDone serial number sent.0) (packet f s (body.OpDone serial number sent.0))) same (record { sender = d.member; receiver = k.member; is = refl }) })),
+        )
           where
-            works : RunsAs c w.trace f i → (j : Open) × WorksAs c w.trace f i j
-            works (inl j) = j
-            works (inr j) = absurd (j.unnamed named)
-        runs (stage.Closing made a) q z = absurd (over z.0.ends)
+            sent : IsDoneSent c e m inst number o (on_asked f s (body.Op serial number o seen) d.view d.view.store)
+            sent = sent_of seen (subst (λ (z : ℕ). OpFact c w.trace e.id z inst number o seen) (sym same) fits)
+
+        as_held : (bytes : List ℕ) (at len : ℕ) → y.copied ≡ Some bytes → o ≡ op.Read at len → Goes c e s ss (body.ReadHeld serial number at len) x.packet → OpFact c w.trace e.id ss inst number (op.Read at len) nothing_seen → Answered
+        as_held bytes at len has reads goes fits = (q.0, came (body.ReadHeld serial number at len) goes.is q.0 q.1, inr (over q.2))
           where
-            over : WasReleasedWith c w.trace e.id i.inst (stamp_made made) (close_answer a) ⊎ EndsAs c w.trace f i made a → ⊥
-            over (inl j) = unreleased_now (release_of c w.trace e.id i.inst (stamp_made made) (close_answer a) j)
-            over (inr j) = do_close inst i.inst o (sym asked ∙ (ap (asked_now c w.trace) (one_has c w.trace e.id inst (own_call s (frame_of c e s).boot y.call) j.now.closes.call past.followed uses.inside j.now.closes.inside uses.asks
-                (asking_now c w.trace j.now.closes.call (want.Close i.inst) j.now.closes.asks) uses.has (subst (λ (t : Serial). has_instances c w.trace j.now.closes.call t ≡ true) name (close_had c w.trace j.now.closes.call i.inst past.followed (j.now.closes.inside.accepted, j.now.closes.inside.named) j.now.closes.asks.asked))) ∙ j.now.closes.asks.asked))
-        runs (stage.Closed a) q z = absurd (unreleased_now (release_of c w.trace e.id i.inst z.0.0 (close_answer a) z.0.1))
+            done : IsDoneSent c e m inst number (op.Read at len) (on_op f (mending d.view (group_of (instance_of d.view.store inst))) inst number (op.Read at len) nothing_seen d.view.store)
+            done = subst (λ (z : Op). IsDoneSent c e m inst number z (on_op f (mending d.view (group_of (instance_of d.view.store inst))) inst number z nothing_seen d.view.store)) reads
+                (sent_of nothing_seen (subst (λ (z : ℕ). OpFact c w.trace e.id z inst number o nothing_seen) (sym same) (subst (λ (z : Op). OpFact c w.trace e.id ss inst number z nothing_seen) (sym reads) fits)))
 
-        running : (i.stage ≡ stage.Running) × ((j : Open) × WorksAs c w.trace f i j)
-        running = runs i.stage refl known.0.stage
+            q : FormsAnswer c e m inst number at len (on_read_held f inst number at len d.view.store)
+            q = held_answer c e m inst number at len (mending d.view (group_of (instance_of d.view.store inst))) d.view.store done
 
-        j : Open
-        j = running.1.0
+            over : InForm c e m inst number at len q.0 → AnswersOp c e s serial ss number o q.0 ⊎ AnswersHeld c e s serial ss number y.copied o q.0
+            over (inl r) = inl (record { result = r.0; fits = subst (λ (z : Op). answers_op z r.0 ≡ true) (sym reads) r.1; goes = subst (λ (z : ℕ). Goes c e z s (body.OpDone serial number r.0) q.0) same (record { sender = d.member; receiver = k.member; is = r.2 }) })
+            over (inr r) = inr (record { bytes = bytes; has = has; at = at; len = len; is_read = reads; many = r.0; goes = subst (λ (z : ℕ). Goes c e z s (body.AsHeld serial number r.0) q.0) same (record { sender = d.member; receiver = k.member; is = r.1 }) })
 
-        at_now : instance_now c w.trace e.id inst ≡ Some j
-        at_now = subst (λ (t : Serial). instance_now c w.trace e.id t ≡ Some j) name running.1.1.open_at.found
-
-        ops_are : j.work.ops ≡ i.work.ops
-        ops_are = ap (λ (z : Work). z.ops) running.1.1.work_is
-
-        by_fact : OpFact c w.trace e.id m inst number o seen → IsDoneSent c e m i.inst number o (by_number f (mending d.view i.file.group) i number o seen d.view.store)
-        by_fact (inl q) = subst (λ (b : Bool). IsDoneSent c e m i.inst number o (elim b as (λ (z : Bool). Outcome Store) [ true ↦ record { view = d.view.store; sent = op_again f i number i.answered; told = []; written = None } | false ↦ elim (number == i.work.ops + 1) as (λ (z : Bool). Outcome Store) [ true ↦ executes f (mending d.view i.file.group) i o seen d.view.store | false ↦ quiet d.view.store ] ]))
-            (sym (equal_test number i.work.ops last)) (again_sent c w e (left lines n e w d.round d.before) past m i number o q.0 d.view.store (subst (λ (t : Serial). WasDone w.trace e.id t number o q.0) (sym name) q.1) last i.answered known.0.answered)
-          where
-            last : number ≡ i.work.ops
-            last = counted_now c w.trace (frame_of c e s) y serial number o past.followed theirs.frame fact asked count j at_now (done_low c w.trace past.followed e.id inst number o q.0 j q.1 at_now) ∙ ops_are
-        by_fact (inr q) = subst (λ (b : Bool). IsDoneSent c e m i.inst number o (elim b as (λ (z : Bool). Outcome Store) [ true ↦ record { view = d.view.store; sent = op_again f i number i.answered; told = []; written = None } | false ↦ elim (number == i.work.ops + 1) as (λ (z : Bool). Outcome Store) [ true ↦ executes f (mending d.view i.file.group) i o seen d.view.store | false ↦ quiet d.view.store ] ]))
-            (sym (next_number number i.work.ops next).0)
-            (subst (λ (b : Bool). IsDoneSent c e m i.inst number o (elim b as (λ (z : Bool). Outcome Store) [ true ↦ executes f (mending d.view i.file.group) i o seen d.view.store | false ↦ quiet d.view.store ])) (sym (next_number number i.work.ops next).1)
-            ((left lines n e w d.round d.before).done m d.view d.member d.here i (subst (λ (t : Serial). instance_of d.view.store t ≡ Some i) (sym name) found.1) running.0 number o seen (subst (λ (t : Serial). OpsNow c w.trace e.id m t number o seen) (sym name) q) next))
-          where
-            next : number ≡ i.work.ops + 1
-            next = q.next ∙ ap (λ (k : ℕ). k + 1) (ap (λ (z : Open). z.work.ops) (some_same q.at j (sym q.open_at.found ∙ at_now)) ∙ ops_are)
-
-        sent : IsDoneSent c e m inst number o (on_asked f s (body.Op serial number o seen) d.view d.view.store)
-        sent = subst (λ (z : Option Instance). IsDoneSent c e m inst number o (on_op_of f (mending d.view (group_of z)) z number o seen d.view.store)) (sym found.1)
-            (subst (λ (z : Stage). IsDoneSent c e m inst number o (on_op_at f (mending d.view i.file.group) i z number o seen d.view.store)) (sym running.0)
-            (subst (λ (t : Serial). IsDoneSent c e m t number o (by_number f (mending d.view i.file.group) i number o seen d.view.store)) name (by_fact stands)))
+        by_copied : (copied : Option (List ℕ)) (what : Op) → y.copied ≡ copied → o ≡ what → Goes c e s ss (operation_body copied serial number what seen) x.packet → PacketFact c w.trace (packet (frame_of c e s) ss (operation_body copied serial number what seen)) → Answered
+        by_copied (Some bytes) (op.Read at len) has reads goes fits = as_held bytes at len has reads goes fits
+        by_copied copied what has reads goes fits = in_full (subst (λ (z : Op). Goes c e s ss (body.Op serial number z seen) x.packet) (sym reads) goes) (subst (λ (z : Op). OpFact c w.trace e.id ss inst number z seen) (sym reads) fits)
     takes now s y k (asking.Look file what take) is h = absurd (other_kind (asking.Look file what take) x.packet.body kind (λ serial ss number o seen. look_op file what take serial ss number o seen) (carrier_kind c e (place_at w) s y (asking.Look file what take) x.packet h))
     takes now s y k (asking.Open serial file how) is h = absurd (other_kind (asking.Open serial file how) x.packet.body kind (λ number ss t o seen. open_op serial file how number ss t o seen) (carrier_kind c e (place_at w) s y (asking.Open serial file how) x.packet h))
     takes now s y k (asking.Close serial ss) is h = absurd (other_kind (asking.Close serial ss) x.packet.body kind (λ number place t o seen. close_op serial ss number place t o seen) (carrier_kind c e (place_at w) s y (asking.Close serial ss) x.packet h))

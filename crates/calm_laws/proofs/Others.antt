@@ -13,10 +13,10 @@ use Rattle.locus_ids.specs.declared.sites.Members.{Members}
 use Rattle.wire_messages.specs.declared.packet.Packet.{Packet}
 use Rattle.locus_ids.specs.declared.sites.Sites.{Sites}
 use Rattle.trace_book.specs.Same.{same_epoch}
-use Rattle.role_steps.specs.Adoption.{table_group, is_ready, is_above_own, adopts_first, adopts_pull, notes_own_at, without_pull, with_store, copy_adopted}
+use Rattle.role_steps.specs.Adoption.{table_group, is_ready, adopts_first, adopts_pull, notes_own_at, without_pull, with_adopted, fits_own}
 use Rattle.role_steps.specs.Epochs.{frame_in, is_epoch_below, promises, reached, promise_packet, refuse_packet, on_poll, on_promise_of, on_refuse_of, may_install, joins, joined_packet, on_install, on_joined, is_in, passes_over_of}
 use Rattle.role_steps.specs.Reports.{on_have_of}
-use Rattle.role_steps.specs.Storage.{copy_of, with_copy}
+use Rattle.role_steps.specs.Storage.{copy_of}
 use Rattle.role_steps.specs.Tables.{row, with_row, without_row}
 use Rattle.role_steps.specs.Versions.{file_row}
 use Rattle.role_steps.specs.Views.{Frame, SiteView, Outcome, Receives, boot_in, quiet, sends, and_then}
@@ -113,7 +113,7 @@ adopted_leaves : (f : Frame) (p : Pull) (v : SiteView) → Rising (map table_gro
 adopted_leaves f p v r = over (row table_group p.file.group v.tables) refl
   where
     z : SiteView
-    z = without_pull p (with_store v (with_copy (copy_adopted p) v.store))
+    z = with_adopted p v
 
     over : (o : Option SyncTable) → row table_group p.file.group v.tables ≡ o → Leaves v (notes_own_at f p o z)
     over None e = record { boot = refl; round = refl; epoch = refl; users = refl; roles = record { tables = all_itself v.tables; instances = refl } }
@@ -128,8 +128,8 @@ adopts_leaves f (p ∷ ps) v r = by_ready (is_ready v p) (adopts_leaves f ps (wi
     by_above false k = record { boot = k.boot; round = k.round; epoch = k.epoch; users = k.users; roles = record { tables = k.roles.tables; instances = k.roles.instances } }
 
     by_ready : (b : Bool) → Leaves (without_pull p v) (adopts_first f ps (without_pull p v)).view → LeavesBy v (adopts_first f ps v) →
-        LeavesBy v (elim b [ true ↦ elim (is_above_own p (copy_of v.store p.file)) [ true ↦ adopts_pull f p v | false ↦ adopts_first f ps (without_pull p v) ] | false ↦ adopts_first f ps v ])
-    by_ready true k h = by_above (is_above_own p (copy_of v.store p.file)) k
+        LeavesBy v (elim b [ true ↦ elim (fits_own p (copy_of v.store p.file)) [ true ↦ adopts_pull f p v | false ↦ adopts_first f ps (without_pull p v) ] | false ↦ adopts_first f ps v ])
+    by_ready true k h = by_above (fits_own p (copy_of v.store p.file)) k
     by_ready false k h = h
 
 -- ---- the handler, and the adoption that it tries ----
@@ -138,7 +138,9 @@ handler_leaves : (f : Frame) (from : ℕ) (b : Body) (v : SiteView) → IsOther 
 handler_leaves f from (body.ReportOk group) v k n r = record { boot = refl; round = refl; epoch = refl; users = refl; roles = record { tables = all_itself v.tables; instances = refl } }
 handler_leaves f from (body.Notify file kind set size stamp vector holder) v k n r = record { boot = refl; round = refl; epoch = refl; users = refl; roles = record { tables = all_itself v.tables; instances = refl } }
 handler_leaves f from (body.Pull file stamp page) v k n r = record { boot = refl; round = refl; epoch = refl; users = refl; roles = record { tables = all_itself v.tables; instances = refl } }
+handler_leaves f from (body.Want file wanted own) v k n r = record { boot = refl; round = refl; epoch = refl; users = refl; roles = record { tables = all_itself v.tables; instances = refl } }
 handler_leaves f from (body.Page file stamp page bytes) v k n r = record { boot = refl; round = refl; epoch = refl; users = refl; roles = record { tables = all_itself v.tables; instances = refl } }
+handler_leaves f from (body.Delta file wanted pages) v k n r = record { boot = refl; round = refl; epoch = refl; users = refl; roles = record { tables = all_itself v.tables; instances = refl } }
 handler_leaves f from (body.Have file stamp) v k n r = noted_leaves v file.group from stamp file.ino (row table_group file.group v.tables) r refl (λ (t : SyncTable). file_row t file.ino)
 handler_leaves f from body.Poll v k n r = absurd n
 handler_leaves f from (body.Promise reach) v k n r = absurd n
@@ -152,6 +154,8 @@ handler_leaves f from (body.Opened inst answer) v k n r = absurd k
 handler_leaves f from (body.OpenDone serial answer) v k n r = absurd k
 handler_leaves f from (body.Op serial number o seen) v k n r = absurd k
 handler_leaves f from (body.OpDone serial number result) v k n r = absurd k
+handler_leaves f from (body.ReadHeld serial number at len) v k n r = absurd k
+handler_leaves f from (body.AsHeld serial number len) v k n r = absurd k
 handler_leaves f from (body.Close serial) v k n r = absurd k
 handler_leaves f from (body.Closed inst made) v k n r = absurd k
 handler_leaves f from (body.ClosedOk inst) v k n r = absurd k
@@ -167,6 +171,7 @@ adoption_leaves c m (Some e) u r = adopts_leaves (frame_in c m u.boot e) u.pulls
 tries_leave : (c : Config) (m : ℕ) (b : Body) (u : SiteView) → Rising (map table_group u.tables) → Leaves u (tries_at c m b u).view
 tries_leave c m (body.Notify file kind set size stamp vector holder) u r = adoption_leaves c m u.epoch u r
 tries_leave c m (body.Page file stamp page bytes) u r = adoption_leaves c m u.epoch u r
+tries_leave c m (body.Delta file wanted pages) u r = adoption_leaves c m u.epoch u r
 tries_leave c m _ u r = leaves_itself u
 
 -- the groups of the tables stay
@@ -273,6 +278,8 @@ takes_leaves c e m links p (body.Opened inst answer) v is k i r o = absurd o
 takes_leaves c e m links p (body.OpenDone serial answer) v is k i r o = absurd o
 takes_leaves c e m links p (body.Op serial number op seen) v is k i r o = absurd o
 takes_leaves c e m links p (body.OpDone serial number result) v is k i r o = absurd o
+takes_leaves c e m links p (body.ReadHeld serial number at len) v is k i r o = absurd o
+takes_leaves c e m links p (body.AsHeld serial number len) v is k i r o = absurd o
 takes_leaves c e m links p (body.Close serial) v is k i r o = absurd o
 takes_leaves c e m links p (body.Closed inst made) v is k i r o = absurd o
 takes_leaves c e m links p (body.ClosedOk inst) v is k i r o = absurd o
@@ -283,7 +290,9 @@ takes_leaves c e m links p (body.LookDone call request take answer) v is k i r o
 takes_leaves c e m links p (body.ReportOk group) v is k i r o = inl (framed_leaves c m p v.epoch v r (subst IsOther (sym is) tt) (subst FormsNone (sym is) tt))
 takes_leaves c e m links p (body.Notify file kind set size stamp vector holder) v is k i r o = inl (framed_leaves c m p v.epoch v r (subst IsOther (sym is) tt) (subst FormsNone (sym is) tt))
 takes_leaves c e m links p (body.Pull file stamp page) v is k i r o = inl (framed_leaves c m p v.epoch v r (subst IsOther (sym is) tt) (subst FormsNone (sym is) tt))
+takes_leaves c e m links p (body.Want file wanted own) v is k i r o = inl (framed_leaves c m p v.epoch v r (subst IsOther (sym is) tt) (subst FormsNone (sym is) tt))
 takes_leaves c e m links p (body.Page file stamp page bytes) v is k i r o = inl (framed_leaves c m p v.epoch v r (subst IsOther (sym is) tt) (subst FormsNone (sym is) tt))
+takes_leaves c e m links p (body.Delta file wanted pages) v is k i r o = inl (framed_leaves c m p v.epoch v r (subst IsOther (sym is) tt) (subst FormsNone (sym is) tt))
 takes_leaves c e m links p (body.Have file stamp) v is k i r o = inl (framed_leaves c m p v.epoch v r (subst IsOther (sym is) tt) (subst FormsNone (sym is) tt))
 
 -- ---- the row ----
@@ -302,20 +311,14 @@ other_after c e m links p v k i r kind taken = by_test (is_dropped p v) taken
     by_leaves (inl h) inside = leaves_after c e m links o p.body v k r h
     by_leaves (inr h) inside = absurd (none_some e (sym (outside p.body) ∙ inside))
       where
-        quiet_then : (a : Outcome SiteView) → a.view.round ≡ None → a.view.epoch ≡ None → (ends_event c m links a.view).view.epoch ≡ None
-        quiet_then a n z = ends_outside c m links a.view n z
+        by_epoch : (d : Option InEpoch) → d ≡ None → (ends_event c m links (adopts_of c m d o.view).view).view.epoch ≡ None
+        by_epoch None e = ends_outside c m links o.view h.0 h.1
+        by_epoch (Some d) e = absurd (none_some d (sym e))
 
         outside : (b : Body) → (whole c m links o (tries_at c m b)).view.epoch ≡ None
         outside (body.Notify file kindly set size stamp vector holder) = by_epoch o.view.epoch h.1
-          where
-            by_epoch : (d : Option InEpoch) → d ≡ None → (ends_event c m links (adopts_of c m d o.view).view).view.epoch ≡ None
-            by_epoch None e = ends_outside c m links o.view h.0 h.1
-            by_epoch (Some d) e = absurd (none_some d (sym e))
         outside (body.Page file stamp page bytes) = by_epoch o.view.epoch h.1
-          where
-            by_epoch : (d : Option InEpoch) → d ≡ None → (ends_event c m links (adopts_of c m d o.view).view).view.epoch ≡ None
-            by_epoch None e = ends_outside c m links o.view h.0 h.1
-            by_epoch (Some d) e = absurd (none_some d (sym e))
+        outside (body.Delta file wanted pages) = by_epoch o.view.epoch h.1
         outside _ = ends_outside c m links o.view h.0 h.1
 
     by_test : (b : Bool) → b ≡ false → AfterIn c e m v (elim b [ true ↦ quiet v | false ↦ whole c m links o (tries_at c m p.body) ])
@@ -335,6 +338,8 @@ carries_none (asking.Open serial file how) (body.OpenDone number answer) k h = k
 carries_none (asking.Open serial file how) _ k h = h
 carries_none (asking.Op serial ss n o seen) (body.Op number k2 op s) k h = k
 carries_none (asking.Op serial ss n o seen) (body.OpDone number k2 result) k h = k
+carries_none (asking.Op serial ss n o seen) (body.ReadHeld number k2 at len) k h = k
+carries_none (asking.Op serial ss n o seen) (body.AsHeld number k2 many) k h = k
 carries_none (asking.Op serial ss n o seen) _ k h = h
 carries_none (asking.Close serial ss) (body.Close number) k h = k
 carries_none (asking.Close serial ss) (body.Closed inst made) k h = k

@@ -4,7 +4,7 @@ use Rattle.locus_ids.specs.declared.config.Config.{Config}
 use Rattle.wire_messages.specs.declared.body.Body.{Body}
 use Rattle.wire_messages.specs.declared.body.Body.TheVariants as body
 use Rattle.wire_messages.specs.declared.packet.Packet.{Packet}
-use Rattle.role_steps.specs.Requests.{request_packets}
+use Rattle.role_steps.specs.Requests.{request_packets, operation_body}
 use Rattle.role_steps.specs.Views.{packet, to_some, sync_site}
 use Rattle.role_steps.specs.declared.rounds.InEpoch.{InEpoch}
 use Rattle.role_steps.specs.declared.users.Asking.{Asking}
@@ -43,5 +43,5 @@ request_carries c e at s x (asking.Open serial file how) m g = record {
   there = to_some_has c e s g.0 (open_body x serial file how) (sync_site c e.members file.group) g.1;
   carries = (g.0, g.1, inl (record { sender = m; receiver = (sync_is c e file.group g.0 g.1).1; is = refl }));
 }
-request_carries c e at s x (asking.Op serial ss n o seen) m g = record { letter = packet (frame_of c e s) ss (body.Op serial n o seen); there = inl refl; carries = inl (record { sender = m; receiver = g; is = refl }) }
+request_carries c e at s x (asking.Op serial ss n o seen) m g = record { letter = packet (frame_of c e s) ss (operation_body x.copied serial n o seen); there = inl refl; carries = inl (record { sender = m; receiver = g; is = refl }) }
 request_carries c e at s x (asking.Close serial ss) m g = record { letter = packet (frame_of c e s) ss (body.Close serial); there = inl refl; carries = inl (record { sender = m; receiver = g; is = refl }) }

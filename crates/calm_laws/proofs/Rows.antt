@@ -146,11 +146,13 @@ pub record HandlerHands (c : Config) (e : InEpoch) (m : ℕ) (at : Places) (p : 
 abbrev pub TriesNone : Body → Type 0
 TriesNone (body.Notify file kind set size stamp vector holder) = ⊥
 TriesNone (body.Page file stamp page bytes) = ⊥
+TriesNone (body.Delta file wanted pages) = ⊥
 TriesNone _ = Unit {0}
 
 tries_quiet : (c : Config) (m : ℕ) (b : Body) (u : SiteView) → TriesNone b → tries_at c m b u ≡ quiet u
 tries_quiet c m (body.Notify file kind set size stamp vector holder) u h = absurd h
 tries_quiet c m (body.Page file stamp page bytes) u h = absurd h
+tries_quiet c m (body.Delta file wanted pages) u h = absurd h
 tries_quiet c m _ u h = refl
 
 -- the view of the member that takes the packet

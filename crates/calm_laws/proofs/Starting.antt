@@ -15,10 +15,10 @@ use Rattle.role_steps.specs.Tables.{row, without_row, first_that}
 use Rattle.role_steps.specs.Views.{Frame, SiteView, Event, Calls, Receives, Ticks, Parts, Merges, GivesUp, Outcome, quiet, sends, and_then, pack_sites, packet, process_key, members_of, first_site}
 use Rattle.role_steps.specs.Reports.{new_table, on_have_of, on_report, on_open, on_look, on_closed, on_have, waits_early, is_early_of, takes_early, takes_all_early, starts, starts_if, have_all_reported, with_report, published, closes_at, on_closed_of}
 use Rattle.role_steps.specs.Opens.{on_opened, OpenRequest, Decision, Denies, Grants, decision, decides, on_open_of, takes_open, open_row, answers_open, by_stage, on_opened_of, with_open}
-use Rattle.role_steps.specs.Storage.{copy_of, with_copy}
+use Rattle.role_steps.specs.Storage.{copy_of}
 use Rattle.role_steps.specs.Versions.{file_row}
 use Rattle.role_steps.specs.Epochs.{is_epoch_below, frame_in, leaves_of, leaves, promises, reached, begins_round, starts_part_of, starts_part, starts_merge, promise_packet, refuse_packet, on_poll, on_promise_of, on_refuse_of, own_groups, is_sync_site, joins, may_install, is_in, joined_packet, on_install, on_joined, passed_over, unanswered, chosen_members, chosen_set, decides_if, passes_over_of, passes_over}
-use Rattle.role_steps.specs.Adoption.{notes_own_at, copy_adopted, table_group, with_store, without_pull, is_ready, is_above_own, adopts_pull, adopts_first}
+use Rattle.role_steps.specs.Adoption.{notes_own_at, table_group, without_pull, is_ready, adopts_pull, adopts_first, with_adopted, fits_own}
 use Rattle.role_steps.specs.Mends.{has_mend_in, wants_mend, starts_mend_of, starts_mend, starts_mends_in}
 use Rattle.role_steps.specs.declared.pulls.Pull.{Pull}
 use Rattle.role_steps.specs.declared.rounds.InEpoch.{InEpoch}
@@ -218,9 +218,9 @@ noted_keeps c f p (Some t) v k ts = every_row (InTable c v.epoch) table_group (o
 first_keeps : (c : Config) (f : Frame) (ps : List Pull) (v : SiteView) → Keeps c v (adopts_first f ps v)
 first_keeps c f [] v = λ ts. ts
 first_keeps c f (p ∷ ps) v =
-    elim (is_ready v p) as (λ t. Keeps c v (elim t [ true ↦ elim (is_above_own p (copy_of v.store p.file)) [ true ↦ adopts_pull f p v | false ↦ adopts_first f ps (without_pull p v) ] | false ↦ adopts_first f ps v ])) [
-      | true ↦ elim (is_above_own p (copy_of v.store p.file)) as (λ t. Keeps c v (elim t [ true ↦ adopts_pull f p v | false ↦ adopts_first f ps (without_pull p v) ])) [
-        | true ↦ λ ts. noted_keeps c f p (row table_group p.file.group v.tables) (without_pull p (with_store v (with_copy (copy_adopted p) v.store))) (row_found (InTable c v.epoch) table_group p.file.group v.tables ts) ts
+    elim (is_ready v p) as (λ t. Keeps c v (elim t [ true ↦ elim (fits_own p (copy_of v.store p.file)) [ true ↦ adopts_pull f p v | false ↦ adopts_first f ps (without_pull p v) ] | false ↦ adopts_first f ps v ])) [
+      | true ↦ elim (fits_own p (copy_of v.store p.file)) as (λ t. Keeps c v (elim t [ true ↦ adopts_pull f p v | false ↦ adopts_first f ps (without_pull p v) ])) [
+        | true ↦ λ ts. noted_keeps c f p (row table_group p.file.group v.tables) (with_adopted p v) (row_found (InTable c v.epoch) table_group p.file.group v.tables ts) ts
         | false ↦ first_keeps c f ps (without_pull p v)
       ]
       | false ↦ first_keeps c f ps v
@@ -233,6 +233,7 @@ adopts_keeps c me (Some e) v = first_keeps c (frame_in c me v.boot e) v.pulls v
 tries_keeps : (c : Config) (me : ℕ) (x : Body) (v : SiteView) → Keeps c v (tries_at c me x v)
 tries_keeps c me (body.Notify file kind set size stamp vector holder) v = adopts_keeps c me v.epoch v
 tries_keeps c me (body.Page file stamp page bytes) v = adopts_keeps c me v.epoch v
+tries_keeps c me (body.Delta file wanted pages) v = adopts_keeps c me v.epoch v
 tries_keeps c me _ v = λ ts. ts
 
 mend_keeps : (c : Config) (f : Frame) (t : SyncTable) (o : Option FileRow) (v : SiteView) → Keeps c v (starts_mend_of f t o v)

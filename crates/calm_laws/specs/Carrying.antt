@@ -7,6 +7,7 @@ use Rattle.locus_ids.specs.declared.ids.FileId.{FileId}
 use Rattle.locus_ids.specs.declared.ids.Serial.{Serial}
 use Rattle.locus_ids.specs.declared.ids.Stamp.{Stamp}
 use Rattle.trace_book.specs.declared.operation.Op.{Op}
+use Rattle.trace_book.specs.declared.operation.Op.TheVariants as op
 use Rattle.trace_book.specs.declared.operation.Outcome.{Outcome as Result}
 use Rattle.trace_book.specs.declared.operation.What.{What}
 use Rattle.trace_book.specs.declared.operation.What.TheVariants as what
@@ -23,6 +24,7 @@ use Rattle.wire_messages.specs.declared.packet.Packet.{Packet}
 use Rattle.role_steps.specs.Adoption.{table_group}
 use Rattle.role_steps.specs.Epochs.{frame_in}
 use Rattle.role_steps.specs.Opens.{open_row, stamp_or_none}
+use Rattle.role_steps.specs.Requests.{operation_body}
 use Rattle.role_steps.specs.Storage.{instance_of}
 use Rattle.role_steps.specs.Tables.{row, first_that}
 use Rattle.role_steps.specs.Using.{answers_op, answers_what}
@@ -154,8 +156,18 @@ pub record AnswersOp (c : Config) (e : InEpoch) (s serial ss n : ℕ) (o : Op) (
   pub fits : answers_op o result ≡ true
   pub goes : Goes c e ss s (body.OpDone serial n result) p
 
-abbrev pub CarriesOp : Config → InEpoch → ℕ → ℕ → ℕ → ℕ → Op → List ℕ → Packet → Type 0
-CarriesOp c e s serial ss n o seen p = Goes c e s ss (body.Op serial n o seen) p ⊎ AnswersOp c e s serial ss n o p
+-- a read whose asker has the bytes may be answered by their number
+pub record AnswersHeld (c : Config) (e : InEpoch) (s serial ss n : ℕ) (copied : Option (List ℕ)) (o : Op) (p : Packet) : Type 0 where
+  pub bytes : List ℕ
+  pub has : copied ≡ Some bytes
+  pub at : ℕ
+  pub len : ℕ
+  pub is_read : o ≡ op.Read at len
+  pub many : ℕ
+  pub goes : Goes c e ss s (body.AsHeld serial n many) p
+
+abbrev pub CarriesOp : Config → InEpoch → ℕ → ℕ → ℕ → ℕ → Option (List ℕ) → Op → List ℕ → Packet → Type 0
+CarriesOp c e s serial ss n copied o seen p = Goes c e s ss (operation_body copied serial n o seen) p ⊎ (AnswersOp c e s serial ss n o p ⊎ AnswersHeld c e s serial ss n copied o p)
 
 -- the synchronization site is told, or answers, while the storage site waits for that
 pub record ClosesIt (c : Config) (e : InEpoch) (at : Places) (ss : ℕ) (inst : Serial) (p : Packet) : Type 0 where
@@ -176,7 +188,7 @@ CarriesClose c e at s serial ss p = Goes c e s ss (body.Close serial) p ⊎ (Clo
 abbrev pub Carries : Config → InEpoch → Places → ℕ → WaitingCall → Asking → Packet → Type 0
 Carries c e at s x (asking.Look file w take) p = (css : ℕ) × (sync_site c e.members file.group ≡ Some css) × CarriesLook c e s x file w take css p
 Carries c e at s x (asking.Open serial file how) p = (css : ℕ) × (sync_site c e.members file.group ≡ Some css) × CarriesOpen c e at s x serial file how css p
-Carries c e at s x (asking.Op serial ss n o seen) p = CarriesOp c e s serial ss n o seen p
+Carries c e at s x (asking.Op serial ss n o seen) p = CarriesOp c e s serial ss n x.copied o seen p
 Carries c e at s x (asking.Close serial ss) p = CarriesClose c e at s serial ss p
 
 -- it is held until its group starts

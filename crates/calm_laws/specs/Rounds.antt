@@ -211,10 +211,12 @@ IsOpenDone _ = ⊥
 
 abbrev pub IsOp : Body → Type 0
 IsOp (body.Op serial n o seen) = Unit {0}
+IsOp (body.ReadHeld serial n at len) = Unit {0}
 IsOp _ = ⊥
 
 abbrev pub IsOpDone : Body → Type 0
 IsOpDone (body.OpDone serial n result) = Unit {0}
+IsOpDone (body.AsHeld serial n len) = Unit {0}
 IsOpDone _ = ⊥
 
 abbrev pub IsClose : Body → Type 0
@@ -253,7 +255,9 @@ IsOther (body.OpenSs inst file mode set kind base vector parents) = ⊥
 IsOther (body.Opened inst answer) = ⊥
 IsOther (body.OpenDone serial answer) = ⊥
 IsOther (body.Op serial n o seen) = ⊥
+IsOther (body.ReadHeld serial n at len) = ⊥
 IsOther (body.OpDone serial n result) = ⊥
+IsOther (body.AsHeld serial n len) = ⊥
 IsOther (body.Close serial) = ⊥
 IsOther (body.Closed inst made) = ⊥
 IsOther (body.ClosedOk inst) = ⊥

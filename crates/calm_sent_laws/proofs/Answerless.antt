@@ -23,12 +23,12 @@ use Rattle.wire_messages.specs.declared.packet.Packet.{Packet}
 use Rattle.wire_messages.specs.declared.body.Body.TheVariants as body
 use Rattle.role_steps.specs.Looks.{LookRequest}
 use Rattle.role_steps.specs.OperationEffects.{Mending, effect_of}
-use Rattle.role_steps.specs.Operations.{acts, acts_committed, commits_owing, last_committed, commit_op, executes_effect, executes, op_again, by_number, on_op_at, on_op_of, on_op}
+use Rattle.role_steps.specs.Operations.{acts, acts_committed, commits_owing, last_committed, commit_op, executes_effect, executes, op_again, by_number, on_op_at, on_op_of, on_op, on_read_held}
 use Rattle.role_steps.specs.Own.{Every}
-use Rattle.role_steps.specs.Pulling.{on_notify, on_page, pull_repeats}
+use Rattle.role_steps.specs.Pulling.{on_notify, on_page, on_delta, pull_repeats}
 use Rattle.role_steps.specs.Requests.{users_repeats}
-use Rattle.role_steps.specs.Storage.{StoreRequest, instance_of, is_open, opened_packets, own_ino, opens, opens_made, on_open_ss_of, on_open_ss, is_spent, commits, next_stamp, next_vector, ends_at, on_closed_ok_of, on_closed_ok, on_look_ss, on_pull}
-use Rattle.role_steps.specs.Using.{on_call, on_open_done, on_op_done, on_close_done, on_look_done}
+use Rattle.role_steps.specs.Storage.{StoreRequest, instance_of, is_open, opened_packets, own_ino, opens, opens_made, on_open_ss_of, on_open_ss, is_spent, commits, next_stamp, next_vector, ends_at, on_closed_ok_of, on_closed_ok, on_look_ss, on_pull, on_want}
+use Rattle.role_steps.specs.Using.{on_call, on_open_done, on_op_done, on_as_held, on_close_done, on_look_done}
 use Rattle.role_steps.specs.Views.{Frame, Store, Users, Outcome, quiet, sends, and_then, to_some, to_sync, sync_site}
 use Rattle.role_steps.specs.declared.copies.FileCopy.{FileCopy}
 use Rattle.role_steps.specs.declared.instances.Instance.{Instance}
@@ -36,9 +36,10 @@ use Rattle.role_steps.specs.declared.instances.Stage.{Stage}
 use Rattle.role_steps.specs.declared.pulls.Pull.{Pull}
 use Rattle.role_steps.specs.declared.instances.Stage.TheVariants as stage
 use Rattle.role_steps.proofs.Sending.{every_cond}
+use Rattle.role_steps.proofs.HeldReads.{held_read_sent}
 use Rattle.epoch_laws.specs.of_law_walks.Kinds.{IsOfReader, IsUserRequest, IsOfUser}
 use Rattle.epoch_laws.specs.of_law_walks.Laws.{Law, body_law, ReadersKeep, UsersKeep}
-use Rattle.epoch_laws.proofs.of_law_walks.RoleWalks.{on_look_ss_walk, on_pull_walk, on_notify_walk, on_page_walk, pull_repeats_walk, users_repeats_walk, on_call_walk, on_open_done_walk, on_op_done_walk, on_close_done_walk, on_look_done_walk}
+use Rattle.epoch_laws.proofs.of_law_walks.RoleWalks.{on_look_ss_walk, on_pull_walk, on_want_walk, on_notify_walk, on_page_walk, on_delta_walk, pull_repeats_walk, users_repeats_walk, on_call_walk, on_open_done_walk, on_op_done_walk, on_as_held_walk, on_close_done_walk, on_look_done_walk}
 
 -- the body answers neither a report nor an open, and closes no instance
 abbrev pub AnswersNone : Body → Type 0
@@ -162,6 +163,9 @@ on_op_of_answerless f m (Some i) n o seen s = on_op_at_answerless f m i i.stage 
 pub on_op_answerless : (f : Frame) (m : Mending) (inst : Serial) (n : ℕ) (o : Op) (seen : List ℕ) (s : Store) → AllAnswerless (on_op f m inst n o seen s)
 on_op_answerless f m inst n o seen s = on_op_of_answerless f m (instance_of s inst) n o seen s
 
+pub on_read_held_answerless : (f : Frame) (inst : Serial) (n at len : ℕ) (s : Store) → AllAnswerless (on_read_held f inst n at len s)
+on_read_held_answerless f inst n at len s = held_read_sent Answerless f (λ to serial m r. tt) (λ to serial m l. tt) inst n at len s
+
 -- ---- the law of the other roles, kind by kind ----
 
 request_answers_none : (b : Body) → IsUserRequest b → AnswersNone b
@@ -171,12 +175,14 @@ request_answers_none _ h = absurd h
 
 user_answers_none : (b : Body) → IsOfUser b → AnswersNone b
 user_answers_none (body.Op serial n o seen) h = tt
+user_answers_none (body.ReadHeld serial n at len) h = tt
 user_answers_none (body.Close serial) h = tt
 user_answers_none _ h = absurd h
 
 reader_answers_none : (b : Body) → IsOfReader b → AnswersNone b
 reader_answers_none (body.LookDone call request take answer) h = tt
 reader_answers_none (body.Pull file stamp page) h = tt
+reader_answers_none (body.Want file wanted own) h = tt
 reader_answers_none _ h = absurd h
 
 abbrev answering : Law
@@ -196,11 +202,17 @@ on_look_ss_answerless f us l stamp s = (on_look_ss_walk answering f (readers f) 
 pub on_pull_answerless : (f : Frame) (from : ℕ) (file : FileId) (stamp : Stamp) (page : ℕ) (s : Store) → AllAnswerless (on_pull f from file stamp page s)
 on_pull_answerless f from file stamp page s = (on_pull_walk answering f (readers f) from file stamp page (λ bytes. tt) s).0
 
+pub on_want_answerless : (f : Frame) (from : ℕ) (file : FileId) (wanted own : Stamp) (s : Store) → AllAnswerless (on_want f from file wanted own s)
+on_want_answerless f from file wanted own s = (on_want_walk answering f (readers f) from file wanted own (λ pages. tt) s).0
+
 pub on_notify_answerless : (f : Frame) (from : ℕ) (o : Option FileCopy) (p : Pull) (ps : List Pull) → AllAnswerless (on_notify f from o p ps)
 on_notify_answerless f from o p ps = (on_notify_walk answering f (readers f) from o p tt ps).0
 
 pub on_page_answerless : (f : Frame) (file : FileId) (stamp : Stamp) (page : ℕ) (bytes : List ℕ) (ps : List Pull) → AllAnswerless (on_page f file stamp page bytes ps)
 on_page_answerless f file stamp page bytes ps = (on_page_walk answering f (readers f) file stamp page bytes ps).0
+
+pub on_delta_answerless : (f : Frame) (own : Option FileCopy) (file : FileId) (stamp : Stamp) (pages : List ℕ) (ps : List Pull) → AllAnswerless (on_delta f own file stamp pages ps)
+on_delta_answerless f own file stamp pages ps = (on_delta_walk answering f (readers f) own file stamp pages ps).0
 
 pub pull_repeats_answerless : (f : Frame) (ps : List Pull) → Every Answerless (pull_repeats f ps)
 pull_repeats_answerless f ps = pull_repeats_walk answering f (readers f) ps
@@ -218,6 +230,9 @@ on_open_done_answerless f kept serial a u = (on_open_done_walk answering f (user
 
 pub on_op_done_answerless : (f : Frame) (serial n : ℕ) (r : Result) (u : Users) → AllAnswerless (on_op_done f serial n r u)
 on_op_done_answerless f serial n r u = (on_op_done_walk answering f (users f) serial n r u).0
+
+pub on_as_held_answerless : (f : Frame) (serial n : ℕ) (u : Users) → AllAnswerless (on_as_held f serial n u)
+on_as_held_answerless f serial n u = (on_as_held_walk answering f (users f) serial n u).0
 
 pub on_close_done_answerless : (f : Frame) (serial : ℕ) (a : CloseAnswer) (u : Users) → AllAnswerless (on_close_done f serial a u)
 on_close_done_answerless f serial a u = (on_close_done_walk answering f (users f) serial a u).0

@@ -6,13 +6,13 @@ use Rattle.trace_book.specs.declared.call.Call.TheVariants as call
 use Rattle.wire_messages.specs.declared.body.Body.{Body}
 use Rattle.wire_messages.specs.declared.body.Body.TheVariants as body
 use Rattle.wire_messages.specs.declared.packet.Packet.{Packet}
-use Rattle.role_steps.specs.Adoption.{notes_own_at, notes_own, copy_adopted, with_store, table_group, is_ready, is_above_own, adopts_pull, without_pull, adopts_first}
+use Rattle.role_steps.specs.Adoption.{notes_own_at, notes_own, table_group, is_ready, adopts_pull, without_pull, adopts_first, with_adopted, fits_own}
 use Rattle.role_steps.specs.Epochs.{frame_in, own_groups}
 use Rattle.role_steps.specs.Mends.{mending, kept_stamps, has_mend_in, wants_mend, starts_mend_of, starts_mend, starts_mends_in, row_file}
 use Rattle.role_steps.specs.Opens.{on_opened}
 use Rattle.role_steps.specs.Own.{Every}
 use Rattle.role_steps.specs.Reports.{on_report, on_closed, on_have, on_have_of}
-use Rattle.role_steps.specs.Storage.{copy_of, instance_of, with_copy}
+use Rattle.role_steps.specs.Storage.{copy_of, instance_of}
 use Rattle.role_steps.specs.Tables.{row, first_that, without_row}
 use Rattle.role_steps.specs.Versions.{file_row}
 use Rattle.role_steps.specs.Views.{Frame, SiteView, Outcome, quiet}
@@ -25,11 +25,11 @@ use Rattle.the_run.specs.Kept.{Among}
 use Rattle.the_run.specs.Steps.{from_user, group_of, at_table_of, is_opened_in, takes_inside, takes_framed, adopts_of, tries_at, starts_mends_of}
 use Rattle.the_run.proofs.Boots.{at_each}
 use Rattle.one_tree_laws.proofs.Rising.{first_among, row_key, every_among}
-use Rattle.calm_sent_laws.proofs.Answerless.{sync_answerless, on_open_ss_answerless, on_closed_ok_answerless, on_look_ss_answerless, on_pull_answerless, on_op_answerless, on_notify_answerless, on_page_answerless, on_call_answerless, on_open_done_answerless, on_op_done_answerless, on_close_done_answerless, on_look_done_answerless}
+use Rattle.calm_sent_laws.proofs.Answerless.{sync_answerless, on_open_ss_answerless, on_closed_ok_answerless, on_look_ss_answerless, on_pull_answerless, on_op_answerless, on_notify_answerless, on_page_answerless, on_call_answerless, on_open_done_answerless, on_op_done_answerless, on_close_done_answerless, on_look_done_answerless, on_delta_answerless, on_read_held_answerless, on_want_answerless, on_as_held_answerless}
 use Rattle.calm_sent_laws.proofs.Closing.{Begun, IsBegun, on_close_closes}
 use Rattle.calm_sent_laws.proofs.Reporting.{on_open_stands, on_look_stands, on_report_stands, on_closed_stands, on_have_stands, have_of_stands}
 use Rattle.calm_sent_laws.proofs.Tables.{LooksAnswerless, TableStands, on_opened_stands}
-use Rattle.calm_sent_laws.proofs.Users.{Grants, on_call_holds, on_open_done_holds, on_op_done_holds, on_close_done_holds, on_look_done_holds}
+use Rattle.calm_sent_laws.proofs.Users.{Grants, on_call_holds, on_open_done_holds, on_op_done_holds, on_close_done_holds, on_look_done_holds, on_as_held_holds}
 use Rattle.calm_sent_laws.proofs.Views.{Known, In, ReportsIn, Heard, Orderly, Goes, Fine, quiet_fine, then_fine, part_fine, part_with, table_fine, put_orderly, put_goes, all_close, all_stand, rising_found}
 
 -- what a packet brings to a site in the epoch
@@ -72,9 +72,9 @@ noted_leaves f p (Some t) v = record { epoch = refl; instances = refl }
 first_leaves : (f : Frame) (ps : List Pull) (v : SiteView) → Leaves v (adopts_first f ps v)
 first_leaves f [] v = record { epoch = refl; instances = refl }
 first_leaves f (p ∷ ps) v =
-    elim (is_ready v p) as (λ t. Leaves v (elim t [ true ↦ elim (is_above_own p (copy_of v.store p.file)) [ true ↦ adopts_pull f p v | false ↦ adopts_first f ps (without_pull p v) ] | false ↦ adopts_first f ps v ])) [
-      | true ↦ elim (is_above_own p (copy_of v.store p.file)) as (λ t. Leaves v (elim t [ true ↦ adopts_pull f p v | false ↦ adopts_first f ps (without_pull p v) ])) [
-        | true ↦ (let k : LeavesBegun (without_pull p (with_store v (with_copy (copy_adopted p) v.store))) (adopts_pull f p v).view = noted_leaves f p (row table_group p.file.group v.tables) (without_pull p (with_store v (with_copy (copy_adopted p) v.store))) in record { epoch = k.epoch; instances = k.instances })
+    elim (is_ready v p) as (λ t. Leaves v (elim t [ true ↦ elim (fits_own p (copy_of v.store p.file)) [ true ↦ adopts_pull f p v | false ↦ adopts_first f ps (without_pull p v) ] | false ↦ adopts_first f ps v ])) [
+      | true ↦ elim (fits_own p (copy_of v.store p.file)) as (λ t. Leaves v (elim t [ true ↦ adopts_pull f p v | false ↦ adopts_first f ps (without_pull p v) ])) [
+        | true ↦ (let k : LeavesBegun (with_adopted p v) (adopts_pull f p v).view = noted_leaves f p (row table_group p.file.group v.tables) (with_adopted p v) in record { epoch = k.epoch; instances = k.instances })
         | false ↦ (let k : LeavesBegun (without_pull p v) (adopts_first f ps (without_pull p v)).view = first_leaves f ps (without_pull p v) in record { epoch = k.epoch; instances = k.instances })
       ]
       | false ↦ first_leaves f ps v
@@ -100,7 +100,7 @@ module _ (R S : Known) (B : Begun) (c : Config) (me : ℕ) where
 
   adopts_pull_fine : (f : Frame) (p : Pull) (v : SiteView) → Orderly v → Heard R S c me v → Fine R S B c me v (adopts_pull f p v)
   adopts_pull_fine f p v h k =
-      let now : SiteView = without_pull p (with_store v (with_copy (copy_adopted p) v.store)) in
+      let now : SiteView = with_adopted p v in
       let n : Orderly (notes_own f p now) × (Heard R S c me (notes_own f p now) × Goes now (notes_own f p now)) = noted_fine f p (row table_group p.file.group v.tables) now refl (record { round = h.round; inside = h.inside; rising = h.rising; looks = h.looks }) (record { reports = k.reports; instances = k.instances }) in
       record {
         orderly = n.0;
@@ -112,8 +112,8 @@ module _ (R S : Known) (B : Begun) (c : Config) (me : ℕ) where
   adopts_first_fine : (f : Frame) (ps : List Pull) (v : SiteView) → Orderly v → Heard R S c me v → Fine R S B c me v (adopts_first f ps v)
   adopts_first_fine f [] v h k = quiet_fine R S B c me v h k
   adopts_first_fine f (p ∷ ps) v h k =
-      elim (is_ready v p) as (λ t. Fine R S B c me v (elim t [ true ↦ elim (is_above_own p (copy_of v.store p.file)) [ true ↦ adopts_pull f p v | false ↦ adopts_first f ps (without_pull p v) ] | false ↦ adopts_first f ps v ])) [
-        | true ↦ elim (is_above_own p (copy_of v.store p.file)) as (λ t. Fine R S B c me v (elim t [ true ↦ adopts_pull f p v | false ↦ adopts_first f ps (without_pull p v) ])) [
+      elim (is_ready v p) as (λ t. Fine R S B c me v (elim t [ true ↦ elim (fits_own p (copy_of v.store p.file)) [ true ↦ adopts_pull f p v | false ↦ adopts_first f ps (without_pull p v) ] | false ↦ adopts_first f ps v ])) [
+        | true ↦ elim (fits_own p (copy_of v.store p.file)) as (λ t. Fine R S B c me v (elim t [ true ↦ adopts_pull f p v | false ↦ adopts_first f ps (without_pull p v) ])) [
           | true ↦ adopts_pull_fine f p v h k
           | false ↦ (let g : Fine R S B c me (without_pull p v) (adopts_first f ps (without_pull p v)) = adopts_first_fine f ps (without_pull p v) (record { round = h.round; inside = h.inside; rising = h.rising; looks = h.looks }) (record { reports = k.reports; instances = k.instances }) in
               record { orderly = g.orderly; heard = g.heard; goes = record { spent = g.goes.spent; stays = g.goes.stays }; sent = g.sent })
@@ -128,6 +128,7 @@ module _ (R S : Known) (B : Begun) (c : Config) (me : ℕ) where
   pub tries_fine : (x : Body) (v : SiteView) → Orderly v → Heard R S c me v → Fine R S B c me v (tries_at c me x v)
   tries_fine (body.Notify file kind set size stamp vector holder) v h k = adopts_of_fine v.epoch v h k
   tries_fine (body.Page file stamp page bytes) v h k = adopts_of_fine v.epoch v h k
+  tries_fine (body.Delta file wanted pages) v h k = adopts_of_fine v.epoch v h k
   tries_fine _ v h k = quiet_fine R S B c me v h k
 
   mend_of_fine : (f : Frame) (t : SyncTable) (o : Option FileRow) (v : SiteView) → Orderly v → Heard R S c me v → Fine R S B c me v (starts_mend_of f t o v)
@@ -190,8 +191,11 @@ module _ (R S : Known) (B : Begun) (c : Config) (me : ℕ) where
       (record { reports = k.reports; instances = on_open_done_holds (In S v.epoch) (frame_in c me v.boot e) (kept_stamps v) serial answer v.users (subst (λ (o : Option InEpoch). Grants (In S o) serial answer) (sym here) b) k.instances }) refl refl refl refl refl
       (on_open_done_answerless (frame_in c me v.boot e) (kept_stamps v) serial answer v.users)
   inside_fine e from (body.Op serial n o seen) v here b d h k = part_fine R S B c me v _ h (record { reports = k.reports; instances = k.instances }) refl refl refl refl refl (on_op_answerless (frame_in c me v.boot e) (mending v (group_of (instance_of v.store (from_user from serial)))) (from_user from serial) n o seen v.store)
+  inside_fine e from (body.ReadHeld serial n at len) v here b d h k = part_fine R S B c me v _ h (record { reports = k.reports; instances = k.instances }) refl refl refl refl refl (on_read_held_answerless (frame_in c me v.boot e) (from_user from serial) n at len v.store)
   inside_fine e from (body.OpDone serial n result) v here b d h k = part_fine R S B c me v _ h
       (record { reports = k.reports; instances = on_op_done_holds (In S v.epoch) (frame_in c me v.boot e) serial n result v.users k.instances }) refl refl refl refl refl (on_op_done_answerless (frame_in c me v.boot e) serial n result v.users)
+  inside_fine e from (body.AsHeld serial n len) v here b d h k = part_fine R S B c me v _ h
+      (record { reports = k.reports; instances = on_as_held_holds (In S v.epoch) (frame_in c me v.boot e) serial n v.users k.instances }) refl refl refl refl refl (on_as_held_answerless (frame_in c me v.boot e) serial n v.users)
   inside_fine e from (body.Close serial) v here b d h k = part_with R S B c me v (takes_inside (frame_in c me v.boot e) from (body.Close serial) v) h (record { reports = k.reports; instances = k.instances }) refl refl refl refl refl
       (λ now. all_close B c me (takes_inside (frame_in c me v.boot e) from (body.Close serial) v).view e _ now here (on_close_closes B (frame_in c me v.boot e) (from_user from serial) v.store (d e here)))
   inside_fine e from (body.Closed inst made) v here b d h k = with_fine (frame_in c me v.boot e) e (on_closed (frame_in c me v.boot e) from inst made) (is_opened_in inst) v refl here (on_closed_stands (frame_in c me v.boot e) from inst made) h k
@@ -202,9 +206,11 @@ module _ (R S : Known) (B : Begun) (c : Config) (me : ℕ) where
   inside_fine e from (body.LookSs us call process request take file what serve) v here b d h k = part_fine R S B c me v _ h (record { reports = k.reports; instances = k.instances }) refl refl refl refl refl (on_look_ss_answerless (frame_in c me v.boot e) us (record { call = call; process = process; request = request; take = take; file = file; what = what }) serve v.store)
   inside_fine e from (body.LookDone call request take answer) v here b d h k = part_fine R S B c me v _ h
       (record { reports = k.reports; instances = on_look_done_holds (In S v.epoch) (frame_in c me v.boot e) call request take answer v.users k.instances }) refl refl refl refl refl (on_look_done_answerless (frame_in c me v.boot e) call request take answer v.users)
-  inside_fine e from (body.Notify file kind set size stamp vector holder) v here b d h k = part_fine R S B c me v _ h (record { reports = k.reports; instances = k.instances }) refl refl refl refl refl (on_notify_answerless (frame_in c me v.boot e) from (copy_of v.store file) (record { file = file; kind = kind; set = set; size = size; stamp = stamp; vector = vector; holder = holder; content = [] }) v.pulls)
+  inside_fine e from (body.Notify file kind set size stamp vector holder) v here b d h k = part_fine R S B c me v _ h (record { reports = k.reports; instances = k.instances }) refl refl refl refl refl (on_notify_answerless (frame_in c me v.boot e) from (copy_of v.store file) (record { file = file; kind = kind; set = set; size = size; stamp = stamp; vector = vector; holder = holder; base = None; wanted = None; content = [] }) v.pulls)
   inside_fine e from (body.Pull file stamp page) v here b d h k = part_fine R S B c me v _ h (record { reports = k.reports; instances = k.instances }) refl refl refl refl refl (on_pull_answerless (frame_in c me v.boot e) from file stamp page v.store)
+  inside_fine e from (body.Want file wanted own) v here b d h k = part_fine R S B c me v _ h (record { reports = k.reports; instances = k.instances }) refl refl refl refl refl (on_want_answerless (frame_in c me v.boot e) from file wanted own v.store)
   inside_fine e from (body.Page file stamp page bytes) v here b d h k = part_fine R S B c me v _ h (record { reports = k.reports; instances = k.instances }) refl refl refl refl refl (on_page_answerless (frame_in c me v.boot e) file stamp page bytes v.pulls)
+  inside_fine e from (body.Delta file wanted pages) v here b d h k = part_fine R S B c me v _ h (record { reports = k.reports; instances = k.instances }) refl refl refl refl refl (on_delta_answerless (frame_in c me v.boot e) (copy_of v.store file) file wanted pages v.pulls)
   inside_fine e from (body.Have file stamp) v here b d h k = group_fine (frame_in c me v.boot e) e (on_have from file stamp) file.group v refl here (on_have_stands (frame_in c me v.boot e) from file stamp) h k
   inside_fine e from body.Poll v here b d h k = quiet_fine R S B c me v h k
   inside_fine e from (body.Promise reach) v here b d h k = quiet_fine R S B c me v h k

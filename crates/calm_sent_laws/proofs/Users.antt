@@ -12,7 +12,6 @@ use Rattle.trace_book.specs.declared.operation.Op.{Op}
 use Rattle.trace_book.specs.declared.operation.Outcome.{Outcome as Result}
 use Rattle.trace_book.specs.declared.reply.Reply.{Reply}
 use Rattle.trace_book.specs.declared.reply.Reply.TheVariants as reply
-use Rattle.call_rules.specs.Descriptors.{beginning}
 use Rattle.call_rules.specs.declared.answer.Answer.{Answer}
 use Rattle.call_rules.specs.declared.want.Want.{Want}
 use Rattle.call_rules.specs.declared.want.Want.TheVariants as want
@@ -23,9 +22,9 @@ use Rattle.wire_messages.specs.declared.body.LookAnswer.{LookAnswer}
 use Rattle.wire_messages.specs.declared.body.Opening.{Opening}
 use Rattle.wire_messages.specs.declared.body.LookAnswer.TheVariants as looked
 use Rattle.role_steps.specs.Own.{Every}
-use Rattle.role_steps.specs.Requests.{instance_serial, waiting_key, without_waiting, user_instance, with_user_instance, without_user_instance, descriptors_of, asks, asks_open, next_request, seen_by, asks_op_of, asks_close_of}
+use Rattle.role_steps.specs.Requests.{instance_serial, waiting_key, without_waiting, user_instance, with_user_instance, without_user_instance, asks, asks_open, next_request, seen_by, asks_op_of, asks_close_of}
 use Rattle.role_steps.specs.Tables.{first_that}
-use Rattle.role_steps.specs.Using.{is_hopeless, without_hope, after_reply, holds_again, replies, asks_want, next_want, goes_on, frees, accepted, on_call, with_answer, takes_answer, takes_open, on_open_done_of, on_open_done, on_op_done_of, on_op_done, on_close_done_of, on_close_done, looks_again, with_brought, content_answer, takes_look, on_look_done_of, on_look_done, asks_open_of, asks_op_number, asks_take, op_answer, close_answer, opened_answer, kept_for, mended_file, own_call}
+use Rattle.role_steps.specs.Using.{is_hopeless, without_hope, after_reply, holds_again, replies, asks_want, next_want, goes_on, frees, on_call, counted_users, counted_call, accepted_call, with_answer, takes_answer, takes_copied, takes_open, version_read, on_open_done_of, on_open_done, on_op_done_of, on_as_held_of, keeps_brought, on_op_done, on_as_held, on_close_done_of, on_close_done, looks_again, with_brought, content_answer, takes_look, on_look_done_of, on_look_done, asks_open_of, asks_op_number, asks_held_number, asks_take, op_answer, close_answer, opened_answer, kept_for, mended_file}
 use Rattle.role_steps.specs.Using as using
 use Rattle.role_steps.specs.Views.{Frame, Users, Outcome}
 use Rattle.role_steps.specs.declared.users.Asking.{Asking}
@@ -34,6 +33,7 @@ use Rattle.role_steps.specs.declared.users.UserInstance.{UserInstance}
 use Rattle.role_steps.specs.declared.users.WaitingCall.{WaitingCall}
 use Rattle.the_run.proofs.Boots.{every_weaker}
 use Rattle.the_run.proofs.InsideSync.{Found, every_row, every_without, row_found}
+use Rattle.role_steps.proofs.Caching.{kept_only}
 
 abbrev pub IsHeld : (ℕ → Type 0) → UserInstance → Type 0
 IsHeld S i = S i.serial
@@ -120,7 +120,7 @@ frees_held S process _ u h = h
 
 pub on_call_holds : (S : ℕ → Type 0) (f : Frame) (now : Option EpochId) (process : ℕ) (words : Call) (u : Users) → AllHeld S u → Holds S (on_call f now process words u)
 on_call_holds S f now process words u h =
-    goes_on_holds S f (accepted process (u.calls + 1) words (beginning (descriptors_of u process) now (own_call f.me f.boot (u.calls + 1)) words)) (frees process words (record u { calls = u.calls + 1 })) (frees_held S process words (record u { calls = u.calls + 1 }) (record { instances = h.instances; waiting = h.waiting }))
+    goes_on_holds S f (accepted_call f now process words u) (counted_call f now process words u) (frees_held S process words (counted_users f now process words u) (record { instances = h.instances; waiting = h.waiting }))
 
 -- ---- answers ----
 
@@ -134,7 +134,7 @@ Grants S serial (granted.No why) = Unit {0}
 
 takes_open_holds : (S : ℕ → Type 0) (f : Frame) (kept : FileId → List Stamp) (serial : ℕ) (w : WaitingCall) (a : Granted) (u : Users) → Grants S serial a → AllHeld S u → Holds S (takes_open f kept serial w a u)
 takes_open_holds S f kept serial w (granted.Open ss ino size stamp vector) u k h =
-    let i : UserInstance = record { serial = serial; ss = ss; vector = vector; ops = 0 } in
+    let i : UserInstance = record { serial = serial; ss = ss; vector = vector; ops = 0; reads = version_read size stamp w.asking } in
     takes_answer_holds S f w (opened_answer f serial ino stamp (kept_for kept (mended_file w.words)) w.words w.asking) (with_user_instance i u) (record { instances = every_row (IsHeld S) instance_serial i u.instances k h.instances; waiting = h.waiting })
 takes_open_holds S f kept serial w (granted.No why) u k h = takes_answer_holds S f w _ u h
 
@@ -147,10 +147,21 @@ on_open_done_holds S f kept serial a u k h = open_done_of_holds S f kept serial 
 
 op_done_of_holds : (S : ℕ → Type 0) (f : Frame) (r : Result) (o : Option WaitingCall) (u : Users) → AllHeld S u → Holds S (on_op_done_of f r o u)
 op_done_of_holds S f r None u h = h
-op_done_of_holds S f r (Some w) u h = takes_answer_holds S f w (op_answer r) u h
+op_done_of_holds S f r (Some w) u h = takes_answer_holds S f w (op_answer r) (keeps_brought w.asking r u) (kept_only (AllHeld S) w.asking r u (λ pages. record { instances = h.instances; waiting = h.waiting }))
 
 pub on_op_done_holds : (S : ℕ → Type 0) (f : Frame) (serial n : ℕ) (r : Result) (u : Users) → AllHeld S u → Holds S (on_op_done f serial n r u)
 on_op_done_holds S f serial n r u h = op_done_of_holds S f r (first_that (asks_op_number serial n r) u.waiting) u h
+
+copied_holds : (S : ℕ → Type 0) (f : Frame) (w : WaitingCall) (copied : Option (List ℕ)) (u : Users) → AllHeld S u → Holds S (takes_copied f w copied u)
+copied_holds S f w None u h = h
+copied_holds S f w (Some bytes) u h = takes_answer_holds S f w _ u h
+
+as_held_of_holds : (S : ℕ → Type 0) (f : Frame) (o : Option WaitingCall) (u : Users) → AllHeld S u → Holds S (on_as_held_of f o u)
+as_held_of_holds S f None u h = h
+as_held_of_holds S f (Some w) u h = copied_holds S f w w.copied u h
+
+pub on_as_held_holds : (S : ℕ → Type 0) (f : Frame) (serial n : ℕ) (u : Users) → AllHeld S u → Holds S (on_as_held f serial n u)
+on_as_held_holds S f serial n u h = as_held_of_holds S f (first_that (asks_held_number serial n) u.waiting) u h
 
 close_done_of_holds : (S : ℕ → Type 0) (f : Frame) (serial : ℕ) (a : CloseAnswer) (o : Option WaitingCall) (u : Users) → AllHeld S u → Holds S (on_close_done_of f serial a o u)
 close_done_of_holds S f serial a None u h = h

@@ -16,14 +16,14 @@ use Rattle.wire_messages.specs.Bodies.{kind_number}
 use Rattle.wire_messages.specs.declared.body.Body.{Body}
 use Rattle.wire_messages.specs.declared.body.Body.TheVariants as body
 use Rattle.wire_messages.specs.declared.packet.Packet.{Packet}
-use Rattle.role_steps.specs.Adoption.{notes_own_at, copy_adopted, table_group, with_store, without_pull, is_ready, is_above_own, adopts_pull, adopts_first}
+use Rattle.role_steps.specs.Adoption.{notes_own_at, table_group, without_pull, is_ready, adopts_pull, adopts_first, with_adopted, fits_own}
 use Rattle.role_steps.specs.Epochs.{is_epoch_below, frame_in, leaves_of, leaves, promises, reached, begins_round, starts_part_of, starts_part, starts_merge, promise_packet, refuse_packet, on_poll, on_promise_of, on_refuse_of, own_groups, is_sync_site, joins, may_install, is_in, joined_packet, on_install, on_joined, passed_over, unanswered, chosen_members, chosen_set, decides_if, passes_over_of, passes_over}
 use Rattle.role_steps.specs.Looks.{LookRequest}
 use Rattle.role_steps.specs.Mends.{has_mend_in, wants_mend, starts_mend_of, starts_mend, starts_mends_in}
 use Rattle.role_steps.specs.Opens.{OpenRequest, on_opened}
 use Rattle.role_steps.specs.Own.{Every}
 use Rattle.role_steps.specs.Reports.{new_table, on_open, on_look, on_have_of, on_report, on_closed, on_have}
-use Rattle.role_steps.specs.Storage.{copy_of, with_copy}
+use Rattle.role_steps.specs.Storage.{copy_of}
 use Rattle.role_steps.specs.Tables.{row, without_row, first_that}
 use Rattle.role_steps.specs.Versions.{file_row}
 use Rattle.role_steps.specs.Views.{Frame, SiteView, Told, Event, Calls, Receives, Ticks, Parts, Merges, GivesUp, Outcome, quiet, sends, and_then, boot_in, is_member, members_of, pack_sites, all_sites, first_site, sync_site}
@@ -101,9 +101,9 @@ module _ (c : Config) (me : ℕ) (named : EpochId → ℕ → Serial → Type 0)
   adoption_stays : (f : Frame) (ps : List Pull) (v : SiteView) → f.me ≡ me → Stays v (adopts_first f ps v).view
   adoption_stays f [] v own = λ ts. ts
   adoption_stays f (p ∷ ps) v own =
-      elim (is_ready v p) as (λ t. Stays v (elim t as (λ (z : Bool). Outcome SiteView) [ true ↦ elim (is_above_own p (copy_of v.store p.file)) [ true ↦ adopts_pull f p v | false ↦ adopts_first f ps (without_pull p v) ] | false ↦ adopts_first f ps v ]).view) [
-        | true ↦ elim (is_above_own p (copy_of v.store p.file)) as (λ t. Stays v (elim t as (λ (z : Bool). Outcome SiteView) [ true ↦ adopts_pull f p v | false ↦ adopts_first f ps (without_pull p v) ]).view) [
-          | true ↦ λ ts. noted_stays f p (row table_group p.file.group v.tables) (without_pull p (with_store v (with_copy (copy_adopted p) v.store))) v.epoch own refl (row_found (In v.epoch) table_group p.file.group v.tables ts) ts
+      elim (is_ready v p) as (λ t. Stays v (elim t as (λ (z : Bool). Outcome SiteView) [ true ↦ elim (fits_own p (copy_of v.store p.file)) [ true ↦ adopts_pull f p v | false ↦ adopts_first f ps (without_pull p v) ] | false ↦ adopts_first f ps v ]).view) [
+        | true ↦ elim (fits_own p (copy_of v.store p.file)) as (λ t. Stays v (elim t as (λ (z : Bool). Outcome SiteView) [ true ↦ adopts_pull f p v | false ↦ adopts_first f ps (without_pull p v) ]).view) [
+          | true ↦ λ ts. noted_stays f p (row table_group p.file.group v.tables) (with_adopted p v) v.epoch own refl (row_found (In v.epoch) table_group p.file.group v.tables ts) ts
           | false ↦ adoption_stays f ps (without_pull p v) own
         ]
         | false ↦ adoption_stays f ps v own
@@ -116,6 +116,7 @@ module _ (c : Config) (me : ℕ) (named : EpochId → ℕ → Serial → Type 0)
   tries_stay : (x : Body) (v : SiteView) → Stays v (tries_at c me x v).view
   tries_stay (body.Notify file kind set size stamp vector holder) v = adopts_stay v.epoch v
   tries_stay (body.Page file stamp page bytes) v = adopts_stay v.epoch v
+  tries_stay (body.Delta file wanted pages) v = adopts_stay v.epoch v
   tries_stay _ v = λ ts. ts
 
   -- ---- mends ----
@@ -275,7 +276,9 @@ module _ (c : Config) (me : ℕ) (named : EpochId → ℕ → Serial → Type 0)
   takes_keeps links p (body.Opened inst answer) v is sent taken = framed_keeps p v.epoch v sent (ap (λ (y : Body). nat_lt (kind_number y) 6) is) taken refl
   takes_keeps links p (body.OpenDone serial answer) v is sent taken = framed_keeps p v.epoch v sent (ap (λ (y : Body). nat_lt (kind_number y) 6) is) taken refl
   takes_keeps links p (body.Op serial n o seen) v is sent taken = framed_keeps p v.epoch v sent (ap (λ (y : Body). nat_lt (kind_number y) 6) is) taken refl
+  takes_keeps links p (body.ReadHeld serial n at len) v is sent taken = framed_keeps p v.epoch v sent (ap (λ (y : Body). nat_lt (kind_number y) 6) is) taken refl
   takes_keeps links p (body.OpDone serial n result) v is sent taken = framed_keeps p v.epoch v sent (ap (λ (y : Body). nat_lt (kind_number y) 6) is) taken refl
+  takes_keeps links p (body.AsHeld serial n len) v is sent taken = framed_keeps p v.epoch v sent (ap (λ (y : Body). nat_lt (kind_number y) 6) is) taken refl
   takes_keeps links p (body.Close serial) v is sent taken = framed_keeps p v.epoch v sent (ap (λ (y : Body). nat_lt (kind_number y) 6) is) taken refl
   takes_keeps links p (body.Closed inst made) v is sent taken = framed_keeps p v.epoch v sent (ap (λ (y : Body). nat_lt (kind_number y) 6) is) taken refl
   takes_keeps links p (body.ClosedOk inst) v is sent taken = framed_keeps p v.epoch v sent (ap (λ (y : Body). nat_lt (kind_number y) 6) is) taken refl
@@ -285,7 +288,9 @@ module _ (c : Config) (me : ℕ) (named : EpochId → ℕ → Serial → Type 0)
   takes_keeps links p (body.LookDone call request take answer) v is sent taken = framed_keeps p v.epoch v sent (ap (λ (y : Body). nat_lt (kind_number y) 6) is) taken refl
   takes_keeps links p (body.Notify file kind set size stamp vector holder) v is sent taken = framed_keeps p v.epoch v sent (ap (λ (y : Body). nat_lt (kind_number y) 6) is) taken refl
   takes_keeps links p (body.Pull file stamp page) v is sent taken = framed_keeps p v.epoch v sent (ap (λ (y : Body). nat_lt (kind_number y) 6) is) taken refl
+  takes_keeps links p (body.Want file wanted own) v is sent taken = framed_keeps p v.epoch v sent (ap (λ (y : Body). nat_lt (kind_number y) 6) is) taken refl
   takes_keeps links p (body.Page file stamp page bytes) v is sent taken = framed_keeps p v.epoch v sent (ap (λ (y : Body). nat_lt (kind_number y) 6) is) taken refl
+  takes_keeps links p (body.Delta file wanted pages) v is sent taken = framed_keeps p v.epoch v sent (ap (λ (y : Body). nat_lt (kind_number y) 6) is) taken refl
   takes_keeps links p (body.Have file stamp) v is sent taken = framed_keeps p v.epoch v sent (ap (λ (y : Body). nat_lt (kind_number y) 6) is) taken refl
 
   whole_keeps : (links : Links) (v : SiteView) (o : Outcome SiteView) (tries : SiteView → Outcome SiteView) → Keeps v o → Stays o.view (tries o.view).view → Keeps v (whole c me links o tries)

@@ -2,7 +2,7 @@
 use Rattle.std.proofs.Common.{◌≡◌, ◌≢◌, ◌≤◌, ◌<◌, ℕ, zero, suc, ◌==◌, nat_lt, Bool, true, false, cond, List, [], ◌∷◌, filter, length, Option, None, Some, refl, sym, ◌∙◌, ap, subst, arith}
 use Rattle.std.specs.List.{AllByRecursion, list_any}
 use Rattle.role_steps.proofs.of_plain_facts.Numbers.{equal}
-use Rattle.role_steps.proofs.of_plain_facts.Tests.{and_first, false_true, or_first, or_other, or_second}
+use Rattle.role_steps.proofs.of_plain_facts.Tests.{false_true, or_first, or_other, or_second}
 use Rattle.locus_ids.specs.Sites.{has}
 use Rattle.locus_ids.specs.Sizes.{file_bytes_max}
 use Rattle.locus_ids.specs.declared.config.Config.{Config}
@@ -16,11 +16,10 @@ use Rattle.wire_messages.specs.declared.packet.Packet.{Packet}
 use Rattle.role_steps.specs.Epochs.{frame_in, passes_over}
 use Rattle.role_steps.specs.OperationEffects.{Mending}
 use Rattle.role_steps.specs.Own.{Every}
-use Rattle.role_steps.specs.Pulling.{is_complete}
 use Rattle.role_steps.specs.Views.{Event, Calls, Receives, Ticks, Parts, Merges, GivesUp, Frame, Store, SiteView, all_groups, pack_sites}
 use Rattle.role_steps.specs.declared.rounds.InEpoch.{InEpoch}
 use Rattle.role_steps.specs.declared.synchronizing.SyncTable.{SyncTable}
-use Rattle.the_run.specs.Steps.{is_dropped, step, takes}
+use Rattle.the_run.specs.Steps.{is_dropped, step, takes, takes_framed}
 use Rattle.the_run.specs.Worlds.{World, Line, Running, links_of, place_at}
 use Rattle.tree_model.specs.Files.{HeldVersion}
 use Rattle.packet_format_laws.proofs.of_make_laws.Happening.{taken_boot, taken_epoch}
@@ -31,10 +30,8 @@ use Rattle.tree_laws.specs.Packets.{BodyFact, PacketFact}
 use Rattle.packet_format_laws.specs.of_one_tree_laws.Places.{InsideFact, SiteFact, SiteIn}
 use Rattle.packet_format_laws.specs.of_one_tree_laws.Rest.{Past}
 use Rattle.packet_format_laws.proofs.of_one_tree_laws.Rising.{every_among}
-use Rattle.packet_format_laws.proofs.of_one_tree_laws.Run.{sent_fact}
 use Rattle.packet_format_laws.proofs.of_one_tree_laws.Steps.{to_boot}
 use Rattle.packet_format_laws.proofs.of_one_tree_laws.UserStepGroups.{packed_low}
-use Rattle.stored_versions.specs.Versions.{IsVersion}
 use Rattle.site_node.specs.of_site_packs.Packs.{groups_at}
 use Rattle.site_node.specs.of_site_parts.Fitting.{CanTakeAtStore}
 use Rattle.site_node.specs.of_site_parts.Roles.{mending_by}
@@ -43,17 +40,22 @@ use Rattle.site_node.specs.Fitting.{CanAct, CanAdopt, CanTakeIn, HasInodes, IsSh
 use Rattle.site_node.specs.Taking.{IsSpent, is_tried}
 use Rattle.packet_format_laws.specs.of_packet_fit_laws.Epochs.{NamesUpTo}
 use Rattle.calm_laws.specs.of_fit_laws.Pulling.{FitsPull}
+use Rattle.calm_laws.proofs.of_fit_laws.Tried.{IsTried}
 use Rattle.calm_laws.proofs.of_fit_laws.Opens.{body_opens}
 use Rattle.calm_laws.proofs.of_fit_laws.Storing.{store_fits}
 use Rattle.calm_laws.proofs.of_fit_laws.Tables.{site_tables}
-use Rattle.calm_laws.proofs.of_fit_laws.Working.{trace_works}
-use Rattle.complete_laws.specs.FitCallJoining.{HasGroups, pulled}
-use Rattle.complete_laws.proofs.FitCallAdopting.{room}
+use Rattle.calm_laws.proofs.of_rest_laws.of_work_laws.Working.{trace_works}
+use Rattle.calm_laws.proofs.of_rest_laws.of_one_tree_laws.Staying.{rest_below}
+use Rattle.complete_laws.specs.FitCallJoining.{HasGroups}
+use Rattle.complete_laws.proofs.FitCallAdopting.{keeps}
 use Rattle.complete_laws.proofs.FitCallAgreeing.{kinds_now}
 use Rattle.complete_laws.proofs.FitCallJoining.{body_joins}
 use Rattle.complete_laws.proofs.FitCallTaking.{takes_at}
 use Rattle.complete_laws.specs.MomentMoments.{IsMoment, MayCome}
-use Rattle.complete_laws.proofs.MomentPulls.{noticed_pulls, paged_pulls, site_pulls}
+use Rattle.packet_format_laws.proofs.of_one_tree_laws.Run.{arrives_fact}
+use Rattle.packet_format_laws.proofs.of_rest_laws.Roles.{roles_do}
+use Rattle.packet_format_laws.specs.of_one_tree_laws.Wants.{Arrives}
+use Rattle.complete_laws.proofs.MomentPulls.{site_pulls, tried_pulls}
 use Rattle.complete_laws.proofs.MomentTables.{OfInodes, adopts_keep, leaves_keep, passes_keep, starts_merge_keeps, starts_part_keeps, takes_inodes, tries_keep}
 
 -- ---- the packs of a site ----
@@ -91,18 +93,15 @@ inodes_of v h = all_of AreInodes v.tables h
 
 -- ---- pulls ----
 
-can_adopt : (c : Config) → length c.packs ≤ 4 → (s : ℕ) (v : SiteView) → Every (FitsPull c s) v.pulls → CanAdopt (groups_at c s) v
-can_adopt c few s v fit p among ready =
-    let k : FitsPull c s p = every_among (FitsPull c s) p v.pulls among fit in
-    let whole : length p.content ≡ p.size = equal (length p.content) p.size (and_first (is_complete p) _ ready) in
-    record { group = has_groups c few s p.file.group k.packed; low = k.number.0; high = k.number.1; version = subst (IsVersion (pulled p)) (sym whole) k.version; room = room v p ready }
+can_adopt : (c : Config) → length c.packs ≤ 4 → (s : ℕ) (v : SiteView) → Every (FitsPull c s v.store) v.pulls → CanAdopt (groups_at c s) v
+can_adopt c few s v fit p among = keeps c s (groups_at c s) (has_groups c few s) v p (every_among (FitsPull c s v.store) p v.pulls among fit)
 
 -- ---- a packet ----
 
 -- a notice is of a version that stands, and none is longer than a call can make it
 short_of : (c : Config) (t : List Line) → Past c t → (p : Packet) (b : Body) → BodyFact c t p b → IsShort b
 short_of c t past p (body.Notify file kind set size stamp vector holder) k =
-    subst (λ (n : ℕ). n ≤ file_bytes_max) (ap (λ (v : HeldVersion). length v.content) (sym k.is_version.same) ∙ k.size_is) ((trace_works c t past.followed past.rest.each).0 file k.version.stamp)
+    subst (λ (n : ℕ). n ≤ file_bytes_max) (ap (λ (v : HeldVersion). length v.content) (sym k.is_version.same) ∙ k.size_is) ((trace_works c t past.followed (rest_below c t past.rest)).0 file k.version.stamp)
 short_of c t past p _ k = tt
 
 -- only what comes in an epoch is for the storage site
@@ -119,9 +118,12 @@ spent_never (body.Refuse promised) k e = over promised.number k.1 e
     over n l e = omega (arith, l, e)
 spent_never _ k e = absurd e
 
-module _ (c : Config) (few : length c.packs ≤ 4) (w : World) (moment : IsMoment c w) (p : Packet) (v : SiteView) (here : place_at w p.to ≡ Some (Running v)) (it : PacketFact c w.trace p) (packed : BodyPacked c p.from p.to p.body) (taken : is_dropped p v ≡ false) where
+module _ (c : Config) (few : length c.packs ≤ 4) (w : World) (moment : IsMoment c w) (p : Packet) (v : SiteView) (here : place_at w p.to ≡ Some (Running v)) (comes : Arrives c w.trace p v) (packed : BodyPacked c p.from p.to p.body) (taken : is_dropped p v ≡ false) where
   fact : SiteFact c p.to w.trace v
   fact = moment.fact.places p.to (Running v) here
+
+  it : PacketFact c w.trace p
+  it = comes.fact
 
   stores : (e : InEpoch) → v.epoch ≡ Some e → nat_lt (kind_number p.body) 6 ≡ false → CanTakeAtStore (frame_in c p.to v.boot e) (mending_by v.tables v.users v.store) v.tables (groups_at c p.to) p.to p.from p.body v.store
   stores e at inner = takes_at c (frame_in c p.to v.boot e) (groups_at c p.to) (has_groups c few p.to) v.tables (site_tables c p.to w.trace v v.epoch moment.past.rest.each fact) v.store
@@ -147,13 +149,17 @@ module _ (c : Config) (few : length c.packs ≤ 4) (w : World) (moment : IsMomen
   view_packed : Every (PullPacked c p.to) v.pulls
   view_packed = (moment.packed.views p.to v here).pulls
 
-  tried_pulls : (links : Links) (b : Body) → p.body ≡ b → is_tried b ≡ true → Every (FitsPull c p.to) (takes c p.to links p b v).view.pulls
-  tried_pulls links (body.Notify file kind set size stamp vector holder) is e = noticed_pulls c w.trace moment.past links p v fact it packed view_packed file kind set size stamp vector holder is v.epoch
-  tried_pulls links (body.Page file stamp page bytes) is e = paged_pulls c w.trace moment.past links p v fact it packed view_packed file stamp page bytes is v.epoch
-  tried_pulls links _ is e = absurd (false_true e)
+  fits : (b : Body) → p.body ≡ b → IsTried b → CanAdopt (groups_at c p.to) (takes_framed c p.to p v.epoch v).view
+  fits b is tried = can_adopt c few p.to (takes_framed c p.to p v.epoch v).view (tried_pulls c w.trace moment.past (roles_do c few) p v fact comes taken packed view_packed b is tried)
+
+  tries : (links : Links) (b : Body) → p.body ≡ b → is_tried b ≡ true → CanAdopt (groups_at c p.to) (takes c p.to links p b v).view
+  tries links (body.Notify file kind set size stamp vector holder) is e = fits (body.Notify file kind set size stamp vector holder) is tt
+  tries links (body.Page file stamp page bytes) is e = fits (body.Page file stamp page bytes) is tt
+  tries links (body.Delta file wanted pages) is e = fits (body.Delta file wanted pages) is tt
+  tries links _ is e = absurd (false_true e)
 
   pub packet_tried : (links : Links) → is_tried p.body ≡ true → CanAdopt (groups_at c p.to) (takes c p.to links p p.body v).view
-  packet_tried links tried = can_adopt c few p.to (takes c p.to links p p.body v).view (tried_pulls links p.body refl tried)
+  packet_tried links = tries links p.body refl
 
   pub packet_mended : (links : Links) → HasInodes (passes_over c p.to links (acted c p.to links v (Receives p))).view.tables
   packet_mended links = inodes_of (passes_over c p.to links (acted c p.to links v (Receives p))).view
@@ -187,9 +193,9 @@ module _ (c : Config) (few : length c.packs ≤ 4) (s : ℕ) (w : World) (v : Si
   by_event Merges may sends = record { taking = tt; adopting = tt; mending = mended (acted c s links v Merges) (starts_merge_keeps s links v own); numbering = promised_low; sending = sends }
   by_event GivesUp may sends = record { taking = tt; adopting = tt; mending = mended (acted c s links v GivesUp) (leaves_keep s v own); numbering = tt; sending = sends }
   by_event (Receives p) may sends = record {
-    taking = λ taken. subst (λ (t : ℕ). CanTakeIn c t (groups_at c t) t p.from p.body v v.epoch) to (packet_taken c few w moment p v there it packed taken);
-    adopting = λ taken tried. subst (λ (t : ℕ). CanAdopt (groups_at c t) (takes c t links p p.body v).view) to (packet_tried c few w moment p v there it packed taken links tried);
-    mending = λ taken. subst (λ (t : ℕ). HasInodes (passes_over c t links (acted c t links v (Receives p))).view.tables) to (packet_mended c few w moment p v there it packed taken links);
+    taking = λ taken. subst (λ (t : ℕ). CanTakeIn c t (groups_at c t) t p.from p.body v v.epoch) to (packet_taken c few w moment p v there comes packed taken);
+    adopting = λ taken tried. subst (λ (t : ℕ). CanAdopt (groups_at c t) (takes c t links p p.body v).view) to (packet_tried c few w moment p v there comes packed taken links tried);
+    mending = λ taken. subst (λ (t : ℕ). HasInodes (passes_over c t links (acted c t links v (Receives p))).view.tables) to (packet_mended c few w moment p v there comes packed taken links);
     numbering = spent_never p.body (subst (λ (q : Packet). NamesUpTo 134479872 q.body) is (moment.named may.0 may.1).1);
     sending = sends;
   }
@@ -203,8 +209,11 @@ module _ (c : Config) (few : length c.packs ≤ 4) (s : ℕ) (w : World) (v : Si
       there : place_at w p.to ≡ Some (Running v)
       there = subst (λ (t : ℕ). place_at w t ≡ Some (Running v)) (sym to) here
 
-      it : PacketFact c w.trace p
-      it = subst (PacketFact c w.trace) is (sent_fact c w may.0 moment.fact may.1)
+      there_sent : place_at w may.0.packet.to ≡ Some (Running v)
+      there_sent = subst (λ (q : Packet). place_at w q.to ≡ Some (Running v)) (sym is) there
+
+      comes : Arrives c w.trace p v
+      comes = subst (λ (q : Packet). Arrives c w.trace q v) is (arrives_fact c w may.0 v moment.fact may.1 there_sent)
 
       packed : BodyPacked c p.from p.to p.body
       packed = subst (PacketPacked c) is (sent_packed c w may.0 may.1 moment.packed)

@@ -50,7 +50,9 @@ use Rattle.site_node.specs.of_site_parts.Fitting.{CanTakeAtStore}
 use Rattle.calm_laws.proofs.of_fit_laws.Opens.{named_sited, run_opens}
 use Rattle.calm_laws.proofs.of_fit_laws.Running.{run_inside, run_storable}
 use Rattle.calm_laws.proofs.of_fit_laws.Tables.{past_of_run, run_tables, world_of}
-use Rattle.calm_laws.proofs.of_fit_laws.Working.{AreSized, trace_works}
+use Rattle.calm_laws.specs.of_fit_laws.of_rest_laws.of_work_laws.Working.{AreSized}
+use Rattle.calm_laws.proofs.of_rest_laws.of_work_laws.Working.{trace_works}
+use Rattle.calm_laws.proofs.of_rest_laws.of_one_tree_laws.Staying.{rest_below}
 use Rattle.complete_laws.specs.FitCallJoining.{HasGroups, KindsAgree, KindsIf, KindsIfMend}
 use Rattle.complete_laws.proofs.FitCallTaking.{JoinsBody, JoinsNext, takes_at}
 
@@ -81,7 +83,7 @@ module _ (c : Config) (t : List Line) (past : Past c t) (few : length c.packs �
   joins_mend n seen (inl (r, done)) kinds i e q next = (let k : InstanceFact c t f i × (i.inst ≡ inst) = found_instance c t f v.store inside.store inst small i e in absurd (done_not_next n op.Mend r i k.0 k.1 (running i q k.0) next done))
   joins_mend n seen (inr now) kinds i e q next =
       let works : MendsAs c t f i.file m = mends_as c t f v past inside few inst small i e now.call now.inside now.asks in
-      subst AreJoinable (sym works.contents) (joinable (history c (entries t)) (trace_works c t past.followed past.rest.each).0 i.file (kept_of (history c (entries t)) (tree_of c f.epoch i.file.group (entries t)) i.file) (subst KindsAgree works.contents kinds))
+      subst AreJoinable (sym works.contents) (joinable (history c (entries t)) (trace_works c t past.followed (rest_below c t past.rest)).0 i.file (kept_of (history c (entries t)) (tree_of c f.epoch i.file.group (entries t)) i.file) (subst KindsAgree works.contents kinds))
 
   joins_next : (n : ℕ) (o : Op) (seen : List ℕ) → OpFact c t f.epoch f.me inst n o seen → KindsIf m o → JoinsNext v.store m inst n o
   joins_next n op.Mend seen fact kinds = λ i e q next. joins_mend n seen fact kinds i e q next

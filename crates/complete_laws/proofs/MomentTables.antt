@@ -19,13 +19,13 @@ use Rattle.wire_messages.specs.declared.body.MadeVersion.{MadeVersion}
 use Rattle.wire_messages.specs.declared.body.ReportedCopy.{ReportedCopy}
 use Rattle.wire_messages.specs.Bodies.{kind_number}
 use Rattle.wire_messages.specs.declared.packet.Packet.{Packet}
-use Rattle.role_steps.specs.Adoption.{adopts_first, adopts_pull, is_above_own, is_ready, notes_own_at, table_group, with_store, without_pull, copy_adopted}
+use Rattle.role_steps.specs.Adoption.{adopts_first, adopts_pull, is_ready, notes_own_at, table_group, without_pull, with_adopted, fits_own}
 use Rattle.role_steps.specs.Epochs.{begins_round, boots_where, joined_packet, promise_packet, refuse_packet, chosen_members, chosen_set, decides_if, frame_in, is_epoch_below, is_in, is_sync_site, joins, leaves_of, may_install, merge_boot, on_install, on_joined, on_poll, on_promise_of, on_refuse_of, own_groups, part_boot, passed_over, passes_over, passes_over_of, promises, reached, starts_merge, starts_part, starts_part_of, unanswered, leaves}
 use Rattle.role_steps.specs.Opens.{open_key, open_row}
 use Rattle.role_steps.specs.Own.{Every}
 use Rattle.role_steps.specs.Reports.{new_table, on_closed, on_have_of, on_report}
 use Rattle.role_steps.specs.Versions.{file_row}
-use Rattle.role_steps.specs.Storage.{copy_of, with_copy}
+use Rattle.role_steps.specs.Storage.{copy_of}
 use Rattle.role_steps.specs.Tables.{first_that, row, without_row}
 use Rattle.role_steps.specs.Views.{Frame, Outcome, Shown, SiteView, Told, Begins, and_then, quiet, sends, serial_key}
 use Rattle.role_steps.specs.declared.pulls.Pull.{Pull}
@@ -147,7 +147,9 @@ module _ (c : Config) (t : List Line) (past : Past c t) (agree : InstancesAgree 
   inside_inodes p (body.Opened inst answer) at k = plainly _ (first_that (is_opened_in inst) v.tables) (λ tab. on_opened_files f inst answer tab) (λ tab e. first_among (is_opened_in inst) v.tables tab e)
   inside_inodes p (body.OpenDone serial answer) at k = h
   inside_inodes p (body.Op serial n o seen) at k = h
+  inside_inodes p (body.ReadHeld serial n from len) at k = h
   inside_inodes p (body.OpDone serial n result) at k = h
+  inside_inodes p (body.AsHeld serial n len) at k = h
   inside_inodes p (body.Close serial) at k = h
   inside_inodes p (body.Closed inst made) at k = at_table_keeps _ (first_that (is_opened_in inst) v.tables) v (λ tab e. close_keeps c t past agree f inside.frame tab (fact_of tab (first_among (is_opened_in inst) v.tables tab e)) p.from inst made
       (subst (λ (x : EpochId). ClosedFact c t x p.from inst made) at k) (rows_of tab (first_among (is_opened_in inst) v.tables tab e))) h
@@ -158,7 +160,9 @@ module _ (c : Config) (t : List Line) (past : Past c t) (agree : InstancesAgree 
   inside_inodes p (body.LookDone call request take answer) at k = h
   inside_inodes p (body.Notify file kind set size stamp vector holder) at k = h
   inside_inodes p (body.Pull file stamp page) at k = h
+  inside_inodes p (body.Want file wanted own) at k = h
   inside_inodes p (body.Page file stamp page bytes) at k = h
+  inside_inodes p (body.Delta file wanted pages) at k = h
   inside_inodes p (body.Have file stamp) at k = at_table_keeps _ (row table_group file.group v.tables) v (λ tab e. have_rows p.from stamp file.ino tab (rows_of tab (at_group file.group tab e).0)) h
   inside_inodes p body.Poll at k = h
   inside_inodes p (body.Promise reach) at k = h
@@ -252,11 +256,11 @@ noted_keeps f p (Some tab) v found h =
     (rows_out (on_have_of f.me p.stamp (file_row tab p.file.ino) tab) (have_rows f.me p.stamp p.file.ino tab (rows_in tab (every_among AreInodes tab v.tables (found tab refl) h)))) h
 
 pull_keeps : (f : Frame) (p : Pull) (v : SiteView) → Keeps v (adopts_pull f p v)
-pull_keeps f p v h = noted_keeps f p (row table_group p.file.group v.tables) (without_pull p (with_store v (with_copy (copy_adopted p) v.store))) (λ tab e. (row_key table_group p.file.group v.tables tab e).0) h
+pull_keeps f p v h = noted_keeps f p (row table_group p.file.group v.tables) (with_adopted p v) (λ tab e. (row_key table_group p.file.group v.tables tab e).0) h
 
 first_keeps : (f : Frame) (ps : List Pull) (v : SiteView) → Keeps v (adopts_first f ps v)
 first_keeps f [] v h = h
-first_keeps f (p ∷ ps) v h = over (is_ready v p) (is_above_own p (copy_of v.store p.file)) (first_keeps f ps v h) (first_keeps f ps (without_pull p v) h)
+first_keeps f (p ∷ ps) v h = over (is_ready v p) (fits_own p (copy_of v.store p.file)) (first_keeps f ps v h) (first_keeps f ps (without_pull p v) h)
   where
     over : (a b : Bool) → OfInodes (adopts_first f ps v).view → OfInodes (adopts_first f ps (without_pull p v)).view → OfInodes (elim a as (λ (x : Bool). Outcome SiteView) [ true ↦ elim b as (λ (y : Bool). Outcome SiteView) [ true ↦ adopts_pull f p v | false ↦ adopts_first f ps (without_pull p v) ] | false ↦ adopts_first f ps v ]).view
     over true true k l = pull_keeps f p v h
@@ -273,6 +277,7 @@ adopts_keep c me v h = over v.epoch
 pub tries_keep : (c : Config) (me : ℕ) (b : Body) (v : SiteView) → Keeps v (tries_at c me b v)
 tries_keep c me (body.Notify file kind set size stamp vector holder) v h = adopts_keep c me v h
 tries_keep c me (body.Page file stamp page bytes) v h = adopts_keep c me v h
+tries_keep c me (body.Delta file wanted pages) v h = adopts_keep c me v h
 tries_keep c me _ v h = h
 
 -- ---- a packet that isn't dropped ----
@@ -298,7 +303,9 @@ module _ (c : Config) (t : List Line) (past : Past c t) (agree : InstancesAgree 
   takes_inodes (body.Opened inst answer) is = framed (body.Opened inst answer) is refl v.epoch refl
   takes_inodes (body.OpenDone serial answer) is = framed (body.OpenDone serial answer) is refl v.epoch refl
   takes_inodes (body.Op serial n o seen) is = framed (body.Op serial n o seen) is refl v.epoch refl
+  takes_inodes (body.ReadHeld serial n at len) is = framed (body.ReadHeld serial n at len) is refl v.epoch refl
   takes_inodes (body.OpDone serial n result) is = framed (body.OpDone serial n result) is refl v.epoch refl
+  takes_inodes (body.AsHeld serial n len) is = framed (body.AsHeld serial n len) is refl v.epoch refl
   takes_inodes (body.Close serial) is = framed (body.Close serial) is refl v.epoch refl
   takes_inodes (body.Closed inst made) is = framed (body.Closed inst made) is refl v.epoch refl
   takes_inodes (body.ClosedOk inst) is = framed (body.ClosedOk inst) is refl v.epoch refl
@@ -308,5 +315,7 @@ module _ (c : Config) (t : List Line) (past : Past c t) (agree : InstancesAgree 
   takes_inodes (body.LookDone call request take answer) is = framed (body.LookDone call request take answer) is refl v.epoch refl
   takes_inodes (body.Notify file kind set size stamp vector holder) is = framed (body.Notify file kind set size stamp vector holder) is refl v.epoch refl
   takes_inodes (body.Pull file stamp page) is = framed (body.Pull file stamp page) is refl v.epoch refl
+  takes_inodes (body.Want file wanted own) is = framed (body.Want file wanted own) is refl v.epoch refl
   takes_inodes (body.Page file stamp page bytes) is = framed (body.Page file stamp page bytes) is refl v.epoch refl
+  takes_inodes (body.Delta file wanted pages) is = framed (body.Delta file wanted pages) is refl v.epoch refl
   takes_inodes (body.Have file stamp) is = framed (body.Have file stamp) is refl v.epoch refl

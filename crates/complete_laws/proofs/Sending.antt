@@ -1,5 +1,5 @@
 -- All that the events of a line send is of the format, where its counts are of their sizes.
-use Rattle.std.proofs.Common.{◌≡◌, ◌≤◌, ℕ, ◌+◌, false, List, [], ◌∷◌, ◌++◌, length, Option, Some, subst}
+use Rattle.std.proofs.Common.{◌≡◌, ◌≤◌, ℕ, ◌+◌, false, List, [], ◌∷◌, ◌++◌, length, Option, Some, sym, ap, subst, ◌∙◌}
 use Rattle.std.specs.List.{AllByRecursion}
 use Rattle.locus_ids.specs.declared.config.Config.{Config}
 use Rattle.schedule_lines.specs.declared.line.Line.{Line as LineWords}
@@ -15,8 +15,8 @@ use Rattle.packet_format_laws.specs.of_row_laws.ByLine.{IsLine}
 use Rattle.packet_format_laws.specs.of_row_laws.Voids.{LinesFit}
 use Rattle.packet_format_laws.specs.of_order_laws.Joining.{PacksAreOfSites}
 use Rattle.packet_format_laws.specs.of_one_tree_laws.Roles.{EventFact}
-use Rattle.packet_format_laws.proofs.of_one_tree_laws.Run.{sent_fact}
-use Rattle.tree_laws.specs.Packets.{PacketFact}
+use Rattle.packet_format_laws.proofs.of_one_tree_laws.Run.{arrives_fact}
+use Rattle.packet_format_laws.specs.of_one_tree_laws.Wants.{Arrives}
 use Rattle.packet_format_laws.proofs.of_rest_laws.Roles.{roles_do}
 use Rattle.packet_format_laws.proofs.Run.{PacketsStand, kept_stand, packets_fit_now, run_stands}
 use Rattle.site_node.specs.of_packet_order.Counts.{FitsIfCounted}
@@ -41,7 +41,10 @@ may_in c w s GivesUp m = tt
 
 brings : (c : Config) (w : World) (s : ℕ) (v : SiteView) (e : Event) → ComesInTime c s e w → place_at w s ≡ Some (Running v) → EventFact c w.trace s v e
 brings c w s v (Calls process words) comes here = record { fits = comes.1.0; idle = subst (λ (o : Option Place). is_busy process o ≡ false) here comes.1.1 }
-brings c w s v (Receives p) comes here = (comes.1.3, subst (PacketFact c w.trace) comes.1.2 (sent_fact c w comes.1.0 comes.0.fact comes.1.1))
+brings c w s v (Receives p) comes here = (
+  comes.1.3,
+  subst (λ (q : Packet). Arrives c w.trace q v) comes.1.2 (arrives_fact c w comes.1.0 v comes.0.fact comes.1.1 (subst (λ (n : ℕ). place_at w n ≡ Some (Running v)) (sym (ap (λ (q : Packet). q.to) comes.1.2 ∙ comes.1.3)) here)),
+)
 brings c w s v Ticks comes here = tt
 brings c w s v Parts comes here = tt
 brings c w s v Merges comes here = tt

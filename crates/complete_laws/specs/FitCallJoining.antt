@@ -6,7 +6,6 @@ use Rattle.trace_book.specs.declared.operation.Op.{Op}
 use Rattle.trace_book.specs.declared.operation.Op.TheVariants as op
 use Rattle.wire_messages.specs.declared.body.Body.{Body}
 use Rattle.wire_messages.specs.declared.body.Body.TheVariants as body
-use Rattle.stored_versions.specs.declared.new_version.NewVersion.{NewVersion}
 use Rattle.packet_format_laws.specs.of_operation_effects.Joinable.{AreJoinable}
 use Rattle.dir_format.specs.Contents.{entries_of}
 use Rattle.dir_reconcile.specs.Joins.{AgreeOnKinds}
@@ -14,7 +13,6 @@ use Rattle.role_steps.specs.Mends.{mending}
 use Rattle.role_steps.specs.OperationEffects.{Mending, joined_contents}
 use Rattle.role_steps.specs.Storage.{instance_of}
 use Rattle.role_steps.specs.Views.{SiteView}
-use Rattle.role_steps.specs.declared.pulls.Pull.{Pull}
 use Rattle.the_run.specs.Steps.{from_user, group_of}
 use Rattle.packet_format_laws.specs.of_pack_laws.Packs.{HasPack}
 use Rattle.site_node.specs.of_site_packs.Packs.{has_group}
@@ -31,10 +29,6 @@ JoinsIf m _ = Unit {0}
 abbrev pub JoinsIfMend : (Serial → Mending) → ℕ → Body → Type 0
 JoinsIfMend m from (body.Op serial n o seen) = JoinsIf (m (from_user from serial)) o
 JoinsIfMend m from _ = Unit {0}
-
--- what is pulled, as packs are given it
-abbrev pub pulled : Pull → NewVersion
-pulled p = record { kind = p.kind; set = p.set; stamp = p.stamp; vector = p.vector }
 
 -- an inode that several of the contents have has one kind
 abbrev pub KindsAgree : List (List ℕ) → Type 0

@@ -17,11 +17,11 @@ ghost use Rattle.locus_ids.specs.Sizes.{pack_pages};
 ghost use Rattle.schedule_lines.specs.declared.line.ScheduleLine.{ScheduleLine};
 ghost use Rattle.wire_messages.specs.declared.body.Body.{Body};
 ghost use Rattle.file_content.specs.Pages.{pages_of};
-ghost use Rattle.role_steps.specs.Adoption.{is_ready};
+ghost use Rattle.role_steps.specs.Adoption.{fits_own, is_ready};
 ghost use Rattle.role_steps.specs.Epochs.{frame_in};
 ghost use Rattle.role_steps.specs.Mends.{mending};
 ghost use Rattle.role_steps.specs.OperationEffects.{Mending};
-ghost use Rattle.role_steps.specs.Storage.{copy_pages, instance_of};
+ghost use Rattle.role_steps.specs.Storage.{copy_of, instance_of};
 ghost use Rattle.role_steps.specs.Tables.{total};
 ghost use Rattle.role_steps.specs.Views.{Frame, SiteView};
 ghost use Rattle.role_steps.specs.declared.pulls.Pull.{Pull};
@@ -34,10 +34,9 @@ ghost use Rattle.packet_format_laws.specs.of_row_laws.Voids.{LinesFit};
 ghost use Rattle.tree_laws.specs.Following.{IsFollowed};
 ghost use Rattle.packet_format_laws.specs.of_order_laws.Joining.{PacksAreOfSites};
 ghost use Rattle.packet_format_laws.specs.of_one_tree_laws.Places.{InsideFact};
-ghost use Rattle.site_node.specs.of_site_packs.Committing.{IsWholeFit};
-ghost use Rattle.site_node.specs.of_site_packs.Packs.{PacksState, groups_of};
+ghost use Rattle.site_node.specs.Fitting.{CanKeep};
 ghost use Rattle.site_node.specs.of_site_parts.Fitting.{CanTakeAtStore};
-ghost use Rattle.complete_laws.specs.FitCallJoining.{HasGroups, JoinsIfMend, KindsIfMend, pulled};
+ghost use Rattle.complete_laws.specs.FitCallJoining.{HasGroups, JoinsIfMend, KindsIfMend};
 
 /// After every schedule, what any packet that was sent asks of the storage site of a running site in an epoch, with packs of its groups, may
 /// be taken there: an open is of a site, and a commit and a close have what may be stored, and room. Of a mend the tables that it rests on are
@@ -47,10 +46,10 @@ pub fn no_call_is_unfit()
         (groups : List ℕ) → HasGroups c x.packet.to groups → (m : Serial → Mending) → JoinsIfMend m x.packet.from x.packet.body → CanTakeAtStore (frame_in c x.packet.to v.boot e) m v.tables groups x.packet.to x.packet.from x.packet.body v.store }
 {}
 
-/// After every schedule, what a running site pulls, once it is ready, may be kept in its packs and has room there.
+/// After every schedule, what a running site pulls, once it is ready and fits the own copy, may be kept in its packs and has room there.
 pub fn no_adoption_is_unfit()
-    ensures { (c : Config) (lines : List ScheduleLine) → LinesFit c lines → PacksAreOfSites c → length c.packs ≤ 4 → (s : ℕ) (v : SiteView) (e : InEpoch) → place_at (run_in c lines) s ≡ Some (Running v) → v.epoch ≡ Some e → (p : Pull) → Among p v.pulls → is_ready v p ≡ true →
-        (packs : PacksState) → HasGroups c s (groups_of packs) → IsWholeFit packs p.file (pulled p) (length p.content) × (pages_of (length p.content) ≤ pack_pages - total (copy_pages p.file.group) v.store.copies) }
+    ensures { (c : Config) (lines : List ScheduleLine) → LinesFit c lines → PacksAreOfSites c → length c.packs ≤ 4 → (s : ℕ) (v : SiteView) (e : InEpoch) → place_at (run_in c lines) s ≡ Some (Running v) → v.epoch ≡ Some e → (p : Pull) → Among p v.pulls → is_ready v p ≡ true → fits_own p (copy_of v.store p.file) ≡ true →
+        (groups : List ℕ) → HasGroups c s groups → CanKeep groups v.store p }
 {}
 
 /// What a packet in the epoch of its site asks there may be taken with just what a mend works on there: its contents are no longer than files

@@ -1,42 +1,39 @@
 -- From one world of a run to a later one what a member has of a file only rises: what is above its later copy was above the one before.
-use Rattle.std.proofs.Common.{◌≡◌, ℕ, ◌<◌, Bool, true, false, not, ◌&&◌, List, [], ◌∷◌, ◌++◌, Option, Some, None, refl, sym, ◌∙◌, ap, subst}
+use Rattle.std.proofs.Common.{Bool, List, None, Option, Some, [], ap, false, not, refl, subst, sym, true, ℕ, ◌&&◌, ◌++◌, ◌<◌, ◌∙◌, ◌∷◌, ◌≡◌}
 use Rattle.std.specs.Option.{option_map}
+use Rattle.calm_laws.specs.Carrying.{frame_of}
+use Rattle.commit_graph.proofs.Names.{same_stamp_eq}
+use Rattle.commit_graph.specs.Vectors.{vector_of}
+use Rattle.commit_graph.specs.Versions.{is_ancestor, same_stamp}
+use Rattle.convergence_laws.specs.Offers.{is_above}
+use Rattle.locus_ids.specs.Sizes.{inode_span}
 use Rattle.locus_ids.specs.declared.config.Config.{Config}
 use Rattle.locus_ids.specs.declared.ids.EpochId.{EpochId}
 use Rattle.locus_ids.specs.declared.ids.FileId.{FileId}
 use Rattle.locus_ids.specs.declared.ids.Stamp.{Stamp}
-use Rattle.locus_ids.specs.Sizes.{inode_span}
-use Rattle.commit_graph.specs.Vectors.{vector_of}
-use Rattle.commit_graph.specs.Versions.{same_stamp, is_ancestor}
-use Rattle.commit_graph.proofs.Names.{same_stamp_eq}
-use Rattle.role_steps.specs.Storage.{copy_of}
-use Rattle.role_steps.specs.Versions.{is_below}
-use Rattle.role_steps.specs.Views.{SiteView}
-use Rattle.role_steps.specs.declared.copies.FileCopy.{FileCopy}
-use Rattle.role_steps.specs.declared.rounds.InEpoch.{InEpoch}
-use Rattle.the_run.specs.Worlds.{World, Running, Line, place_at}
-use Rattle.pull_laws.proofs.of_sync_laws.Orderly.{below_through}
-use Rattle.tree_model.specs.Files.{version_of}
-use Rattle.tree_model.specs.Histories.{history, held}
-use Rattle.tree_laws.specs.Instances.{HasAtLeast, Stands, held_in}
-use Rattle.tree_laws.specs.Printed.{entries}
-use Rattle.tree_laws.specs.Stores.{copy_for}
-use Rattle.tree_laws.proofs.Histories.{stands_more, vector_same}
-use Rattle.tree_laws.proofs.Rows.{followed_rows}
 use Rattle.pull_laws.proofs.of_holding_laws.Ancestors.{ancestor_own}
 use Rattle.pull_laws.proofs.of_holding_laws.Below.{commits_new, packs_hold}
 use Rattle.pull_laws.proofs.of_holding_laws.Holding.{sites_hold}
 use Rattle.pull_laws.proofs.of_holding_laws.Made.{held_stand}
 use Rattle.pull_laws.proofs.of_holding_laws.Rising.{held_rises}
-use Rattle.pull_laws.specs.of_one_tree_laws.Places.{InsideFact}
-use Rattle.pull_laws.specs.of_one_tree_laws.Rest.{IsRest, Past}
 use Rattle.pull_laws.proofs.of_one_tree_laws.Staying.{rest_below}
 use Rattle.pull_laws.proofs.of_one_tree_laws.ToldVectorTelling.{vectors_tell_newer}
-use Rattle.orderly_laws.specs.Calm.{AreTogether}
-use Rattle.calm_laws.specs.Carrying.{IsMember, frame_of}
-use Rattle.calm_laws.proofs.Delivered.{inside_fact}
-use Rattle.calm_laws.proofs.Facts.{RoundFacts}
-use Rattle.convergence_laws.specs.Offers.{is_above}
+use Rattle.pull_laws.proofs.of_sync_laws.Orderly.{below_through}
+use Rattle.pull_laws.specs.of_one_tree_laws.Places.{InsideFact}
+use Rattle.pull_laws.specs.of_one_tree_laws.Rest.{IsRest, Past}
+use Rattle.role_steps.specs.Storage.{copy_of}
+use Rattle.role_steps.specs.Versions.{is_below}
+use Rattle.role_steps.specs.Views.{SiteView}
+use Rattle.role_steps.specs.declared.copies.FileCopy.{FileCopy}
+use Rattle.role_steps.specs.declared.rounds.InEpoch.{InEpoch}
+use Rattle.the_run.specs.Worlds.{Line, World}
+use Rattle.tree_laws.proofs.Histories.{stands_more, vector_same}
+use Rattle.tree_laws.proofs.Rows.{followed_rows}
+use Rattle.tree_laws.specs.Instances.{HasAtLeast, Stands, held_in}
+use Rattle.tree_laws.specs.Printed.{entries}
+use Rattle.tree_laws.specs.Stores.{copy_for}
+use Rattle.tree_model.specs.Files.{version_of}
+use Rattle.tree_model.specs.Histories.{held, history}
 
 -- ---- by the trace ----
 
@@ -62,40 +59,35 @@ later c (x ∷ xs) old past e s f stamp stands has =
 abbrev pub RisesTo : Option FileCopy → Option FileCopy → Type 0
 RisesTo old new = (vector : List ℕ) → is_above vector new ≡ true → is_above vector old ≡ true
 
-past_in : (c : Config) (w : World) → RoundFacts c w → Past c w.trace
-past_in c w facts = record { followed = facts.fact.followed; rest = facts.rest }
-
 -- what a member has, by the trace
-pub copy_held : (c : Config) (e : InEpoch) (w : World) (s : ℕ) (v : SiteView) (f : FileId) → RoundFacts c w → AreTogether w e → IsMember e s → place_at w s ≡ Some (Running v) → f.ino < inode_span →
-    copy_of v.store f ≡ option_map (copy_for f) (option_map (version_of c (entries w.trace) f) (held_in c (entries w.trace) e.id s f))
-copy_held c e w s v f facts together m here low = inside.store.copies.are f low ∙ ap (λ (o : Option Stamp). option_map (copy_for f) (option_map (version_of c (entries w.trace) f) o)) (sym now)
+pub copy_held : (c : Config) (e : InEpoch) (s : ℕ) (v : SiteView) (f : FileId) (t : List Line) → Past c t → InsideFact c (frame_of c e s) t v → f.ino < inode_span → copy_of v.store f ≡ option_map (copy_for f) (option_map (version_of c (entries t) f) (held_in c (entries t) e.id s f))
+copy_held c e s v f t past inside low = inside.store.copies.are f low ∙ ap (λ (o : Option Stamp). option_map (copy_for f) (option_map (version_of c (entries t) f) o)) (sym now)
   where
-    inside : InsideFact c (frame_of c e s) w.trace v
-    inside = inside_fact c e w s v facts.fact together m here
+    now : held_in c (entries t) e.id s f ≡ held c (entries t) s f
+    now = (sites_hold c (entries t) (packs_hold c t (rest_below c t past.rest).packed)).now e.id s f inside.frame.inside
 
-    now : held_in c (entries w.trace) e.id s f ≡ held c (entries w.trace) s f
-    now = (sites_hold c (entries w.trace) (packs_hold c w.trace (rest_below c w.trace facts.rest).packed)).now e.id s f inside.frame.inside
-
-pub copies_rise : (c : Config) (e : InEpoch) (w u : World) (lines : List Line) (s : ℕ) (v y : SiteView) (f : FileId) → RoundFacts c w → RoundFacts c u → u.trace ≡ lines ++ w.trace → AreTogether w e → AreTogether u e → IsMember e s →
-    place_at w s ≡ Some (Running v) → place_at u s ≡ Some (Running y) → f.ino < inode_span → RisesTo (copy_of v.store f) (copy_of y.store f)
-copies_rise c e w u lines s v y f old new goes before after m was here low = by_held (held_in c (entries w.trace) e.id s f) refl
+pub copies_rise : (c : Config) (e : InEpoch) (w u : World) (lines : List Line) (s : ℕ) (v y : SiteView) (f : FileId) → Past c w.trace → Past c u.trace → u.trace ≡ lines ++ w.trace → InsideFact c (frame_of c e s) w.trace v → InsideFact c (frame_of c e s) u.trace y → f.ino < inode_span → RisesTo (copy_of v.store f) (copy_of y.store f)
+copies_rise c e w u lines s v y f old past goes mine after low = by_held (held_in c (entries w.trace) e.id s f) refl
   where
-    past : Past c u.trace
-    past = past_in c u new
+    is_old : copy_of v.store f ≡ option_map (copy_for f) (option_map (version_of c (entries w.trace) f) (held_in c (entries w.trace) e.id s f))
+    is_old = copy_held c e s v f w.trace old mine low
+
+    is_new : copy_of y.store f ≡ option_map (copy_for f) (option_map (version_of c (entries u.trace) f) (held_in c (entries u.trace) e.id s f))
+    is_new = copy_held c e s y f u.trace past after low
 
     by_held : (o : Option Stamp) → held_in c (entries w.trace) e.id s f ≡ o → RisesTo (copy_of v.store f) (copy_of y.store f)
-    by_held None is vector h = ap (is_above vector) (copy_held c e w s v f old before m was low ∙ ap (λ (o : Option Stamp). option_map (copy_for f) (option_map (version_of c (entries w.trace) f) o)) is)
-    by_held (Some stamp) is vector h = ap (is_above vector) (copy_held c e w s v f old before m was low ∙ ap (λ (o : Option Stamp). option_map (copy_for f) (option_map (version_of c (entries w.trace) f) o)) is) ∙ by_stamp (same_stamp stamp k.has.now) refl
+    by_held None is vector h = ap (is_above vector) (is_old ∙ ap (λ (o : Option Stamp). option_map (copy_for f) (option_map (version_of c (entries w.trace) f) o)) is)
+    by_held (Some stamp) is vector h = ap (is_above vector) (is_old ∙ ap (λ (o : Option Stamp). option_map (copy_for f) (option_map (version_of c (entries w.trace) f) o)) is) ∙ by_stamp (same_stamp stamp k.has.now) refl
       where
         stands : Stands c w.trace f stamp
-        stands = held_stand c (entries w.trace) (followed_rows c w.trace old.fact.followed) e.id f s stamp is
+        stands = held_stand c (entries w.trace) (followed_rows c w.trace old.followed) e.id f s stamp is
 
         k : Later c w.trace u.trace e.id s f stamp
         k = subst (λ (t : List Line). Later c w.trace t e.id s f stamp) (sym goes)
             (later c lines w.trace (subst (Past c) goes past) e.id s f stamp stands (record { now = stamp; held = is; above = ancestor_own (history c (entries w.trace)) f stamp }))
 
         then : is_below (vector_of (history c (entries u.trace)) f k.has.now) vector ≡ true
-        then = sym (ap (is_above vector) (copy_held c e u s y f new after m here low ∙ ap (λ (o : Option Stamp). option_map (copy_for f) (option_map (version_of c (entries u.trace) f) o)) k.has.held)) ∙ h
+        then = sym (ap (is_above vector) (is_new ∙ ap (λ (o : Option Stamp). option_map (copy_for f) (option_map (version_of c (entries u.trace) f) o)) k.has.held)) ∙ h
 
         now_stands : Stands c u.trace f k.has.now
         now_stands = held_stand c (entries u.trace) (followed_rows c u.trace past.followed) e.id f s k.has.now k.has.held

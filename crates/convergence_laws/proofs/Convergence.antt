@@ -1,280 +1,235 @@
--- Two calm rounds, of which the second stands directly after the first: a version that is on its way after the second's ticks stays so
--- through each delivery, and at its end it is held.
-use Rattle.std.proofs.Common.{◌≡◌, ℕ, zero, suc, ◌≤◌, ◌<◌, nat_le, ◌⊎◌, Bool, true, false, List, length, Option, Some, None, refl, sym, ◌∙◌, ap, subst, inl, inr, arith}
-use Rattle.role_steps.proofs.of_plain_facts.Tests.{true_false}
+-- Two calm rounds with any lines between them: in the first a member pulls the only kept version of a file that nobody has open, and in the
+-- second it adopts it, or lacks room for it.
+use Rattle.std.proofs.Common.{Bool, List, None, Some, [], arith, false, inl, inr, length, refl, subst, suc, sym, take, true, zero, ℕ, ◌++◌, ◌+◌, ◌-◌, ◌<◌, ◌∙◌, ◌∷◌, ◌≡◌, ◌≤◌, ◌⊎◌, ap, map}
+use Rattle.calm_laws.proofs.Calm.{calm_in_round}
+use Rattle.calm_laws.proofs.Delivered.{inside_fact}
+use Rattle.calm_laws.proofs.Facts.{RoundFacts, round_facts}
+use Rattle.calm_laws.proofs.Limits.{line_there, take_fit}
+use Rattle.calm_laws.proofs.Lists.{every_among, row_key}
+use Rattle.calm_laws.proofs.Members.{sync_is}
+use Rattle.calm_laws.proofs.Moments.{GoesOn, goes_itself, goes_round_kept}
+use Rattle.calm_laws.proofs.Rounds.{delivered_kept, delivered_then}
+use Rattle.calm_laws.proofs.Ticks.{over_round}
+use Rattle.calm_laws.proofs.of_orderly_traces.Spans.{world}
+use Rattle.calm_laws.proofs.of_rest_laws.Roles.{roles_do}
+use Rattle.calm_laws.specs.Carrying.{IsMember, frame_of}
+use Rattle.calm_laws.specs.Rounds.{CalmLeft, after}
+use Rattle.commit_graph.specs.Versions.{content_of}
+use Rattle.convergence_laws.proofs.Between.{Base, Course, IsReady, Since}
+use Rattle.convergence_laws.proofs.BetweenLines.{since_line}
+use Rattle.convergence_laws.proofs.Due.{HasIt, IsDueTo}
+use Rattle.convergence_laws.proofs.Late.{between_course, due_first, due_late, rests_begun}
+use Rattle.convergence_laws.proofs.Midst.{Midst, midst_in, past_of_round, pull_in}
+use Rattle.convergence_laws.proofs.PulledEnd.{IsShutAt, free_at_end, pulled_whole}
+use Rattle.convergence_laws.proofs.Reached.{has_or_pulls}
+use Rattle.convergence_laws.proofs.Reaching.{PullsIt, due_rests}
+use Rattle.convergence_laws.proofs.Ready.{adopted_at_end}
+use Rattle.convergence_laws.proofs.Resting.{RestsBy, last_offer}
+use Rattle.convergence_laws.proofs.Starting.{round_ends, within_after}
+use Rattle.convergence_laws.proofs.Vectors.{rising_few}
+use Rattle.convergence_laws.specs.Copies.{HoldsTheOnly, IsOnlyKept}
+use Rattle.convergence_laws.specs.Offers.{Offer, is_above, offer_of}
+use Rattle.convergence_laws.specs.Rounds.{AreCalmRounds, CopiesConverge, IsAtRest, LackedRoom}
+use Rattle.epoch_laws.proofs.Run.{run_good}
+use Rattle.file_content.specs.Pages.{pages_of}
+use Rattle.lawful_trace.specs.Places.{line_at, lines_before}
+use Rattle.locus_ids.specs.Sites.{has}
 use Rattle.locus_ids.specs.declared.config.Config.{Config}
 use Rattle.locus_ids.specs.declared.ids.FileId.{FileId}
-use Rattle.locus_ids.specs.Sizes.{inode_span}
-use Rattle.schedule_lines.specs.declared.line.ScheduleLine.{ScheduleLine}
-use Rattle.file_content.specs.Pages.{pages_of}
-use Rattle.wire_messages.specs.declared.body.Body.{Body}
-use Rattle.wire_messages.specs.declared.body.Body.TheVariants as body
-use Rattle.role_steps.specs.Own.{Every}
-use Rattle.role_steps.specs.Adoption.{has_mend}
-use Rattle.role_steps.specs.Storage.{copy_of, has_open, free_pages}
-use Rattle.role_steps.specs.Versions.{holders_of, is_among}
-use Rattle.epoch_laws.specs.Known.{Good}
-use Rattle.epoch_laws.proofs.Run.{run_good}
+use Rattle.locus_ids.specs.declared.ids.Stamp.{Stamp}
+use Rattle.locus_ids.specs.declared.sites.Sites.{Sites}
+use Rattle.orderly_laws.proofs.Places.{view_eq}
+use Rattle.orderly_laws.proofs.Rounds.{ticks_kept}
+use Rattle.orderly_laws.specs.Calm.{AreTogether, IsInside}
+use Rattle.pull_laws.proofs.Ascending.{ascend_kept, first_ascend}
+use Rattle.pull_laws.proofs.Falling.{past_earlier, stands_later}
+use Rattle.pull_laws.proofs.of_one_tree_laws.Run.{run_holds}
+use Rattle.pull_laws.proofs.of_one_tree_laws.Staying.{stays}
+use Rattle.pull_laws.proofs.of_sync_laws.Versions.{row_size}
+use Rattle.pull_laws.specs.Pulls.{PullsAscend}
+use Rattle.pull_laws.specs.of_one_tree_laws.Places.{InsideFact}
+use Rattle.pull_laws.specs.of_one_tree_laws.Rest.{Past}
+use Rattle.pull_laws.specs.of_one_tree_laws.Roles.{RolesDo}
+use Rattle.pull_laws.specs.of_row_laws.Voids.{LinesFit}
+use Rattle.role_steps.specs.Adoption.{table_group}
+use Rattle.role_steps.specs.Pulling.{wanted_pages}
+use Rattle.role_steps.specs.Storage.{copy_of}
+use Rattle.role_steps.specs.Versions.{row_ino}
 use Rattle.role_steps.specs.Views.{SiteView, all_sites}
+use Rattle.role_steps.specs.declared.pulls.Pull.{Pull}
 use Rattle.role_steps.specs.declared.rounds.InEpoch.{InEpoch}
+use Rattle.role_steps.specs.declared.synchronizing.FileRow.{FileRow}
+use Rattle.role_steps.specs.declared.synchronizing.SyncTable.{SyncTable}
 use Rattle.role_steps.specs.declared.synchronizing.VersionRow.{VersionRow}
+use Rattle.schedule_lines.specs.declared.line.Line.TheVariants as line
+use Rattle.schedule_lines.specs.declared.line.ScheduleLine.{ScheduleLine}
+use Rattle.schedule_lines.specs.declared.line.ScheduleLine.TheVariants.{Event}
+use Rattle.the_run.proofs.Runs.{every_run}
 use Rattle.the_run.specs.Kept.{Among}
-use Rattle.the_run.specs.Runs.{arrives, next_packet, ticks_to, run_in}
-use Rattle.the_run.specs.Worlds.{World, Running, Numbered, place_at}
-use Rattle.lawful_trace.specs.Places.{lines_before}
-use Rattle.pull_laws.specs.of_make_laws.Made.{NumberedSender, WorldSent}
-use Rattle.pull_laws.proofs.of_make_laws.SendersRun.{sent_kept, first_sent}
-use Rattle.orderly_laws.specs.Calm.{IsInside, AreTogether, delivers_next}
-use Rattle.orderly_laws.proofs.Rounds.{next_among}
-use Rattle.calm_laws.specs.Carrying.{IsMember}
-use Rattle.calm_laws.specs.Rounds.{after, IsInRound, Delivery, IsCalm, CalmLeft}
-use Rattle.calm_laws.proofs.Calm.{calm_in_round}
-use Rattle.calm_laws.proofs.Members.{sync_is}
-use Rattle.calm_laws.proofs.Rounds.{in_round, one_more}
-use Rattle.calm_laws.proofs.Ticks.{no_round, sites_apart}
-use Rattle.convergence_laws.specs.Copies.{HoldsTheOnly}
-use Rattle.convergence_laws.specs.Rounds.{IsMoment, LackedRoom, IsLate, CopiesConverge}
-use Rattle.convergence_laws.specs.Offers.{is_above, IsPulled, IsDue, HasEnough, HasPulled, Offer, is_for, names_to, names, named, IsToHold, IsFree, IsOnItsWay}
-use Rattle.convergence_laws.proofs.Current.{current, member_ticked}
-use Rattle.convergence_laws.proofs.FreeClosed.{closed_first, closed_in_second}
-use Rattle.convergence_laws.proofs.FreeHeld.{held_late, holds_late}
-use Rattle.convergence_laws.proofs.FreeMend.{none_waits, mend_low}
-use Rattle.convergence_laws.proofs.FreeNone.{late_world, none_above}
-use Rattle.convergence_laws.proofs.FreeUsers.{Mends, mend_there}
-use Rattle.convergence_laws.proofs.Started.{started}
-use Rattle.convergence_laws.proofs.Starting.{second_begins, within_after}
-use Rattle.convergence_laws.proofs.Telling.{tables_tell}
-use Rattle.convergence_laws.proofs.Ticking.{ticked_keeps}
-use Rattle.convergence_laws.proofs.Noticing.{HasNotified, ticks_notify, named_to_hold}
-use Rattle.convergence_laws.specs.Converging.{GroupsHaveStarted, TellsHolders, NoneAbove, IsNotify, IsPage, IsPull, IsHave, IsPlain, IsReport, IsOpened, MayCommit, MayPublish, FormsEpochs}
-use Rattle.convergence_laws.proofs.Coming.{Names, names_then}
-use Rattle.convergence_laws.proofs.Ending.{held_at_the_end}
-use Rattle.convergence_laws.proofs.Committing.{committing_goes_on}
-use Rattle.convergence_laws.proofs.Knowing.{only_narrow}
-use Rattle.convergence_laws.proofs.Passing.{PassesBy, IsPassed, taken_or_passed}
-use Rattle.convergence_laws.proofs.Plain.{plain_goes_on}
-use Rattle.convergence_laws.proofs.Publishing.{publishing_goes_on}
-use Rattle.convergence_laws.proofs.Forming.{forming_goes_on}
-use Rattle.convergence_laws.proofs.Tabled.{report_goes_on, opened_goes_on}
-use Rattle.convergence_laws.proofs.Copying.{notify_goes_on, page_goes_on, pull_goes_on, have_goes_on}
-use Rattle.convergence_laws.proofs.Pulled.{pulled}
-use Rattle.convergence_laws.proofs.Ways.{SameSite, way_stays}
+use Rattle.the_run.specs.Runs.{run_in, ticks_to}
+use Rattle.the_run.specs.Worlds.{Line, Running, World, place_at}
+use Rattle.tree_laws.proofs.Histories.{content_same}
+use Rattle.tree_laws.specs.Instances.{Stands}
+use Rattle.tree_laws.specs.Packets.{file_in}
+use Rattle.tree_laws.specs.Printed.{entries}
+use Rattle.tree_laws.specs.Stores.{PullFact}
+use Rattle.tree_laws.specs.Tables.{FileFact, TableFact, VersionFact}
+use Rattle.tree_model.specs.Files.{HeldVersion}
+use Rattle.tree_model.specs.Histories.{history}
 
--- ---- a packet that no member takes ----
+settles_there : (lines : List ScheduleLine) (n most : ℕ) → line_at lines n ≡ Event (line.Settle most) → n ≤ length lines
+settles_there lines zero most e = omega arith
+settles_there lines (suc k) most e = line_there lines k (line.Settle most) e
 
--- a version on its way stays so
-passes_on : (c : Config) (lines : List ScheduleLine) (n : ℕ) (e : InEpoch) (x : Numbered) (w : World) (s : ℕ) (file : FileId) (v : VersionRow) → IsInRound c lines n w → next_packet w ≡ Some x → AreTogether w e → IsMember e s → (is_for e s x.packet ≡ true → ⊥) → PassesBy c n e x w →
-    IsOnItsWay c e (place_at w) w.underway s file v → IsOnItsWay c e (place_at (arrives c n x w)) (arrives c n x w).underway s file v
-passes_on c lines n e x w s file v round next together m not_for k old = way_stays c e (place_at w) (place_at (arrives c n x w)) w.underway (arrives c n x w).underway s file v (named e s k.more) same hold (record { each = g.each; count = (let q : _ ≤ _ = g.count in omega (arith, q, none)) }) old
+-- a version that stands keeps its content
+contents_later : (c : Config) (new old : List Line) → Past c (new ++ old) → (f : FileId) (v : Stamp) → Stands c old f v → content_of (history c (entries (new ++ old))) f v ≡ content_of (history c (entries old)) f v
+contents_later c [] old p f v k = refl
+contents_later c (x ∷ xs) old p f v k = content_same c x.number x.told (xs ++ old) f v p.rest.each.0.fresh (stands_later c xs old f v k) ∙ contents_later c xs old (past_earlier c (x ∷ []) (xs ++ old) p) f v k
+
+-- what the synchronization site knows of the only kept version
+kept_fact : (c : Config) (e : InEpoch) (w : World) → RoundFacts c w → AreTogether w e → (file : FileId) (v : VersionRow) (set : Sites) → IsOnlyKept c e (place_at w) file v set → VersionFact c w.trace file v
+kept_fact c e w facts together file v set h = subst (λ (f : FileId). VersionFact c w.trace f v) is_file (every_among (VersionFact c w.trace (file_in t.group r.ino)) v r.kept (subst (λ (vs : List VersionRow). Among v vs) (sym h.only) (inl refl)) of_row.keeps)
   where
-    i : IsInside w e s
-    i = together.inside s m
+    r : FileRow
+    r = h.file_known
 
-    same : SameSite (place_at w) (place_at (arrives c n x w)) s
-    same = record { before = i.view; was = i.here; after = i.view; here = k.same s m ∙ i.here; copies = refl; pulls = refl }
+    t : SyncTable
+    t = h.known.table
 
-    hold : (d : Offer) → IsToHold c e (place_at (arrives c n x w)) s d → IsToHold c e (place_at w) s d
-    hold d h = record {
-      file_known = h.file_known;
-      known = record { css = h.known.css; synced = h.known.synced; view = h.known.view; here = sym (k.same h.known.css (sync_is c e d.file.group h.known.css h.known.synced).1) ∙ h.known.here; table = h.known.table; found = h.known.found; is_row = h.known.is_row };
-      version = h.version;
-      only = h.only;
-      stamp = h.stamp;
-      vector = h.vector;
-      in_set = h.in_set;
-    }
+    inside : InsideFact c (frame_of c e h.known.css) w.trace h.known.view
+    inside = inside_fact c e w h.known.css h.known.view facts.fact together (sync_is c e file.group h.known.css h.known.synced).1 h.known.here
 
-    none : length (names e s x.packet) ≤ 0
-    none = over (is_for e s x.packet) refl
-      where
-        over : (b : Bool) → is_for e s x.packet ≡ b → length (names_to b x.packet.body) ≤ 0
-        over true h = absurd (not_for h)
-        over false h = omega arith
+    at_table : Among t h.known.view.tables × (t.group ≡ file.group)
+    at_table = row_key table_group file.group h.known.view.tables t h.known.found
 
-    g : Names e s x w.underway (arrives c n x w).underway k.more
-    g = names_then c lines n e s x w (arrives c n x w).underway k.more round (next_among w w.over x next) k.underway
+    at_row : Among r t.files × (r.ino ≡ file.ino)
+    at_row = row_key row_ino file.ino t.files r h.known.is_row
 
--- ---- one delivery ----
+    fact : TableFact c w.trace (frame_of c e h.known.css) t
+    fact = every_among (TableFact c w.trace (frame_of c e h.known.css)) t h.known.view.tables at_table.0 inside.tables
 
-by_kind : (c : Config) (lines : List ScheduleLine) (n : ℕ) (e : InEpoch) (x : Numbered) (w : World) (s : ℕ) (file : FileId) (v : VersionRow) → file.ino < inode_span → Delivery c lines n e x w → IsMember e s → GroupsHaveStarted e (place_at w) → NoneAbove e (place_at w) w.underway s file v → IsFree (place_at w) s file v →
-    IsOnItsWay c e (place_at w) w.underway s file v → IsOnItsWay c e (place_at (arrives c n x w)) (arrives c n x w).underway s file v
-by_kind c lines n e x w s file v narrow d m started none free old = over x.packet.body refl
-  where
-    over : (b : Body) → x.packet.body ≡ b → IsOnItsWay c e (place_at (arrives c n x w)) (arrives c n x w).underway s file v
-    over (body.Notify about what set size stamp vector holder) is = notify_goes_on c lines n e x w s file v d (subst IsNotify (sym is) tt) m started none free old
-    over (body.Page about stamp page bytes) is = page_goes_on c lines n e x w s file v d (subst IsPage (sym is) tt) m started none free old
-    over (body.Pull about stamp page) is = pull_goes_on c lines n e x w s file v d (subst IsPull (sym is) tt) m started none free old
-    over (body.Have about stamp) is = have_goes_on c lines n e x w s file v d (subst IsHave (sym is) tt) m started none free old
-    over (body.ReportOk group) is = plain_goes_on c lines n e x w s file v d (subst IsPlain (sym is) tt) m started none free old
-    over (body.Open serial call process request about how) is = plain_goes_on c lines n e x w s file v d (subst IsPlain (sym is) tt) m started none free old
-    over (body.OpenSs inst about mode set kind base vector parents) is = plain_goes_on c lines n e x w s file v d (subst IsPlain (sym is) tt) m started none free old
-    over (body.OpenDone serial answer) is = plain_goes_on c lines n e x w s file v d (subst IsPlain (sym is) tt) m started none free old
-    over (body.OpDone serial i result) is = plain_goes_on c lines n e x w s file v d (subst IsPlain (sym is) tt) m started none free old
-    over (body.ClosedOk inst) is = plain_goes_on c lines n e x w s file v d (subst IsPlain (sym is) tt) m started none free old
-    over (body.CloseDone serial answer) is = plain_goes_on c lines n e x w s file v d (subst IsPlain (sym is) tt) m started none free old
-    over (body.Look call process request take about what) is = plain_goes_on c lines n e x w s file v d (subst IsPlain (sym is) tt) m started none free old
-    over (body.LookSs us call process request take about what stamp) is = plain_goes_on c lines n e x w s file v d (subst IsPlain (sym is) tt) m started none free old
-    over (body.LookDone call request take answer) is = plain_goes_on c lines n e x w s file v d (subst IsPlain (sym is) tt) m started none free old
-    over (body.Report group copies) is = report_goes_on c lines n e x w s file v d (subst IsReport (sym is) tt) m started none free old
-    over (body.Opened inst answer) is = opened_goes_on c lines n e x w s file v d (subst IsOpened (sym is) tt) m started none free old
-    over (body.Op serial i o seen) is = committing_goes_on c lines n e x w s file v d (subst MayCommit (sym is) tt) m narrow free old
-    over (body.Close serial) is = committing_goes_on c lines n e x w s file v d (subst MayCommit (sym is) tt) m narrow free old
-    over (body.Closed inst made) is = publishing_goes_on c lines n e x w s file v d (subst MayPublish (sym is) tt) m started none free old
-    over body.Poll is = forming_goes_on c lines n e x w s file v d (subst FormsEpochs (sym is) tt) m started none free old
-    over (body.Promise reach) is = forming_goes_on c lines n e x w s file v d (subst FormsEpochs (sym is) tt) m started none free old
-    over (body.Refuse promised) is = forming_goes_on c lines n e x w s file v d (subst FormsEpochs (sym is) tt) m started none free old
-    over (body.Install members) is = forming_goes_on c lines n e x w s file v d (subst FormsEpochs (sym is) tt) m started none free old
-    over body.Joined is = forming_goes_on c lines n e x w s file v d (subst FormsEpochs (sym is) tt) m started none free old
+    of_row : FileFact c w.trace e.id t.group r
+    of_row = every_among (FileFact c w.trace e.id t.group) r t.files at_row.0 fact.rows
 
-one_delivery : (c : Config) (lines : List ScheduleLine) (n : ℕ) (e : InEpoch) (x : Numbered) (w : World) (s : ℕ) (file : FileId) (v : VersionRow) → file.ino < inode_span → IsInRound c lines n w → next_packet w ≡ Some x → IsInRound c lines n (arrives c n x w) → AreTogether w e → AreTogether (arrives c n x w) e → (arrives c n x w).over ≡ None → IsMember e s →
-    GroupsHaveStarted e (place_at w) → NoneAbove e (place_at w) w.underway s file v → IsFree (place_at w) s file v → IsOnItsWay c e (place_at w) w.underway s file v → IsOnItsWay c e (place_at (arrives c n x w)) (arrives c n x w).underway s file v
-one_delivery c lines n e x w s file v narrow round next follows before later within m started none free old = over (taken_or_passed c lines n e x w round next follows before later within)
-  where
-    over : Delivery c lines n e x w ⊎ IsPassed c n e x w → IsOnItsWay c e (place_at (arrives c n x w)) (arrives c n x w).underway s file v
-    over (inl d) = by_kind c lines n e x w s file v narrow d m started none free old
-    over (inr k) = passes_on c lines n e x w s file v round next before m (k.not_for s m) k.passes old
+    is_file : file_in t.group r.ino ≡ file
+    is_file = ap (λ (g : ℕ). file_in g r.ino) at_table.1 ∙ ap (λ (i : ℕ). file_in file.group i) at_row.1
 
--- ---- the deliveries of a round ----
+-- ---- where the first round has ended ----
+
+module _ (c : Config) (left : CalmLeft c) (lines : List ScheduleLine) (n m : ℕ) (e : InEpoch) (k l : ℕ) (file : FileId) (v : VersionRow) (set : Sites) (s : ℕ) (rest : IsAtRest c lines n m e k l file v set) (member : IsMember e s) (in_set : has set s ≡ true) where
+  abbrev rounds : AreCalmRounds c lines n m e k l
+  rounds = rest.rounds
+
+  abbrev first : World
+  first = after c lines n k
+
+  abbrev begun : World
+  begun = run_in c (lines_before lines m)
+
+  abbrev at : ℕ → World
+  at j = after c lines m j
+
+  due : IsDueTo c e first s (last_offer file v)
+  due = due_first c left lines n m e k l rounds file v set rest.kept rest.undisturbed.in_second s in_set rest.undisturbed.between member
+
+  ready_first : (z : SiteView) → place_at first s ≡ Some (Running z) → IsReady z file v
+  ready_first z here = over (has_or_pulls c lines n e k rounds.first file rest.undisturbed.in_first s member v due)
+    where
+      free : IsShutAt z file
+      free = free_at_end c left lines n e k rounds.first file rest.undisturbed.in_first s member v due z here
+
+      over : HasIt first s (last_offer file v) ⊎ PullsIt first s file v → IsReady z file v
+      over (inl h) = inl (ap (λ (y : SiteView). is_above v.vector (copy_of y.store file)) (view_eq (place_at first s) z h.view here h.here) ∙ h.low)
+      over (inr p) = (let same : p.view ≡ z = view_eq (place_at first s) p.view z p.here here in
+          subst (λ (y : SiteView). IsReady y file v) same (by_above (is_above v.vector (copy_of p.view.store file)) refl))
+        where
+          by_above : (b : Bool) → is_above v.vector (copy_of p.view.store file) ≡ b → IsReady p.view file v
+          by_above false low = inl low
+          by_above true above = (let same : p.view ≡ z = view_eq (place_at first s) p.view z p.here here in
+              let f : IsShutAt p.view file = subst (λ (y : SiteView). IsShutAt y file) (sym same) free in
+              inr (record { pulls = p.pulls; whole = pulled_whole c left lines n e k rounds.first file rest.undisturbed.in_first s member v due p above; closed = f.closed; unmended = f.unmended }))
+
+  -- ---- through the lines between ----
+
+  course : Course c e file v s first.trace begun.trace
+  course = between_course c left lines n m e k l rounds file v set rest.kept rest.undisturbed.in_second s in_set rest.undisturbed.between
+
+  fit : LinesFit c lines
+  fit = rounds.first.fit
+
+  roles : RolesDo c
+  roles = roles_do c rounds.first.groups
+
+  base : Base c (world c lines n)
+  base = (run_holds c (take n lines) (take_fit c lines n fit) roles (stays c), (run_good c (take n lines), every_run c PullsAscend (ascend_kept c) (first_ascend c) (take n lines)))
+
+  ends : world c lines n ≡ first
+  ends = round_ends c lines n e k rounds.first
+
+  since_first : Since c e file v s member first.trace begun.trace course (world c lines n)
+  since_first = record { back = []; since = ap (λ (w : World). w.trace) ends; state = λ ahead goes within u there. ready_first u (ap (λ (w : World). place_at w s) (sym ends) ∙ there) }
+
+  long : n + (m - 1 - n) ≤ length lines
+  long = (let low : n < m = rounds.order in let last : m ≤ length lines = settles_there lines m rounds.second.most rounds.second.settles in omega (arith, low, last))
+
+  since_begun : Base c (world c lines (n + (m - 1 - n))) × Since c e file v s member first.trace begun.trace course (world c lines (n + (m - 1 - n)))
+  since_begun = since_line c e file v s member first.trace begun.trace course lines fit roles n (m - 1 - n) long (base, since_first)
+
+  is_begun : world c lines (n + (m - 1 - n)) ≡ begun
+  is_begun = ap (world c lines) {x = n + (m - 1 - n)} {y = m - 1} (let low : n < m = rounds.order in omega (arith, low))
+
+  within_begun : begun.over ≡ None
+  within_begun = ticks_kept c m (λ (z : World). z.over ≡ None → begun.over ≡ None) (over_round c m begun) all_sites begun (λ z. z) (within_after c lines m e l rounds.second 0 (omega arith))
+
+  ready_begun : (i : IsInside begun e s) → IsReady i.view file v
+  ready_begun i = (subst (λ (w : World). Since c e file v s member first.trace begun.trace course w) is_begun since_begun.1).state [] refl within_begun i.view i.here
+
+  -- ---- the second round ----
+
+  rests_at_each : (j : ℕ) → j ≤ l → RestsBy c e file v s (at j).trace
+  rests_at_each j le = due_rests c e (at j) (round_facts c lines m (at j) (calm_in_round c lines m e l j rounds.second le)) rounds.second.groups (rounds.second.each j le) s file v (due_late c left lines n m e k l rounds file v set rest.kept rest.undisturbed.in_second s in_set j le) (rest.undisturbed.in_second (at j) (inr (j, le, refl)))
+
+  -- what is pulled of it are some of its pages
+  few_pages : (j : ℕ) → j ≤ l → (z : SiteView) (p : Pull) → place_at (at j) s ≡ Some (Running z) → Among p z.pulls → offer_of p ≡ last_offer file v → length (wanted_pages p) ≤ pages_of v.size
+  few_pages j le z p here a is = subst (λ (i : ℕ). length (wanted_pages p) ≤ pages_of i) size_is (rising_few (wanted_pages p) 0 (pages_of (length f.version.content)) f.rising f.inside)
+    where
+      k1 : Midst c e (at j)
+      k1 = midst_in c lines m e (at j) (calm_in_round c lines m e l j rounds.second le) (rounds.second.each j le)
+
+      f : PullFact c (at j).trace e.id s p
+      f = pull_in c e (at j) k1 s z member here p a
+
+      stamp_is : f.version.stamp ≡ v.stamp
+      stamp_is = f.stamp_is ∙ ap (λ (o : Offer). o.stamp) is
+
+      file_is : p.file ≡ file
+      file_is = ap (λ (o : Offer). o.file) is
+
+      goes : GoesOn (at j) (at l)
+      goes = subst (GoesOn (at j)) (sym (ap (λ (i : ℕ). after c lines m i) {x = l} {y = j + (l - j)} (omega (arith, le)) ∙ delivered_then c m j (l - j) (ticks_to c m all_sites begun)))
+          (delivered_kept c m (GoesOn (at j)) (goes_round_kept c m (at j)) (l - j) (at j) (goes_itself (at j)))
+
+      here_is : length f.version.content ≡ length (content_of (history c (entries (at j).trace)) file v.stamp)
+      here_is = ap (λ (y : HeldVersion). length y.content) f.is_version.same ∙ (ap (λ (g : FileId). length (content_of (history c (entries (at j).trace)) g f.version.stamp)) file_is ∙ ap (λ (g : Stamp). length (content_of (history c (entries (at j).trace)) file g)) stamp_is)
+
+      end_facts : RoundFacts c (at l)
+      end_facts = round_facts c lines m (at l) (calm_in_round c lines m e l l rounds.second (omega arith))
+
+      later_is : content_of (history c (entries (at l).trace)) file v.stamp ≡ content_of (history c (entries (at j).trace)) file v.stamp
+      later_is = subst (λ (t : List Line). content_of (history c (entries t)) file v.stamp ≡ content_of (history c (entries (at j).trace)) file v.stamp) (sym goes.trace)
+          (contents_later c goes.lines (at j).trace (subst (λ (t : List Line). Past c t) goes.trace (past_of_round c (at l) end_facts)) file v.stamp (rests_at_each j le).kept.stands)
+
+      end_fact : VersionFact c (at l).trace file v
+      end_fact = kept_fact c e (at l) end_facts (rounds.second.each l (omega arith)) file v set rest.kept
+
+      size_is : length f.version.content ≡ v.size
+      size_is = here_is ∙ (ap length (sym later_is) ∙ sym (row_size c (at l).trace file v end_fact))
+
+  pub converges : HoldsTheOnly (place_at (at l)) s file v ⊎ LackedRoom c lines m l s file v
+  converges = adopted_at_end c lines m e l rounds.second file v s member few_pages (rests_begun c left lines n m e k l rounds file v set rest.kept rest.undisturbed.in_second s in_set) rests_at_each i (ready_begun i)
+    where
+      i : IsInside begun e s
+      i = rounds.second.first.inside s member
 
 pub converge : (c : Config) → CalmLeft c → CopiesConverge c
-converge c calm_left lines n m e k l file v set rest s member in_set = at_the_end (way l (omega arith))
-  where
-    calm : IsCalm c lines m e l
-    calm = rest.rounds.second
-
-    first : World
-    first = run_in c (lines_before lines m)
-
-    begins : first ≡ after c lines n k
-    begins = second_begins c lines n m e k l rest.rounds
-
-    round : (j : ℕ) → j ≤ l → IsInRound c lines m (after c lines m j)
-    round j le = calm_in_round c lines m e l j calm le
-
-    narrow : file.ino < inode_span
-    narrow = only_narrow c lines m e (after c lines m l) (round l (omega arith)) (calm.each l (omega arith)) file rest.kept.file_known v rest.kept.known rest.kept.only
-
-    within : (j : ℕ) → j ≤ l → (after c lines m j).over ≡ None
-    within j le = within_after c lines m e l calm j le
-
-    groups : (j : ℕ) → j ≤ l → GroupsHaveStarted e (place_at (after c lines m j))
-    groups j le = started c calm_left lines n m e k l j rest.rounds le
-
-    notified : (t : ℕ) → IsMember e t → HasNotified c e (after c lines m 0) t
-    notified t i = ticks_notify c e m all_sites first (run_good c (lines_before lines m)) sites_apart (λ z a q. calm.first.inside z q) (λ z a q. (calm.each 0 (omega arith)).inside z q) (within 0 (omega arith)) t i (inl (calm.sites t i))
-
-    -- each version that is due is named by a notice under way
-    enough : HasEnough c e (place_at (after c lines m 0)) (after c lines m 0).underway s
-    enough = record { offers = named e s (after c lines m 0).underway; each = λ d h. due d h h.why; notices = omega arith }
-      where
-        w : World
-        w = after c lines m 0
-
-        to_hold : (d : Offer) → (v : SiteView) → place_at w s ≡ Some (Running v) → is_above d.vector (copy_of v.store d.file) ≡ true → IsToHold c e (place_at w) s d → Among d (named e s w.underway)
-        to_hold d v here above h =
-            let css : IsMember e h.known.css = (sync_is c e d.file.group h.known.css h.known.synced).1 in
-            let tells : TellsHolders e (place_at w) d.file h.file_known h.version = tables_tell c lines m e w (round 0 (omega arith)) (calm.each 0 (omega arith)) d.file h.file_known h.version h.known h.only in
-            named_to_hold c e w s d h member (calm.sites s member) (notified h.known.css css) (groups 0 (omega arith) h.known.css d.file.group h.known.view h.known.table css h.known.here h.known.found) tells.some_holder
-            (not_true (is_among s (holders_of h.file_known h.version.stamp)) (λ q. true_false (sym above ∙ (ap (λ (x : List ℕ). is_above x (copy_of v.store d.file)) (sym h.vector) ∙ tells.hold s v member q here))))
-          where
-            not_true : (b : Bool) → (b ≡ true → ⊥) → b ≡ false
-            not_true true f = absurd (f refl)
-            not_true false f = refl
-
-        due : (d : Offer) → (h : IsDue c e (place_at w) w.underway s d) → IsToHold c e (place_at w) s d ⊎ (IsPulled h.view d ⊎ Among d (named e s w.underway)) → Among d (named e s w.underway)
-        due d h (inl k) = to_hold d h.view h.here h.above k
-        due d h (inr (inl p)) =
-            to_hold d h.view h.here h.above (subst (λ (x : Offer). IsToHold c e (place_at w) s x) p.2
-            (current c lines n m e k l rest.rounds s h.view p.0 member h.here p.1 (subst (λ (x : Offer). is_above x.vector (copy_of h.view.store x.file) ≡ true) (sym p.2) h.above)))
-        due d h (inr (inr a)) = a
-
-    -- at some moment it had no room, it holds it at the end, or it is on its way
-    Way : ℕ → Type 0
-    Way j = LackedRoom c lines m l s file v ⊎ (HoldsTheOnly (place_at (after c lines m l)) s file v ⊎ (HasPulled (place_at (after c lines m j)) s file v × HasEnough c e (place_at (after c lines m j)) (after c lines m j).underway s))
-
-    -- a late world's view, where there is room, no instance of the file is open and no mend of it waits; or the version is had there
-    free_or_held : (w : World) → IsLate c lines n m k l w → IsMoment c lines m l w → (view : SiteView) → place_at w s ≡ Some (Running view) → has_open view.store file ≡ false → (Mends file view.users.waiting → is_above v.vector (copy_of view.store file) ≡ false) →
-        LackedRoom c lines m l s file v ⊎ (HoldsTheOnly (place_at (after c lines m l)) s file v ⊎ IsFree (place_at w) s file v)
-    free_or_held w late moment view here shut mended = by_room (nat_le (pages_of v.size) (free_pages view.store file.group)) refl
-      where
-        by_mend : nat_le (pages_of v.size) (free_pages view.store file.group) ≡ true → (b : Bool) → has_mend view.users file ≡ b → LackedRoom c lines m l s file v ⊎ (HoldsTheOnly (place_at (after c lines m l)) s file v ⊎ IsFree (place_at w) s file v)
-        by_mend room true q = inr (inl (held_late c calm_left lines n m e k l file v set s rest member in_set w late view here (mended (mend_there file view.users q))))
-        by_mend room false q = inr (inr (record { view = view; here = here; room = room; closed = shut; unmended = q }))
-
-        by_room : (b : Bool) → nat_le (pages_of v.size) (free_pages view.store file.group) ≡ b → LackedRoom c lines m l s file v ⊎ (HoldsTheOnly (place_at (after c lines m l)) s file v ⊎ IsFree (place_at w) s file v)
-        by_room true q = by_mend q (has_mend view.users file) refl
-        by_room false q = inl (w, moment, record { view = view; here = here; small = q })
-
-    none_over : (w : World) → IsLate c lines n m k l w → NoneAbove e (place_at w) w.underway s file v
-    none_over w late = none_above c calm_left lines n m e k l file v set s rest member in_set w (late_world c lines n m e k l w rest.rounds late)
-
-    held_then : (w : World) → IsLate c lines n m k l w → HoldsTheOnly (place_at w) s file v → HoldsTheOnly (place_at (after c lines m l)) s file v
-    held_then w late h = holds_late c calm_left lines n m e k l file v set s rest member in_set w late h
-
-    -- the ticks leave it held or pulled whole
-    begun : Way 0
-    begun = over (free_or_held last (inl refl) (inl (0, sym begins)) before.view before.here (closed_first c calm_left lines n m e k l file v set s rest member in_set before.view before.here) (λ q. absurd (none_waits c calm_left lines n m e k l file v set s rest member in_set before.view before.here q)))
-      where
-        last : World
-        last = after c lines n k
-
-        before : IsInside last e s
-        before = (rest.rounds.first.each k (omega arith)).inside s member
-
-        later : IsInside (after c lines m 0) e s
-        later = (calm.each 0 (omega arith)).inside s member
-
-        good : Good last
-        good = subst Good begins (run_good c (lines_before lines m))
-
-        start : HoldsTheOnly (place_at (after c lines m 0)) s file v ⊎ HasPulled (place_at (after c lines m 0)) s file v → Way 0
-        start (inl h) = inr (inl (held_then (after c lines m 0) (inr (0, omega arith, refl)) h))
-        start (inr h) = inr (inr (h, enough))
-
-        over : LackedRoom c lines m l s file v ⊎ (HoldsTheOnly (place_at (after c lines m l)) s file v ⊎ IsFree (place_at last) s file v) → Way 0
-        over (inl h) = inl h
-        over (inr (inl h)) = inr (inl h)
-        over (inr (inr free)) = start (ticked_keeps c e (place_at last) (place_at (after c lines m 0)) last.underway s file v before.view later.view before.here later.here (good.views s before.view before.here).tables (no_round last s before.view e good before.here before.epoch) before.epoch
-            (member_ticked c lines n m e k l rest.rounds s member before later.view later.here) free (none_over last (inl refl)) (pulled c calm_left lines n m e k l file v set s rest member in_set))
-
-    further : (j : ℕ) → suc j ≤ l → Way j → Way (suc j)
-    further j le (inl h) = inl h
-    further j le (inr (inl h)) = inr (inl h)
-    further j le (inr (inr old)) = by_free (free_or_held w late (inr (j, omega (arith, le), refl)) i.view i.here (closed_in_second c calm_left lines n m e k l file v set s rest member in_set j (omega (arith, le)) i.view i.here) (mend_low c calm_left lines n m e k l file v set s rest member in_set j (omega (arith, le)) i.view i.here))
-      where
-        w : World
-        w = after c lines m j
-
-        late : IsLate c lines n m k l w
-        late = inr (j, omega (arith, le), refl)
-
-        i : IsInside w e s
-        i = (calm.each j (omega (arith, le))).inside s member
-
-        by_way : IsOnItsWay c e (place_at (after c lines m (suc j))) (after c lines m (suc j)).underway s file v → Way (suc j)
-        by_way (inl h) = inr (inl (held_then (after c lines m (suc j)) (inr (suc j, le, refl)) h))
-        by_way (inr h) = inr (inr h)
-
-        by_next : IsFree (place_at w) s file v → (o : Option Numbered) → next_packet w ≡ o → after c lines m (suc j) ≡ delivers_next c m w (next_packet w) → Way (suc j)
-        by_next free None is eq = inr (inr (subst (λ (z : World). HasPulled (place_at z) s file v × HasEnough c e (place_at z) z.underway s) (sym (eq ∙ ap (delivers_next c m w) is)) old))
-        by_next free (Some x) is eq =
-            let now : after c lines m (suc j) ≡ arrives c m x w = eq ∙ ap (delivers_next c m w) is in
-            by_way (subst (λ (z : World). IsOnItsWay c e (place_at z) z.underway s file v) (sym now)
-            (one_delivery c lines m e x w s file v narrow (round j (omega (arith, le))) is (subst (λ (z : World). IsInRound c lines m z) now (round (suc j) le)) (calm.each j (omega (arith, le))) (subst (λ (z : World). AreTogether z e) now (calm.each (suc j) le)) (ap (λ (z : World). z.over) (sym now) ∙ within (suc j) le) member (groups j (omega (arith, le))) (none_over w late) free (inr old)))
-
-        by_free : LackedRoom c lines m l s file v ⊎ (HoldsTheOnly (place_at (after c lines m l)) s file v ⊎ IsFree (place_at w) s file v) → Way (suc j)
-        by_free (inl h) = inl h
-        by_free (inr (inl h)) = inr (inl h)
-        by_free (inr (inr free)) = by_next free (next_packet w) refl (one_more c m j (ticks_to c m all_sites first))
-
-    way : (j : ℕ) → j ≤ l → Way j
-    way zero le = begun
-    way (suc j) le = further j le (way j (omega (arith, le)))
-
-    senders : Every NumberedSender (after c lines m l).underway
-    senders = (in_round c WorldSent (sent_kept c) (first_sent c) lines m (after c lines m l) (round l (omega arith))).underway
-
-    at_the_end : Way l → HoldsTheOnly (place_at (after c lines m l)) s file v ⊎ LackedRoom c lines m l s file v
-    at_the_end (inl h) = inr h
-    at_the_end (inr (inl h)) = inl h
-    at_the_end (inr (inr h)) = inl (held_at_the_end c e (after c lines m l) s file v set (calm.each l (omega arith)) calm.reach calm.within calm.ended senders rest.kept member in_set (inr h))
+converge c left lines n m e k l file v set rest s member in_set = converges c left lines n m e k l file v set s rest member in_set

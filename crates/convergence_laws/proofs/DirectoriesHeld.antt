@@ -1,44 +1,45 @@
 -- At the end of a calm round a directory's synchronization site that has at least each known version of it holds the only kept one: no writer
 -- is ahead there, since nobody has a directory open.
-use Rattle.std.proofs.Common.{◌≡◌, ℕ, ◌⊎◌, true, List, [], ◌∷◌, Option, Some, refl, sym, ◌∙◌, ap, subst, inl, inr, arith}
+use Rattle.std.proofs.Common.{List, Option, Some, [], ap, arith, inl, inr, refl, subst, sym, true, ℕ, ◌∙◌, ◌∷◌, ◌≡◌, ◌⊎◌}
 use Rattle.std.proofs.lemmas.Bool.Decides.{nat_tests}
 use Rattle.std.specs.Option.{option_map}
+use Rattle.calm_laws.proofs.Delivered.{inside_fact}
+use Rattle.calm_laws.proofs.Facts.{RoundFacts, round_facts}
+use Rattle.calm_laws.specs.Carrying.{frame_of}
+use Rattle.calm_laws.specs.Rounds.{CalmLeft, IsCalm, IsInRound, after}
+use Rattle.convergence_laws.proofs.CommitsRising.{copy_held}
+use Rattle.convergence_laws.proofs.DirectoriesClosed.{grants_over, is_directory}
+use Rattle.convergence_laws.proofs.DirectoriesKept.{HasKnown}
+use Rattle.convergence_laws.proofs.DirectoriesUnflagged.{calm_world}
+use Rattle.convergence_laws.proofs.Knowing.{Known, kept_of_row, knows, only_fact, only_narrow}
+use Rattle.convergence_laws.proofs.Midst.{past_of_round}
+use Rattle.convergence_laws.proofs.Started.{all_started}
+use Rattle.convergence_laws.specs.Copies.{HoldsTheOnly, Knows}
 use Rattle.locus_ids.specs.declared.config.Config.{Config}
 use Rattle.locus_ids.specs.declared.ids.FileId.{FileId}
 use Rattle.locus_ids.specs.declared.ids.Serial.{Serial}
 use Rattle.locus_ids.specs.declared.ids.Stamp.{Stamp}
-use Rattle.schedule_lines.specs.declared.line.ScheduleLine.{ScheduleLine}
+use Rattle.orderly_laws.specs.Calm.{AreTogether}
+use Rattle.pull_laws.proofs.of_holding_laws.MendOnly.{only_had}
+use Rattle.pull_laws.proofs.of_holding_laws.Released.{released_shut}
+use Rattle.pull_laws.proofs.of_one_tree_laws.Staying.{rest_below}
+use Rattle.pull_laws.proofs.of_store_laws.Places.{GrantedSo, instance_granted}
+use Rattle.pull_laws.proofs.of_sync_laws.Notices.{kept_is_known}
 use Rattle.role_steps.specs.Mends.{is_dir}
 use Rattle.role_steps.specs.declared.rounds.InEpoch.{InEpoch}
 use Rattle.role_steps.specs.declared.synchronizing.FileRow.{FileRow}
 use Rattle.role_steps.specs.declared.synchronizing.VersionRow.{VersionRow}
+use Rattle.schedule_lines.specs.declared.line.ScheduleLine.{ScheduleLine}
 use Rattle.the_run.specs.Worlds.{World, place_at}
-use Rattle.tree_model.specs.declared.instance.Instance.{Instance}
-use Rattle.tree_model.specs.Files.{HeldVersion, version_of}
-use Rattle.tree_model.specs.State.{has_stamp}
-use Rattle.tree_model.specs.Tree.{kept_in}
 use Rattle.tree_laws.specs.Instances.{IsKnown, held_in}
 use Rattle.tree_laws.specs.Past.{WasGranted}
 use Rattle.tree_laws.specs.Printed.{entries}
 use Rattle.tree_laws.specs.Stores.{copy_for}
 use Rattle.tree_laws.specs.Tables.{IsAhead, VersionFact}
-use Rattle.pull_laws.proofs.of_sync_laws.Notices.{kept_is_known}
-use Rattle.pull_laws.proofs.of_holding_laws.MendOnly.{only_had}
-use Rattle.pull_laws.proofs.of_holding_laws.Released.{released_shut}
-use Rattle.pull_laws.proofs.of_store_laws.Places.{GrantedSo, instance_granted}
-use Rattle.pull_laws.proofs.of_one_tree_laws.Staying.{rest_below}
-use Rattle.orderly_laws.specs.Calm.{AreTogether}
-use Rattle.calm_laws.specs.Carrying.{frame_of}
-use Rattle.calm_laws.specs.Rounds.{after, IsInRound, IsCalm, CalmLeft}
-use Rattle.calm_laws.proofs.Facts.{RoundFacts, round_facts}
-use Rattle.convergence_laws.specs.Copies.{Knows, HoldsTheOnly}
-use Rattle.convergence_laws.proofs.CommitsRising.{copy_held}
-use Rattle.convergence_laws.proofs.DirectoriesClosed.{grants_over, is_directory}
-use Rattle.convergence_laws.proofs.DirectoriesKept.{HasKnown}
-use Rattle.convergence_laws.proofs.DirectoriesUnflagged.{calm_world}
-use Rattle.convergence_laws.proofs.Knowing.{Known, knows, only_fact, only_narrow}
-use Rattle.convergence_laws.proofs.PulledKnown.{kept_of_row}
-use Rattle.convergence_laws.proofs.Started.{all_started}
+use Rattle.tree_model.specs.Files.{HeldVersion, version_of}
+use Rattle.tree_model.specs.State.{has_stamp}
+use Rattle.tree_model.specs.Tree.{kept_in}
+use Rattle.tree_model.specs.declared.instance.Instance.{Instance}
 
 module _ (c : Config) (left : CalmLeft c) (lines : List ScheduleLine) (n : ℕ) (e : InEpoch) (k : ℕ) (h : IsCalm c lines n e k) (file : FileId) (r : FileRow) (d : Knows c e (place_at (after c lines n k)) file r) (dir : is_dir r.kind ≡ true) where
   abbrev w : World
@@ -76,7 +77,7 @@ module _ (c : Config) (left : CalmLeft c) (lines : List ScheduleLine) (n : ℕ) 
     view = d.view;
     here = d.here;
     copy = copy_for file (version_of c (entries w.trace) file v.stamp);
-    found = copy_held c e w d.css d.view file facts together known.member d.here (only_narrow c lines n e w round together file r v d only) ∙ ap (λ (o : Option Stamp). option_map (copy_for file) (option_map (version_of c (entries w.trace) file) o)) held_now;
+    found = copy_held c e d.css d.view file w.trace (past_of_round c w facts) (inside_fact c e w d.css d.view facts.fact together known.member d.here) (only_narrow c lines n e w round together file r v d only) ∙ ap (λ (o : Option Stamp). option_map (copy_for file) (option_map (version_of c (entries w.trace) file) o)) held_now;
     stamp = refl;
     vector = ap (λ (s : Stamp). (version_of c (entries w.trace) file s).vector) stamp_is ∙ sym (ap (λ (y : VersionRow). y.vector) version.same ∙ ap (λ (y : HeldVersion). y.vector) version.is_version.same);
   }

@@ -1,23 +1,9 @@
 -- In three calm rounds that stand directly one after another: a directory whose only kept version its synchronization site doesn't hold at the
 -- end is undisturbed in the last two. No call but a mend runs in these, and a mend begins where that site has the only kept version.
-use Rattle.std.proofs.Common.{◌≡◌, ℕ, zero, ◌≤◌, ◌⊎◌, true, List, [], ◌∷◌, ◌++◌, sym, subst, inl, inr, arith}
-use Rattle.locus_ids.specs.declared.config.Config.{Config}
-use Rattle.locus_ids.specs.declared.ids.FileId.{FileId}
-use Rattle.schedule_lines.specs.declared.line.ScheduleLine.{ScheduleLine}
-use Rattle.role_steps.specs.Mends.{is_dir}
-use Rattle.role_steps.specs.declared.rounds.InEpoch.{InEpoch}
-use Rattle.role_steps.specs.declared.synchronizing.FileRow.{FileRow}
-use Rattle.role_steps.specs.declared.synchronizing.VersionRow.{VersionRow}
-use Rattle.the_run.specs.Runs.{run_in}
-use Rattle.the_run.specs.Worlds.{World, Line, place_at}
-use Rattle.lawful_trace.specs.Places.{lines_before}
-use Rattle.orderly_laws.specs.Calm.{AreTogether}
-use Rattle.calm_laws.specs.Rounds.{after, IsInRound, IsCalm, CalmLeft}
+use Rattle.std.proofs.Common.{List, [], arith, inl, inr, subst, sym, true, zero, ℕ, ◌++◌, ◌∷◌, ◌≡◌, ◌≤◌, ◌⊎◌}
 use Rattle.calm_laws.proofs.Calm.{calm_in_round}
-use Rattle.convergence_laws.specs.Copies.{Knows, HoldsTheOnly, NobodyHasOpen}
-use Rattle.convergence_laws.specs.Directories.{AreThreeRounds}
-use Rattle.convergence_laws.specs.Rounds.{IsMoment, AreCalmRounds, IsUndisturbed}
-use Rattle.convergence_laws.proofs.DirectoriesBegun.{Since, MayHaveBegun, known_later, since_front}
+use Rattle.calm_laws.specs.Rounds.{CalmLeft, IsCalm, IsInRound, after}
+use Rattle.convergence_laws.proofs.DirectoriesBegun.{MayHaveBegun, Since, known_later, since_front}
 use Rattle.convergence_laws.proofs.DirectoriesFirst.{group_started, may_begin}
 use Rattle.convergence_laws.proofs.DirectoriesHeld.{holds_known}
 use Rattle.convergence_laws.proofs.DirectoriesKept.{HasKnown}
@@ -25,10 +11,25 @@ use Rattle.convergence_laws.proofs.DirectoriesLast.{open_known, since_first}
 use Rattle.convergence_laws.proofs.DirectoriesTicks.{closed_between}
 use Rattle.convergence_laws.proofs.DirectoriesTold.{MendsSince, later_mends, mends_itself, mends_then, round_mends}
 use Rattle.convergence_laws.proofs.Starting.{second_begins}
+use Rattle.convergence_laws.specs.Copies.{HoldsTheOnly, Knows, NobodyHasOpen}
+use Rattle.convergence_laws.specs.Directories.{AreThreeRounds}
+use Rattle.convergence_laws.specs.Rounds as rounds
+use Rattle.convergence_laws.specs.Rounds.{AreDirectRounds, IsMoment, IsUndisturbed}
+use Rattle.lawful_trace.specs.Places.{lines_before}
+use Rattle.locus_ids.specs.declared.config.Config.{Config}
+use Rattle.locus_ids.specs.declared.ids.FileId.{FileId}
+use Rattle.orderly_laws.specs.Calm.{AreTogether}
+use Rattle.role_steps.specs.Mends.{is_dir}
+use Rattle.role_steps.specs.declared.rounds.InEpoch.{InEpoch}
+use Rattle.role_steps.specs.declared.synchronizing.FileRow.{FileRow}
+use Rattle.role_steps.specs.declared.synchronizing.VersionRow.{VersionRow}
+use Rattle.schedule_lines.specs.declared.line.ScheduleLine.{ScheduleLine}
+use Rattle.the_run.specs.Runs.{run_in}
+use Rattle.the_run.specs.Worlds.{Line, World, place_at}
 
 -- a round that stands directly after another one is undisturbed, where nobody has the file open at the end of that one, and in each of its worlds
 -- after all ticks
-round_undisturbed : (c : Config) (lines : List ScheduleLine) (n m : ℕ) (e : InEpoch) (k l : ℕ) (file : FileId) → AreCalmRounds c lines n m e k l → NobodyHasOpen c e (place_at (after c lines n k)) file → ((i : ℕ) → i ≤ l → NobodyHasOpen c e (place_at (after c lines m i)) file) → IsUndisturbed c lines m e l file
+round_undisturbed : (c : Config) (lines : List ScheduleLine) (n m : ℕ) (e : InEpoch) (k l : ℕ) (file : FileId) → AreDirectRounds c lines n m e k l → NobodyHasOpen c e (place_at (after c lines n k)) file → ((i : ℕ) → i ≤ l → NobodyHasOpen c e (place_at (after c lines m i)) file) → IsUndisturbed c lines m e l file
 round_undisturbed c lines n m e k l file rounds before each w moment = by_moment moment
   where
     by_moment : IsMoment c lines m l w → NobodyHasOpen c e (place_at w) file
@@ -37,8 +38,8 @@ round_undisturbed c lines n m e k l file rounds before each w moment = by_moment
     by_moment (inr (i, le, is)) = subst (λ (u : World). NobodyHasOpen c e (place_at u) file) (sym is) (each i le)
 
 -- since the end of the round before only mends were accepted
-mends_after : (c : Config) (lines : List ScheduleLine) (n m : ℕ) (e : InEpoch) (k l : ℕ) → AreCalmRounds c lines n m e k l → (i : ℕ) → MendsSince (after c lines n k) (after c lines m i)
-mends_after c lines n m e k l rounds i = subst (λ (u : World). MendsSince u (after c lines m i)) (second_begins c lines n m e k l rounds) (round_mends c lines m rounds.second.most i rounds.second.settles)
+mends_after : (c : Config) (lines : List ScheduleLine) (n m : ℕ) (e : InEpoch) (k l : ℕ) → AreDirectRounds c lines n m e k l → (i : ℕ) → MendsSince (after c lines n k) (after c lines m i)
+mends_after c lines n m e k l rounds i = subst (λ (u : World). MendsSince u (after c lines m i)) (second_begins c lines n m e k l rounds) (round_mends c lines m rounds.rounds.second.most i rounds.rounds.second.settles)
 
 mends_within : (c : Config) (lines : List ScheduleLine) (n : ℕ) (e : InEpoch) (k : ℕ) → IsCalm c lines n e k → (i : ℕ) → i ≤ k → MendsSince (after c lines n i) (after c lines n k)
 mends_within c lines n e k h i le = later_mends c lines n h.most i k h.settles le
@@ -55,10 +56,10 @@ module _ (c : Config) (left : CalmLeft c) (lines : List ScheduleLine) (o n m : �
   end = after c lines m l
 
   abbrev calm_first : IsCalm c lines o e j
-  calm_first = three.first.first
+  calm_first = three.first.rounds.first
 
   abbrev calm_last : IsCalm c lines m e l
-  calm_last = three.last.second
+  calm_last = three.last.rounds.second
 
   to_middle : (i : ℕ) → MendsSince first (after c lines n i)
   to_middle i = mends_after c lines o n e j k three.first i
@@ -88,8 +89,8 @@ module _ (c : Config) (left : CalmLeft c) (lines : List ScheduleLine) (o n m : �
   closed w p here there g h = open_known c left lines o m e j l file r calm_first calm_last d dir w p here there g h (since (mends_then first w end g h)) fit (unknown (mends_then first w end g h))
 
   closed_in_middle : (i : ℕ) → i ≤ k → NobodyHasOpen c e (place_at (after c lines n i)) file
-  closed_in_middle i le = closed (after c lines n i) n (calm_in_round c lines n e k i three.last.first le) (three.last.first.each i le) (to_middle i)
-      (mends_then (after c lines n i) middle end (mends_within c lines n e k three.last.first i le) (mends_after c lines n m e k l three.last l))
+  closed_in_middle i le = closed (after c lines n i) n (calm_in_round c lines n e k i three.last.rounds.first le) (three.last.rounds.first.each i le) (to_middle i)
+      (mends_then (after c lines n i) middle end (mends_within c lines n e k three.last.rounds.first i le) (mends_after c lines n m e k l three.last l))
 
   closed_in_last : (i : ℕ) → i ≤ l → NobodyHasOpen c e (place_at (after c lines m i)) file
   closed_in_last i le = closed (after c lines m i) m (calm_in_round c lines m e l i calm_last le) (calm_last.each i le) (to_last i) (mends_within c lines m e l calm_last i le)

@@ -1,19 +1,15 @@
 -- The end of a round: no notice is under way to a member any more, so no version is due there, and the one that was on its way is held.
-use Rattle.std.proofs.Common.{◌≡◌, ℕ, ◌≤◌, ◌==◌, Bool, true, false, ◌&&◌, List, [], ◌∷◌, ◌++◌, length, Option, None, refl, sym, ◌∙◌, ap, subst, inl, inr, arith}
+use Rattle.std.proofs.Common.{◌≡◌, ℕ, ◌≤◌, ◌==◌, Bool, true, false, ◌&&◌, List, [], ◌∷◌, ◌++◌, Option, None, refl, sym, ◌∙◌, ap, subst, inl, inr, arith}
 use Rattle.role_steps.proofs.of_plain_facts.Numbers.{equal}
 use Rattle.role_steps.proofs.of_plain_facts.Tests.{both_true}
-use Rattle.locus_ids.specs.Sites.{has}
 use Rattle.locus_ids.specs.declared.config.Config.{Config}
-use Rattle.locus_ids.specs.declared.ids.FileId.{FileId}
-use Rattle.locus_ids.specs.declared.sites.Sites.{Sites}
 use Rattle.trace_book.specs.Same.{same_epoch}
 use Rattle.role_steps.specs.Own.{Every}
 use Rattle.role_steps.specs.Views.{boot_in}
 use Rattle.role_steps.specs.declared.rounds.InEpoch.{InEpoch}
-use Rattle.role_steps.specs.declared.synchronizing.VersionRow.{VersionRow}
 use Rattle.the_run.specs.Kept.{Among}
 use Rattle.the_run.specs.Runs.{can_come, next_packet_of, next_packet}
-use Rattle.the_run.specs.Worlds.{World, Limit, Numbered, place_at, is_cut, is_up}
+use Rattle.the_run.specs.Worlds.{World, Limit, Numbered, is_cut, is_up}
 use Rattle.the_run.proofs.Boots.{at_each}
 use Rattle.pull_laws.specs.of_make_laws.Made.{IsSender, NumberedSender}
 use Rattle.orderly_laws.specs.Calm.{AreTogether}
@@ -22,8 +18,7 @@ use Rattle.calm_laws.specs.Carrying.{IsMember}
 use Rattle.calm_laws.specs.Calming.{ReachThemselves}
 use Rattle.calm_laws.proofs.Lists.{every_among, none_passes}
 use Rattle.calm_laws.proofs.Members.{member_runs}
-use Rattle.convergence_laws.specs.Copies.{IsOnlyKept, HoldsTheOnly}
-use Rattle.convergence_laws.specs.Offers.{Offer, is_for, names_to, named, IsDue, IsOnItsWay}
+use Rattle.convergence_laws.specs.Offers.{is_for, names_to, named}
 
 -- ---- no packet for a member is under way ----
 
@@ -60,28 +55,3 @@ none_named e s (x ∷ xs) h = over (is_for e s x.packet) refl (none_named e s xs
     over : (b : Bool) → is_for e s x.packet ≡ b → named e s xs ≡ [] → names_to b x.packet.body ++ named e s xs ≡ []
     over true k n = absurd (h x (inl refl) k)
     over false k n = n
-
--- ---- what was on its way is held ----
-
-nothing_due : (xs : List Offer) (d : Offer) → length xs ≤ 0 → Among d xs → ⊥
-nothing_due [] d le a = a
-nothing_due (x ∷ xs) d le a = omega (arith, le)
-
-pub held_at_the_end : (c : Config) (e : InEpoch) (w : World) (s : ℕ) (file : FileId) (v : VersionRow) (set : Sites) → AreTogether w e → ReachThemselves e w → w.over ≡ None → next_packet w ≡ None → Every NumberedSender w.underway →
-    IsOnlyKept c e (place_at w) file v set → IsMember e s → has set s ≡ true → IsOnItsWay c e (place_at w) w.underway s file v → HoldsTheOnly (place_at w) s file v
-held_at_the_end c e w s file v set together reach within nothing senders kept m in_set (inl k) = k
-held_at_the_end c e w s file v set together reach within nothing senders kept m in_set (inr k) = absurd (nothing_due k.1.offers d few (k.1.each d due))
-  where
-    d : Offer
-    d = record { file = file; stamp = v.stamp; vector = v.vector }
-
-    few : length k.1.offers ≤ 0
-    few = subst (λ (l : List Offer). length k.1.offers ≤ length l) (none_named e s w.underway (for_none c e w s together reach within nothing senders m)) k.1.notices
-
-    due : IsDue c e (place_at w) w.underway s d
-    due = record {
-      view = k.0.view;
-      here = k.0.here;
-      above = k.0.above;
-      why = inl (record { file_known = kept.file_known; known = kept.known; version = v; only = kept.only; stamp = refl; vector = refl; in_set = ap (λ (x : Sites). has x s) kept.sites ∙ in_set });
-    }

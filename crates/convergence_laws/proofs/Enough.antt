@@ -1,47 +1,56 @@
--- As many notices are under way to a member as versions are due there, or more: also where packets are sent to it, and where it adopts a
--- version as one of them comes.
-use Rattle.std.proofs.Common.{◌≡◌, ℕ, suc, ◌+◌, ◌≤◌, ◌⊎◌, List, ◌++◌, length, subst, inl, inr, arith, length-append}
-use Rattle.locus_ids.specs.declared.config.Config.{Config}
+-- As many notices are under way to a member as there are files of which it could adopt a version, or more: also where packets are sent to
+-- it, and where it adopts a version.
+use Rattle.std.proofs.Common.{List, arith, inl, inr, length, length-append, subst, suc, ℕ, ◌++◌, ◌+◌, ◌≡◌, ◌≤◌, ◌⊎◌}
+use Rattle.convergence_laws.proofs.Lists.{Without, taken_out}
+use Rattle.convergence_laws.specs.Offers.{HasEnough, MayAdopt, named}
+use Rattle.orderly_laws.proofs.Formed.{among_left, among_right}
+use Rattle.role_steps.specs.Views.{SiteView}
 use Rattle.role_steps.specs.declared.rounds.InEpoch.{InEpoch}
 use Rattle.the_run.specs.Kept.{Among}
 use Rattle.the_run.specs.Worlds.{Numbered}
-use Rattle.epoch_laws.specs.Known.{Places}
-use Rattle.orderly_laws.proofs.Formed.{among_left, among_right}
-use Rattle.convergence_laws.specs.Offers.{Offer, named, IsDue, HasEnough}
-use Rattle.convergence_laws.proofs.Lists.{Without, taken_out}
 
--- whatever is due now was due before, or is named by a notice more
-pub enough_stays : (c : Config) (e : InEpoch) (at now : Places) (under after : List Numbered) (s : ℕ) (more : List Offer) → ((d : Offer) → IsDue c e now after s d → IsDue c e at under s d ⊎ Among d more) →
-    length (named e s under) + length more ≤ length (named e s after) → HasEnough c e at under s → HasEnough c e now after s
-enough_stays c e at now under after s more due notices h = record {
-  offers = more ++ h.offers;
-  each = λ d k. over d (due d k);
-  notices = (let sum : length (more ++ h.offers) ≡ length more + length h.offers = length-append more h.offers in let few : length h.offers ≤ length (named e s under) = h.notices in omega (arith, sum, few, notices));
+-- whatever could be adopted now could be before, or a notice more names it
+pub enough_stays : (e : InEpoch) (under after : List Numbered) (s : ℕ) (v u : SiteView) (more : List ℕ) → ((k : ℕ) → MayAdopt e after s u k → MayAdopt e under s v k ⊎ Among k more) →
+    length (named e s under) + length more ≤ length (named e s after) → HasEnough e under s v → HasEnough e after s u
+enough_stays e under after s v u more before notices h = record {
+  keys = more ++ h.keys;
+  each = λ k a. over k (before k a);
+  notices = (let sum : length (more ++ h.keys) ≡ length more + length h.keys = length-append more h.keys in let few : length h.keys ≤ length (named e s under) = h.notices in omega (arith, sum, few, notices));
 }
   where
-    over : (d : Offer) → IsDue c e at under s d ⊎ Among d more → Among d (more ++ h.offers)
-    over d (inl k) = among_right d more h.offers (h.each d k)
-    over d (inr k) = among_left d more h.offers k
+    over : (k : ℕ) → MayAdopt e under s v k ⊎ Among k more → Among k (more ++ h.keys)
+    over k (inl a) = among_right k more h.keys (h.each k a)
+    over k (inr a) = among_left k more h.keys a
 
--- one that was due isn't any more, and one notice may have come
-pub enough_adopts : (c : Config) (e : InEpoch) (at now : Places) (under after : List Numbered) (s : ℕ) (gone : Offer) (more : List Offer) → IsDue c e at under s gone → (IsDue c e now after s gone → ⊥) →
-    ((d : Offer) → IsDue c e now after s d → IsDue c e at under s d ⊎ Among d more) → length (named e s under) + length more ≤ suc (length (named e s after)) → HasEnough c e at under s → HasEnough c e now after s
-enough_adopts c e at now under after s gone more was over due notices h = record {
-  offers = more ++ k.rest;
-  each = λ d i. before d i (due d i);
-  notices = (let sum : length (more ++ k.rest) ≡ length more + length k.rest = length-append more k.rest in
-      let few : length h.offers ≤ length (named e s under) = h.notices in
-      let less : length h.offers ≡ suc (length k.rest) = k.one_less in
-      omega (arith, sum, few, less, notices));
+-- one of them, or of what has become whole, was adopted, and one notice may have come
+pub enough_adopts : (e : InEpoch) (under after : List Numbered) (s : ℕ) (v u : SiteView) (gone : ℕ) (joins more : List ℕ) → MayAdopt e under s v gone ⊎ Among gone joins → (MayAdopt e after s u gone → ⊥) →
+    ((k : ℕ) → MayAdopt e after s u k → MayAdopt e under s v k ⊎ (Among k joins ⊎ Among k more)) → length joins + (length (named e s under) + length more) ≤ suc (length (named e s after)) → HasEnough e under s v → HasEnough e after s u
+enough_adopts e under after s v u gone joins more was over before notices h = record {
+  keys = more ++ w.rest;
+  each = λ k a. now k a (before k a);
+  notices = (let sum : length (more ++ w.rest) ≡ length more + length w.rest = length-append more w.rest in
+      let both : length (joins ++ h.keys) ≡ length joins + length h.keys = length-append joins h.keys in
+      let few : length h.keys ≤ length (named e s under) = h.notices in
+      let less : length (joins ++ h.keys) ≡ suc (length w.rest) = w.one_less in
+      omega (arith, sum, both, few, less, notices));
 }
   where
-    k : Without gone h.offers
-    k = taken_out gone h.offers (h.each gone was)
+    there : MayAdopt e under s v gone ⊎ Among gone joins → Among gone (joins ++ h.keys)
+    there (inl a) = among_right gone joins h.keys (h.each gone a)
+    there (inr a) = among_left gone joins h.keys a
 
-    before : (d : Offer) → IsDue c e now after s d → IsDue c e at under s d ⊎ Among d more → Among d (more ++ k.rest)
-    before d i (inr j) = among_left d more k.rest j
-    before d i (inl j) = other (k.others d (h.each d j))
+    w : Without gone (joins ++ h.keys)
+    w = taken_out gone (joins ++ h.keys) (there was)
+
+    now : (k : ℕ) → MayAdopt e after s u k → MayAdopt e under s v k ⊎ (Among k joins ⊎ Among k more) → Among k (more ++ w.rest)
+    now k i (inr (inr a)) = among_left k more w.rest a
+    now k i (inr (inl a)) = other (w.others k (among_left k joins h.keys a))
       where
-        other : (d ≡ gone) ⊎ Among d k.rest → Among d (more ++ k.rest)
-        other (inr z) = among_right d more k.rest z
-        other (inl eq) = absurd (over (subst (λ (x : Offer). IsDue c e now after s x) eq i))
+        other : (k ≡ gone) ⊎ Among k w.rest → Among k (more ++ w.rest)
+        other (inr z) = among_right k more w.rest z
+        other (inl eq) = absurd (over (subst (λ (x : ℕ). MayAdopt e after s u x) eq i))
+    now k i (inl a) = other (w.others k (among_right k joins h.keys (h.each k a)))
+      where
+        other : (k ≡ gone) ⊎ Among k w.rest → Among k (more ++ w.rest)
+        other (inr z) = among_right k more w.rest z
+        other (inl eq) = absurd (over (subst (λ (x : ℕ). MayAdopt e after s u x) eq i))

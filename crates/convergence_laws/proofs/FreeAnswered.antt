@@ -1,56 +1,8 @@
 -- An instance of a file that nobody has open, which its storage site is closing still, is over at the synchronization site of its group: a
 -- Closed that comes there is answered.
-use Rattle.std.proofs.Common.{◌≡◌, ℕ, ◌≤◌, true, false, List, map, Option, Some, None, refl, sym, ◌∙◌, ap, subst, arith}
+use Rattle.std.proofs.Common.{List, None, Option, Some, ap, arith, false, map, refl, subst, sym, true, ℕ, ◌∙◌, ◌≡◌, ◌≤◌}
 use Rattle.std.proofs.lemmas.Bool.Decides.{nat_tests}
 use Rattle.std.specs.Option.{is_some}
-use Rattle.role_steps.proofs.of_plain_facts.Options.{some_same}
-use Rattle.locus_ids.specs.declared.config.Config.{Config}
-use Rattle.locus_ids.specs.declared.ids.CallId.{CallId}
-use Rattle.locus_ids.specs.declared.ids.EpochId.{EpochId}
-use Rattle.locus_ids.specs.declared.ids.FileId.{FileId}
-use Rattle.locus_ids.specs.declared.ids.Mode.{Mode}
-use Rattle.locus_ids.specs.declared.ids.Serial.{Serial}
-use Rattle.locus_ids.specs.declared.ids.Stamp.{Stamp}
-use Rattle.locus_ids.specs.Sizes.{sites_max}
-use Rattle.schedule_lines.specs.declared.line.ScheduleLine.{ScheduleLine}
-use Rattle.trace_book.specs.declared.record.Record.TheVariants as says
-use Rattle.wire_messages.specs.declared.body.Body.TheVariants as body
-use Rattle.wire_messages.specs.declared.body.CloseAnswer.{CloseAnswer}
-use Rattle.wire_messages.specs.declared.body.MadeVersion.{MadeVersion}
-use Rattle.role_steps.specs.Adoption.{table_group}
-use Rattle.role_steps.specs.Opens.{open_key, open_row}
-use Rattle.role_steps.specs.Reports.{closes_at, on_closed, on_closed_of}
-use Rattle.role_steps.specs.Tables.{row, first_that}
-use Rattle.commit_graph.specs.Versions.{same_file}
-use Rattle.role_steps.specs.Views.{Frame, SiteView, Told, Shown, boot_in, packet, serial_key, sync_site}
-use Rattle.role_steps.specs.declared.instances.Instance.{Instance}
-use Rattle.role_steps.specs.declared.instances.Stage.TheVariants as running
-use Rattle.role_steps.specs.declared.rounds.InEpoch.{InEpoch}
-use Rattle.role_steps.specs.declared.synchronizing.OpenRow.{OpenRow}
-use Rattle.role_steps.specs.declared.synchronizing.OpenStage.{OpenStage}
-use Rattle.role_steps.specs.declared.synchronizing.OpenStage.TheVariants as stage
-use Rattle.role_steps.specs.declared.synchronizing.SyncTable.{SyncTable}
-use Rattle.the_run.specs.Kept.{Among}
-use Rattle.the_run.specs.Steps.{at_table_of, is_opened_in, takes_inside}
-use Rattle.the_run.specs.Worlds.{World, Running, Line, place_at}
-use Rattle.tree_laws.specs.Past.{GrantRecord, NamesHere, Printed, WasGranted, WasNamedIn, WasRefused, WasShut}
-use Rattle.tree_laws.specs.Stores as stores
-use Rattle.tree_laws.specs.Stores.{InstanceFact}
-use Rattle.tree_laws.specs.Tables.{RowFact, StageFact}
-use Rattle.tree_laws.proofs.CarriedOpens.{was_then}
-use Rattle.pull_laws.proofs.of_store_laws.Numbers.{serial_key_eq}
-use Rattle.calm_laws.proofs.of_rest_laws.StoreStepResting.{store_rests}
-use Rattle.calm_laws.proofs.of_rest_laws.TableShutting.{shut_file}
-use Rattle.pull_laws.proofs.of_sync_laws.Answering.{one_answer}
-use Rattle.pull_laws.specs.of_one_tree_laws.Places.{InsideFact}
-use Rattle.pull_laws.specs.of_one_tree_laws.Rest.{Past}
-use Rattle.pull_laws.proofs.of_one_tree_laws.Inside.{table_here}
-use Rattle.pull_laws.proofs.of_one_tree_laws.Parts.{tables_rise}
-use Rattle.pull_laws.proofs.of_one_tree_laws.Rising.{Rising}
-use Rattle.orderly_laws.specs.Calm.{AreTogether}
-use Rattle.calm_laws.specs.Carrying.{IsMember, frame_of}
-use Rattle.calm_laws.specs.Rounds.{IsInRound}
-use Rattle.calm_laws.specs.Standing.{IsGrantedStage}
 use Rattle.calm_laws.proofs.Closed.{told}
 use Rattle.calm_laws.proofs.Delivered.{inside_fact}
 use Rattle.calm_laws.proofs.Facts.{RoundFacts, round_facts}
@@ -58,10 +10,60 @@ use Rattle.calm_laws.proofs.Lists.{every_among, row_key}
 use Rattle.calm_laws.proofs.Members.{sync_is}
 use Rattle.calm_laws.proofs.TableThere.{table_there}
 use Rattle.calm_laws.proofs.UserParts.{Found, first_found}
-use Rattle.convergence_laws.specs.Copies.{IsOpenStill, NobodyHasOpen}
-use Rattle.convergence_laws.proofs.CurrentReached.{past_of_round}
+use Rattle.calm_laws.proofs.of_rest_laws.AdoptionWants.{stores}
+use Rattle.calm_laws.proofs.of_rest_laws.StoreStepResting.{store_rests}
+use Rattle.calm_laws.proofs.of_rest_laws.TableShutting.{shut_file}
+use Rattle.calm_laws.specs.Carrying.{IsMember, frame_of}
+use Rattle.calm_laws.specs.Rounds.{IsInRound}
+use Rattle.calm_laws.specs.Standing.{IsGrantedStage}
+use Rattle.commit_graph.specs.Versions.{same_file}
 use Rattle.convergence_laws.proofs.FreeGranted.{IsOnOneFile, any_row, any_there, row_file, shut_on}
-use Rattle.convergence_laws.proofs.Tabled.{rising_found}
+use Rattle.convergence_laws.proofs.Midst.{past_of_round}
+use Rattle.convergence_laws.proofs.TableRows.{rising_found}
+use Rattle.convergence_laws.specs.Copies.{IsOpenStill, NobodyHasOpen}
+use Rattle.locus_ids.specs.Sizes.{sites_max}
+use Rattle.locus_ids.specs.declared.config.Config.{Config}
+use Rattle.locus_ids.specs.declared.ids.CallId.{CallId}
+use Rattle.locus_ids.specs.declared.ids.EpochId.{EpochId}
+use Rattle.locus_ids.specs.declared.ids.FileId.{FileId}
+use Rattle.locus_ids.specs.declared.ids.Mode.{Mode}
+use Rattle.locus_ids.specs.declared.ids.Serial.{Serial}
+use Rattle.locus_ids.specs.declared.ids.Stamp.{Stamp}
+use Rattle.orderly_laws.specs.Calm.{AreTogether}
+use Rattle.pull_laws.proofs.of_one_tree_laws.Inside.{table_here}
+use Rattle.pull_laws.proofs.of_one_tree_laws.Parts.{tables_rise}
+use Rattle.pull_laws.proofs.of_one_tree_laws.Rising.{Rising}
+use Rattle.pull_laws.proofs.of_store_laws.Numbers.{serial_key_eq}
+use Rattle.pull_laws.proofs.of_sync_laws.Answering.{one_answer}
+use Rattle.pull_laws.specs.of_one_tree_laws.Places.{InsideFact}
+use Rattle.pull_laws.specs.of_one_tree_laws.Rest.{Past}
+use Rattle.role_steps.proofs.of_plain_facts.Options.{some_same}
+use Rattle.role_steps.specs.Adoption.{table_group}
+use Rattle.role_steps.specs.Opens.{open_key, open_row}
+use Rattle.role_steps.specs.Reports.{closes_at, on_closed, on_closed_of}
+use Rattle.role_steps.specs.Tables.{first_that, row}
+use Rattle.role_steps.specs.Views.{Frame, Shown, SiteView, Told, boot_in, packet, serial_key, sync_site}
+use Rattle.role_steps.specs.declared.instances.Instance.{Instance}
+use Rattle.role_steps.specs.declared.instances.Stage.TheVariants as running
+use Rattle.role_steps.specs.declared.rounds.InEpoch.{InEpoch}
+use Rattle.role_steps.specs.declared.synchronizing.OpenRow.{OpenRow}
+use Rattle.role_steps.specs.declared.synchronizing.OpenStage.{OpenStage}
+use Rattle.role_steps.specs.declared.synchronizing.OpenStage.TheVariants as stage
+use Rattle.role_steps.specs.declared.synchronizing.SyncTable.{SyncTable}
+use Rattle.schedule_lines.specs.declared.line.ScheduleLine.{ScheduleLine}
+use Rattle.the_run.specs.Kept.{Among}
+use Rattle.the_run.specs.Steps.{at_table_of, is_opened_in, takes_inside}
+use Rattle.the_run.specs.Worlds.{Line, Running, World, place_at}
+use Rattle.trace_book.specs.declared.record.Record.TheVariants as says
+use Rattle.tree_laws.proofs.CarriedOpens.{was_then}
+use Rattle.tree_laws.specs.Past.{GrantRecord, NamesHere, Printed, WasGranted, WasNamedIn, WasRefused, WasShut}
+use Rattle.tree_laws.specs.Stores as stores
+use Rattle.tree_laws.specs.Stores.{InstanceFact}
+use Rattle.tree_laws.specs.Tables.{RowFact, StageFact}
+use Rattle.wire_messages.specs.declared.body.Body.TheVariants as body
+use Rattle.wire_messages.specs.declared.body.CloseAnswer.{CloseAnswer}
+use Rattle.wire_messages.specs.declared.body.MadeVersion.{MadeVersion}
+use Rattle.wire_messages.specs.declared.body.OpenedAs.TheVariants as opened
 
 -- what was granted was named in the group of its file
 granted_here : (trace : List Line) (e : EpochId) (d : CallId) (request : ℕ) (i : Serial) (m : Mode) (f : FileId) (s : Option Stamp) (ss : ℕ) → WasGranted trace e d request i m f s ss → WasNamedIn trace e f.group i

@@ -1,6 +1,16 @@
 -- An instance that a storage site is closing after an event was open there before it, with the same file: what an event adds runs.
-use Rattle.std.proofs.Common.{◌≡◌, ℕ, ◌+◌, ◌==◌, Bool, true, false, ◌⊎◌, List, [], ◌∷◌, Option, Some, None, refl, sym, ◌∙◌, ap, subst, inl, inr}
-use Rattle.role_steps.proofs.of_plain_facts.Options.{none_some, some_same}
+use Rattle.std.proofs.Common.{Bool, List, None, Option, Some, [], ap, arith, false, inl, inr, refl, subst, sym, true, ℕ, ◌&&◌, ◌+◌, ◌==◌, ◌||◌, ◌∙◌, ◌∷◌, ◌≡◌, ◌⊎◌}
+use Rattle.std.proofs.lemmas.Bool.Decides.{nat_tests}
+use Rattle.std.specs.List.{list_any}
+use Rattle.calm_laws.proofs.HeldOperation.{form_view}
+use Rattle.calm_laws.proofs.Lists.{row_key}
+use Rattle.calm_laws.proofs.of_orderly_traces.Course.{closing}
+use Rattle.commit_graph.specs.Versions.{same_file}
+use Rattle.convergence_laws.specs.Converging.{IsClosing}
+use Rattle.dir_format.specs.Entries.{nothing_seen}
+use Rattle.file_effects.specs.Effects.{Effect}
+use Rattle.file_effects.specs.Works.{aborted, counted, operated, result_in}
+use Rattle.file_effects.specs.declared.work.Work.{Work}
 use Rattle.locus_ids.specs.declared.config.Config.{Config}
 use Rattle.locus_ids.specs.declared.ids.FileId.{FileId}
 use Rattle.locus_ids.specs.declared.ids.Mode.{Mode}
@@ -8,29 +18,20 @@ use Rattle.locus_ids.specs.declared.ids.Mode.TheVariants as mode
 use Rattle.locus_ids.specs.declared.ids.Serial.{Serial}
 use Rattle.locus_ids.specs.declared.ids.Stamp.{Stamp}
 use Rattle.locus_ids.specs.declared.refusal.Refusal.TheVariants as refusal
-use Rattle.trace_book.specs.declared.operation.Op.{Op}
-use Rattle.trace_book.specs.declared.operation.Op.TheVariants as op
-use Rattle.trace_book.specs.declared.operation.Outcome.{Outcome as Result}
-use Rattle.trace_book.specs.declared.operation.Outcome.TheVariants as result
-use Rattle.file_effects.specs.Effects.{Effect}
-use Rattle.file_effects.specs.Works.{result_in, operated, counted, aborted}
-use Rattle.file_effects.specs.declared.work.Work.{Work}
-use Rattle.wire_messages.specs.declared.body.Body.{Body}
-use Rattle.wire_messages.specs.declared.body.Body.TheVariants as body
-use Rattle.wire_messages.specs.declared.body.CloseAnswer.{CloseAnswer}
-use Rattle.wire_messages.specs.declared.body.CloseAnswer.TheVariants as closing
-use Rattle.wire_messages.specs.declared.packet.Packet.{Packet}
-use Rattle.wire_messages.specs.declared.body.MadeVersion.{MadeVersion}
-use Rattle.role_steps.specs.Adoption.{table_group, copy_adopted, notes_own_at, with_store, without_pull, is_ready, is_above_own, adopts_pull, adopts_first}
+use Rattle.order_laws.proofs.Standing.{same_file_eq}
+use Rattle.pull_laws.proofs.of_store_laws.Tabled.{latest_same}
+use Rattle.role_steps.proofs.of_plain_facts.Options.{none_some, some_same}
+use Rattle.role_steps.proofs.of_plain_facts.Tests.{true_false}
+use Rattle.role_steps.specs.Adoption.{adopts_first, adopts_pull, fits_own, is_ready, notes_own_at, table_group, with_adopted, without_pull}
 use Rattle.role_steps.specs.Epochs.{frame_in}
 use Rattle.role_steps.specs.Mends.{mending}
-use Rattle.role_steps.specs.OperationEffects.{Mending, effect_of}
-use Rattle.role_steps.specs.Operations.{acts, executes_effect, acts_committed, commits_owing, last_committed, commit_op, executes, op_again, by_number, on_op_at, on_op_of}
 use Rattle.role_steps.specs.Opens.{on_opened}
-use Rattle.role_steps.specs.Reports.{on_report, on_open, on_look, on_closed, on_have}
-use Rattle.role_steps.specs.Storage.{copy_of, with_copy, instance_key, instance_of, with_instance, is_open, StoreRequest, own_ino, opens_made, opens, on_open_ss_of, is_spent, next_vector, next_stamp, instance_committed, commits, made_version, shut, shuts, shuts_again, closes_owing, closes, on_close_at, on_close_of, ends_at, on_closed_ok_of, content_of, free_pages, closed_packets}
-use Rattle.role_steps.specs.Tables.{row, with_latest, first_that}
-use Rattle.role_steps.specs.Views.{Frame, Store, SiteView, Outcome, quiet, sends, and_then}
+use Rattle.role_steps.specs.OperationEffects.{Mending, effect_of}
+use Rattle.role_steps.specs.Operations.{acts, acts_committed, by_number, commit_op, commits_owing, executes, executes_effect, last_committed, nothing_to_mend, on_op, on_op_at, on_op_of, op_again}
+use Rattle.role_steps.specs.Reports.{on_closed, on_have, on_look, on_open, on_report}
+use Rattle.role_steps.specs.Storage.{StoreRequest, closed_packets, closes, closes_owing, commits, content_of, copy_of, ends_at, free_pages, has_open, instance_committed, instance_key, instance_of, is_open, is_open_of, is_spent, made_version, next_stamp, next_vector, on_close_at, on_close_of, on_closed_ok_of, on_open_ss_of, opens, opens_made, own_ino, shut, shuts, shuts_again, with_instance}
+use Rattle.role_steps.specs.Tables.{first_that, row, with_latest}
+use Rattle.role_steps.specs.Views.{Frame, Outcome, SiteView, Store, and_then, quiet, sends}
 use Rattle.role_steps.specs.declared.instances.Instance.{Instance}
 use Rattle.role_steps.specs.declared.instances.Stage.{Stage}
 use Rattle.role_steps.specs.declared.instances.Stage.TheVariants as stage
@@ -38,10 +39,24 @@ use Rattle.role_steps.specs.declared.pulls.Pull.{Pull}
 use Rattle.role_steps.specs.declared.rounds.InEpoch.{InEpoch}
 use Rattle.role_steps.specs.declared.synchronizing.SyncTable.{SyncTable}
 use Rattle.the_run.specs.Kept.{Among}
-use Rattle.the_run.specs.Steps.{at_table_of, is_opened_in, from_user, group_of, takes_inside, adopts_of, tries_at}
-use Rattle.pull_laws.proofs.of_store_laws.Tabled.{latest_same}
-use Rattle.convergence_laws.specs.Converging.{IsClosing}
-use Rattle.calm_laws.proofs.Lists.{row_key}
+use Rattle.the_run.specs.Steps.{adopts_in, adopts_of, at_table_of, from_user, group_of, is_opened_in, takes_inside, tries_at}
+use Rattle.trace_book.specs.declared.operation.Op.{Op}
+use Rattle.trace_book.specs.declared.operation.Op.TheVariants as op
+use Rattle.trace_book.specs.declared.operation.Outcome.{Outcome as Result}
+use Rattle.trace_book.specs.declared.operation.Outcome.TheVariants as result
+use Rattle.wire_messages.specs.declared.body.Body.{Body}
+use Rattle.wire_messages.specs.declared.body.Body.TheVariants as body
+use Rattle.wire_messages.specs.declared.body.CloseAnswer.TheVariants as closing
+use Rattle.wire_messages.specs.declared.body.CloseAnswer.{CloseAnswer}
+use Rattle.wire_messages.specs.declared.body.CloseAnswer.TheVariants as closing
+use Rattle.wire_messages.specs.declared.body.MadeVersion.{MadeVersion}
+use Rattle.wire_messages.specs.declared.packet.Packet.{Packet}
+
+-- whose close has begun is open
+pub closing_open : (g : Stage) → IsClosing g → is_open g ≡ true
+closing_open stage.Running h = absurd h
+closing_open (stage.Closing made r) h = refl
+closing_open (stage.Closed r) h = absurd h
 
 -- ---- instances ----
 
@@ -66,14 +81,6 @@ pub record WasOpen (s : Store) (file : FileId) : Type 0 where
   pub there : Among instance s.instances
   pub same : instance.file ≡ file
   pub opened : is_open instance.stage ≡ true
-
-abbrev ClosingWas : Store → Outcome Store → Type 0
-ClosingWas s o = (i : Instance) → Among i o.view.instances → IsClosing i.stage → WasOpen s i.file
-
-closing_open : (g : Stage) → IsClosing g → is_open g ≡ true
-closing_open stage.Running h = absurd h
-closing_open (stage.Closing made a) h = refl
-closing_open (stage.Closed a) h = absurd h
 
 itself : (s : Store) (i : Instance) → Among i s.instances → IsClosing i.stage → WasOpen s i.file
 itself s i a h = record { instance = i; there = a; same = refl; opened = closing_open i.stage h }
@@ -176,6 +183,9 @@ op_stays f m (Some i) n o seen s = op_at_stays f m i i.stage n o seen s refl
 
 -- ---- Close ----
 
+abbrev ClosingWas : Store → Outcome Store → Type 0
+ClosingWas s o = (i : Instance) → Among i o.view.instances → IsClosing i.stage → WasOpen s i.file
+
 shuts_was : (f : Frame) (i : Instance) (a : CloseAnswer) (s t : Store) → WasOpen s i.file → ClosingStays s t → ClosingWas s (shuts f i a t)
 shuts_was f i a s t was old j there h = over (among_latest instance_key (shut i (made_version i (copy_of t i.file) i.work.committed) a) j t.instances there)
   where
@@ -245,6 +255,7 @@ inside_stays f from (body.OpenSs inst about m set kind base vector parents) v k 
     let r : StoreRequest = record { inst = inst; file = about; mode = m; set = set; kind = kind; base = base; vector = vector; parents = parents } in
     open_ss_stays f r (instance_of v.store inst) v.store
 inside_stays f from (body.Op serial n o seen) v k = op_stays f (mending v (group_of (instance_of v.store (from_user from serial)))) (instance_of v.store (from_user from serial)) n o seen v.store
+inside_stays f from (body.ReadHeld serial n at len) v k = subst (λ (s : Store). ClosingStays v.store s) (sym (form_view (instance_of v.store (from_user from serial)) (on_op f nothing_to_mend (from_user from serial) n (op.Read at len) nothing_seen v.store))) (op_stays f nothing_to_mend (instance_of v.store (from_user from serial)) n (op.Read at len) nothing_seen v.store)
 inside_stays f from (body.Close serial) v k = absurd k
 inside_stays f from (body.ClosedOk inst) v k = closed_ok_stays f (instance_of v.store inst) v.store
 inside_stays f from (body.Report group copies) v k = table_stays (on_report f from copies) (row table_group group v.tables) v
@@ -335,11 +346,11 @@ adopts_instances f (p ∷ ps) v = by_ready (is_ready v p) (adopts_instances f ps
     Same o = o.view.store.instances ≡ v.store.instances
 
     by_above : (b : Bool) → Same (adopts_first f ps (without_pull p v)) → Same (elim b [ true ↦ adopts_pull f p v | false ↦ adopts_first f ps (without_pull p v) ])
-    by_above true k = (let mid : SiteView = without_pull p (with_store v (with_copy (copy_adopted p) v.store)) in notes_instances f p (row table_group p.file.group mid.tables) mid)
+    by_above true k = (let mid : SiteView = with_adopted p v in notes_instances f p (row table_group p.file.group mid.tables) mid)
     by_above false k = k
 
-    by_ready : (b : Bool) → Same (adopts_first f ps v) → Same (adopts_first f ps (without_pull p v)) → Same (elim b [ true ↦ elim (is_above_own p (copy_of v.store p.file)) [ true ↦ adopts_pull f p v | false ↦ adopts_first f ps (without_pull p v) ] | false ↦ adopts_first f ps v ])
-    by_ready true h k = by_above (is_above_own p (copy_of v.store p.file)) k
+    by_ready : (b : Bool) → Same (adopts_first f ps v) → Same (adopts_first f ps (without_pull p v)) → Same (elim b [ true ↦ elim (fits_own p (copy_of v.store p.file)) [ true ↦ adopts_pull f p v | false ↦ adopts_first f ps (without_pull p v) ] | false ↦ adopts_first f ps v ])
+    by_ready true h k = by_above (fits_own p (copy_of v.store p.file)) k
     by_ready false h k = h
 
 adopts_of_instances : (c : Config) (me : ℕ) (o : Option InEpoch) (v : SiteView) → (adopts_of c me o v).view.store.instances ≡ v.store.instances
@@ -349,4 +360,61 @@ adopts_of_instances c me (Some e) v = adopts_instances (frame_in c me v.boot e) 
 pub tries_instances : (c : Config) (me : ℕ) (b : Body) (v : SiteView) → (tries_at c me b v).view.store.instances ≡ v.store.instances
 tries_instances c me (body.Notify about kind set size stamp vector holder) v = adopts_of_instances c me v.epoch v
 tries_instances c me (body.Page about stamp page bytes) v = adopts_of_instances c me v.epoch v
+tries_instances c me (body.Delta about wanted pages) v = adopts_of_instances c me v.epoch v
 tries_instances c me _ v = refl
+
+pub tick_instances : (c : Config) (me : ℕ) (v : SiteView) → (adopts_in c me v).view.store.instances ≡ v.store.instances
+tick_instances c me v = adopts_of_instances c me v.epoch v
+
+-- ---- what is open ----
+
+pub open_there : (s : Store) (file : FileId) → has_open s file ≡ true → (i : Instance) × Among i s.instances × (is_open i.stage ≡ true) × (i.file ≡ file)
+open_there s file h = over s.instances h
+  where
+    over : (xs : List Instance) → list_any (is_open_of file) xs ≡ true → (i : Instance) × Among i xs × (is_open i.stage ≡ true) × (i.file ≡ file)
+    over [] k = absurd (true_false (sym k))
+    over (x ∷ xs) k = at (is_open x.stage) (same_file x.file file) refl refl k (over xs)
+      where
+        later : (list_any (is_open_of file) xs ≡ true → (i : Instance) × Among i xs × (is_open i.stage ≡ true) × (i.file ≡ file)) → list_any (is_open_of file) xs ≡ true → (i : Instance) × Among i (x ∷ xs) × (is_open i.stage ≡ true) × (i.file ≡ file)
+        later f q = (let r : (i : Instance) × Among i xs × (is_open i.stage ≡ true) × (i.file ≡ file) = f q in (r.0, inr r.1, r.2, r.3))
+
+        at : (a b : Bool) → is_open x.stage ≡ a → same_file x.file file ≡ b → ((a && b) || list_any (is_open_of file) xs) ≡ true → (list_any (is_open_of file) xs ≡ true → (i : Instance) × Among i xs × (is_open i.stage ≡ true) × (i.file ≡ file)) →
+            (i : Instance) × Among i (x ∷ xs) × (is_open i.stage ≡ true) × (i.file ≡ file)
+        at true true p q k f = (x, inl refl, p, same_file_eq x.file file q)
+        at true false p q k f = later f k
+        at false b p q k f = later f k
+
+pub there_open : (s : Store) (file : FileId) (i : Instance) → Among i s.instances → is_open i.stage ≡ true → i.file ≡ file → has_open s file ≡ true
+there_open s file i a h is = over s.instances a
+  where
+    same : (f : FileId) → same_file f f ≡ true
+    same f = grind (arith, nat_tests)
+
+    passes : is_open_of file i ≡ true
+    passes = ap (λ (b : Bool). b && same_file i.file file) h ∙ subst (λ (f : FileId). same_file i.file f ≡ true) is (same i.file)
+
+    either : (a b : Bool) → b ≡ true → (a || b) ≡ true
+    either true b k = refl
+    either false b k = k
+
+    over : (xs : List Instance) → Among i xs → list_any (is_open_of file) xs ≡ true
+    over [] b = absurd b
+    over (x ∷ xs) (inl eq) = ap (λ (b : Bool). b || list_any (is_open_of file) xs) (subst (λ (y : Instance). is_open_of file y ≡ true) eq passes)
+    over (x ∷ xs) (inr b) = either (is_open_of file x) (list_any (is_open_of file) xs) (over xs b)
+
+pub stage_open : (g : Stage) → is_open g ≡ true → (g ≡ stage.Running) ⊎ IsClosing g
+stage_open stage.Running h = inl refl
+stage_open (stage.Closing made a) h = inr tt
+stage_open (stage.Closed a) h = absurd (true_false (sym h))
+
+-- none is open, where none runs and none closes
+pub none_is : (s : Store) (file : FileId) → ((i : Instance) → Among i s.instances → i.file ≡ file → i.stage ≡ stage.Running → ⊥) → ((i : Instance) → Among i s.instances → i.file ≡ file → IsClosing i.stage → ⊥) → has_open s file ≡ false
+none_is s file runs closes = over (has_open s file) refl
+  where
+    by_stage : (i : Instance) → Among i s.instances → i.file ≡ file → (i.stage ≡ stage.Running) ⊎ IsClosing i.stage → ⊥
+    by_stage i a is (inl k) = runs i a is k
+    by_stage i a is (inr k) = closes i a is k
+
+    over : (b : Bool) → has_open s file ≡ b → b ≡ false
+    over true h = (let r : (i : Instance) × Among i s.instances × (is_open i.stage ≡ true) × (i.file ≡ file) = open_there s file h in absurd (by_stage r.0 r.1 r.3 (stage_open r.0.stage r.2)))
+    over false h = refl

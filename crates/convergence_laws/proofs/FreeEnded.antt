@@ -1,59 +1,57 @@
 -- By the end of a calm round in which a file is undisturbed, each close of an instance of it has ended: while its storage site is closing
 -- one, the Closed to its synchronization site or the answer to that is under way.
-use Rattle.std.proofs.Common.{◌≡◌, ◌≢◌, ℕ, zero, suc, ◌==◌, ◌≤◌, Bool, true, false, ◌⊎◌, List, ◌∷◌, ◌++◌, Option, Some, None, refl, sym, ◌∙◌, ap, subst, inl, inr, arith, []}
+use Rattle.std.proofs.Common.{Bool, List, None, Option, Some, [], ap, arith, false, inl, inr, refl, subst, suc, sym, true, zero, ℕ, ◌++◌, ◌==◌, ◌∙◌, ◌∷◌, ◌≡◌, ◌≢◌, ◌≤◌, ◌⊎◌}
 use Rattle.std.proofs.lemmas.Bool.Decides.{nat_tests}
-use Rattle.role_steps.proofs.of_plain_facts.Options.{some_same}
+use Rattle.calm_laws.proofs.Calm.{calm_in_round}
+use Rattle.calm_laws.proofs.Delivered.{inside_fact}
+use Rattle.calm_laws.proofs.Events.{Under, others_stay}
+use Rattle.calm_laws.proofs.Facts.{round_facts}
+use Rattle.calm_laws.proofs.Members.{nothing_goes, sync_is}
+use Rattle.calm_laws.proofs.Requests.{to_some_has}
+use Rattle.calm_laws.proofs.Rounds.{one_more}
+use Rattle.calm_laws.specs.Carrying.{IsMember, frame_of}
+use Rattle.calm_laws.specs.Rounds.{Delivery, IsCalm, IsInRound, after}
+use Rattle.convergence_laws.proofs.Coming.{Ends, ascends_in, ends_keep}
+use Rattle.convergence_laws.proofs.Due.{calm_notifies}
+use Rattle.convergence_laws.proofs.DueSteps.{sent_under}
+use Rattle.convergence_laws.proofs.FreeAnswered.{IsOver, is_over, over_answers}
+use Rattle.convergence_laws.proofs.FreeClosing.{TellsClosing, inside_told, tries_instances}
+use Rattle.convergence_laws.proofs.FreeEvents.{EndsSo, IsOfEpoch, IsOfForming, event_ends}
+use Rattle.convergence_laws.proofs.Noticing.{among_flat, table_notices}
+use Rattle.convergence_laws.proofs.Passing.{IsPassed, taken_or_passed}
+use Rattle.convergence_laws.proofs.Starting.{within_after}
+use Rattle.convergence_laws.specs.Converging.{FormsEpochs, IsClosing, NoneCloses}
+use Rattle.convergence_laws.specs.Offers.{is_for}
+use Rattle.convergence_laws.specs.Rounds.{IsUndisturbed}
+use Rattle.lawful_trace.specs.Places.{lines_before}
 use Rattle.locus_ids.specs.declared.config.Config.{Config}
 use Rattle.locus_ids.specs.declared.ids.FileId.{FileId}
-use Rattle.schedule_lines.specs.declared.line.ScheduleLine.{ScheduleLine}
-use Rattle.wire_messages.specs.declared.body.Body.{Body}
-use Rattle.wire_messages.specs.declared.body.Body.TheVariants as body
-use Rattle.wire_messages.specs.declared.body.CloseAnswer.{CloseAnswer}
-use Rattle.wire_messages.specs.declared.body.MadeVersion.{MadeVersion}
-use Rattle.wire_messages.specs.declared.packet.Packet.{Packet}
-use Rattle.locus_ids.specs.declared.sites.Sites.{Sites}
-use Rattle.role_steps.specs.declared.synchronizing.VersionRow.{VersionRow}
+use Rattle.orderly_laws.proofs.Formed.{among_left}
+use Rattle.orderly_laws.proofs.Places.{view_eq}
+use Rattle.orderly_laws.proofs.Rounds.{next_among}
+use Rattle.orderly_laws.specs.Calm.{AreTogether, delivers_next}
+use Rattle.pull_laws.proofs.of_store_laws.Tabled.{apart_latest, latest_same}
+use Rattle.role_steps.proofs.of_plain_facts.Options.{some_same}
 use Rattle.role_steps.specs.Own.{Every}
-use Rattle.role_steps.specs.Storage.{instance_key, closed_again, store_repeats, ends_at, on_closed_ok_of, on_closed_ok}
+use Rattle.role_steps.specs.Storage.{closed_again, ends_at, instance_key, on_closed_ok, on_closed_ok_of, store_repeats}
 use Rattle.role_steps.specs.Tables.{row, with_latest}
 use Rattle.role_steps.specs.Views.{Frame, SiteView, Store, all_sites, packet, sync_site}
 use Rattle.role_steps.specs.declared.instances.Instance.{Instance}
 use Rattle.role_steps.specs.declared.instances.Stage.{Stage}
 use Rattle.role_steps.specs.declared.instances.Stage.TheVariants as stage
 use Rattle.role_steps.specs.declared.rounds.InEpoch.{InEpoch}
-use Rattle.the_run.specs.Kept.{Among}
-use Rattle.the_run.specs.Runs.{arrives, next_packet, ticks_to, run_in}
-use Rattle.the_run.specs.Steps.{takes_inside, ends_event}
-use Rattle.the_run.specs.Worlds.{World, Running, Numbered, place_at, passed}
+use Rattle.schedule_lines.specs.declared.line.ScheduleLine.{ScheduleLine}
 use Rattle.the_run.proofs.Boots.{at_each}
-use Rattle.lawful_trace.specs.Places.{lines_before}
+use Rattle.the_run.specs.Kept.{Among}
+use Rattle.the_run.specs.Runs.{arrives, next_packet, run_in, ticks_to}
+use Rattle.the_run.specs.Steps.{ends_event, takes_inside}
+use Rattle.the_run.specs.Worlds.{Numbered, Running, World, passed, place_at}
 use Rattle.tree_laws.specs.Stores.{AreApart}
-use Rattle.pull_laws.proofs.of_store_laws.Tabled.{apart_latest, latest_same}
-use Rattle.orderly_laws.specs.Calm.{AreTogether, delivers_next}
-use Rattle.orderly_laws.proofs.Formed.{among_left}
-use Rattle.orderly_laws.proofs.Places.{view_eq}
-use Rattle.orderly_laws.proofs.Rounds.{next_among}
-use Rattle.calm_laws.specs.Carrying.{IsMember, frame_of}
-use Rattle.calm_laws.specs.Rounds.{after, IsInRound, IsCalm, Delivery}
-use Rattle.calm_laws.proofs.Calm.{calm_in_round}
-use Rattle.calm_laws.proofs.Delivered.{inside_fact}
-use Rattle.calm_laws.proofs.Events.{Under, others_stay}
-use Rattle.calm_laws.proofs.Facts.{round_facts}
-use Rattle.calm_laws.proofs.Members.{sync_is, nothing_goes}
-use Rattle.calm_laws.proofs.Requests.{to_some_has}
-use Rattle.calm_laws.proofs.Rounds.{one_more}
-use Rattle.convergence_laws.specs.Converging.{FormsEpochs, IsClosing, NoneCloses}
-use Rattle.convergence_laws.specs.Offers.{is_for}
-use Rattle.convergence_laws.specs.Rounds.{IsAtRest, IsUndisturbed}
-use Rattle.convergence_laws.proofs.Coming.{Ends, ends_keep, ascends_in}
-use Rattle.convergence_laws.proofs.Current.{notified}
-use Rattle.convergence_laws.proofs.CurrentDelivery.{sent_under}
-use Rattle.convergence_laws.proofs.FreeAnswered.{IsOver, is_over, over_answers}
-use Rattle.convergence_laws.proofs.FreeClosing.{TellsClosing, inside_told, tries_instances}
-use Rattle.convergence_laws.proofs.FreeEvents.{IsOfEpoch, IsOfForming, EndsSo, event_ends}
-use Rattle.convergence_laws.proofs.Noticing.{among_flat, table_notices}
-use Rattle.convergence_laws.proofs.Passing.{IsPassed, taken_or_passed}
-use Rattle.convergence_laws.proofs.Starting.{within_after}
+use Rattle.wire_messages.specs.declared.body.Body.{Body}
+use Rattle.wire_messages.specs.declared.body.Body.TheVariants as body
+use Rattle.wire_messages.specs.declared.body.CloseAnswer.{CloseAnswer}
+use Rattle.wire_messages.specs.declared.body.MadeVersion.{MadeVersion}
+use Rattle.wire_messages.specs.declared.packet.Packet.{Packet}
 
 -- ---- lists ----
 
@@ -150,7 +148,7 @@ module _ (c : Config) (lines : List ScheduleLine) (n : ℕ) (e : InEpoch) (k : �
   told_of i is = ap (λ (f : FileId). sync_site c e.members f.group) is ∙ synced
 
   ticked_go : Go (at 0)
-  ticked_go v here i a is made r closes = inl (notified c lines n e k calm s member v here q (among_left q (store_repeats f v.store) (table_notices f v)
+  ticked_go v here i a is made r closes = inl (calm_notifies c lines n e k calm s member v here q (among_left q (store_repeats f v.store) (table_notices f v)
       (among_flat (λ (x : Instance). closed_again f x x.stage) i q v.store.instances a (subst (λ (z : Stage). Among q (closed_again f i z)) (sym closes) (to_some_has c e s css (body.Closed i.inst made) (sync_site c e.members i.file.group) (told_of i is))))))
     where
       f : Frame
@@ -278,6 +276,3 @@ module _ (c : Config) (lines : List ScheduleLine) (n : ℕ) (e : InEpoch) (k : �
       over : IsGoing c e css s (at k) i how.0 → ⊥
       over (inl q) = nothing_goes c e (at k) s css (body.Closed i.inst how.0) q.letter (calm.each k (omega arith)) calm.reach calm.within calm.ended q.there (record { sender = member; receiver = is_css; is = q.is })
       over (inr q) = nothing_goes c e (at k) css s (body.ClosedOk i.inst) q.letter (calm.each k (omega arith)) calm.reach calm.within calm.ended q.there (record { sender = is_css; receiver = member; is = q.is })
-
-pub ended : (c : Config) (lines : List ScheduleLine) (n m : ℕ) (e : InEpoch) (k l : ℕ) (file : FileId) (v : VersionRow) (set : Sites) (s : ℕ) → IsAtRest c lines n m e k l file v set → IsMember e s → NoneCloses (place_at (after c lines n k)) s file
-ended c lines n m e k l file v set s rest member = none_closes c lines n e k rest.rounds.first file rest.in_first rest.kept.known.css rest.kept.known.synced s member

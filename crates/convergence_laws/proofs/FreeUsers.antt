@@ -1,46 +1,33 @@
 -- Which mends wait at a site after an event: those that waited before it, and those that start at its end.
-use Rattle.std.proofs.Common.{◌≡◌, ℕ, ◌+◌, Bool, true, false, cond, not, ◌&&◌, ◌||◌, ◌⊎◌, List, [], ◌∷◌, ◌++◌, Option, Some, None, refl, sym, ◌∙◌, ap, inl, inr}
+use Rattle.std.proofs.Common.{Bool, List, None, Option, Some, [], ap, cond, false, inl, inr, not, refl, subst, sym, true, ℕ, ◌&&◌, ◌++◌, ◌+◌, ◌||◌, ◌∙◌, ◌∷◌, ◌≡◌, ◌⊎◌}
 use Rattle.std.specs.List.{list_any}
-use Rattle.role_steps.proofs.of_plain_facts.Options.{none_some}
-use Rattle.role_steps.proofs.of_plain_facts.Tests.{true_false}
+use Rattle.call_rules.specs.declared.answer.Answer.{Answer}
+use Rattle.call_rules.specs.declared.answer.Answer.TheVariants as answer
+use Rattle.call_rules.specs.declared.want.Want.{Want}
+use Rattle.call_rules.specs.declared.want.Want.TheVariants as want
+use Rattle.calm_laws.proofs.SentFacts.{granted}
+use Rattle.commit_graph.specs.Versions.{same_file}
+use Rattle.convergence_laws.proofs.Lists.{among_row}
 use Rattle.locus_ids.specs.declared.config.Config.{Config}
 use Rattle.locus_ids.specs.declared.ids.FileId.{FileId}
 use Rattle.locus_ids.specs.declared.ids.Stamp.{Stamp}
 use Rattle.locus_ids.specs.declared.refusal.Refusal.{Refusal}
 use Rattle.locus_ids.specs.declared.sites.Links.{Links}
-use Rattle.commit_graph.specs.Versions.{same_file}
-use Rattle.trace_book.specs.declared.call.Call.{Call}
-use Rattle.trace_book.specs.declared.call.Call.TheVariants as call
-use Rattle.trace_book.specs.declared.descriptor.Beginning.{Beginning}
-use Rattle.trace_book.specs.declared.descriptor.Beginning.TheVariants as begins
-use Rattle.trace_book.specs.declared.reply.Reply.{Reply}
-use Rattle.trace_book.specs.declared.reply.Reply.TheVariants as reply
-use Rattle.trace_book.specs.declared.operation.Op.{Op}
-use Rattle.trace_book.specs.declared.operation.Outcome.{Outcome as Result}
-use Rattle.trace_book.specs.declared.operation.What.TheVariants as what
-use Rattle.call_rules.specs.declared.answer.Answer.{Answer}
-use Rattle.call_rules.specs.declared.want.Want.{Want}
-use Rattle.call_rules.specs.declared.want.Want.TheVariants as want
-use Rattle.wire_messages.specs.declared.body.Body.{Body}
-use Rattle.wire_messages.specs.declared.body.Body.TheVariants as body
-use Rattle.wire_messages.specs.declared.body.CloseAnswer.{CloseAnswer}
-use Rattle.wire_messages.specs.declared.body.Granted.{Granted}
-use Rattle.wire_messages.specs.declared.body.Granted.TheVariants as granted
-use Rattle.wire_messages.specs.declared.body.LookAnswer.{LookAnswer}
-use Rattle.wire_messages.specs.declared.body.LookAnswer.TheVariants as looked
-use Rattle.wire_messages.specs.declared.body.Opening.TheVariants as how
-use Rattle.call_rules.specs.Descriptors.{beginning}
-use Rattle.role_steps.specs.Adoption.{mends_file, has_mend, table_group, copy_adopted, notes_own_at, with_store, without_pull, is_ready, is_above_own, adopts_pull, adopts_first}
+use Rattle.orderly_laws.proofs.Numbers.{left_without}
+use Rattle.pull_laws.proofs.of_user_laws.Tabled.{first_found}
+use Rattle.role_steps.proofs.Caching.{kept_only}
+use Rattle.role_steps.proofs.of_plain_facts.Options.{none_some}
+use Rattle.role_steps.proofs.of_plain_facts.Tests.{true_false}
+use Rattle.role_steps.specs.Adoption.{adopts_first, adopts_pull, fits_own, has_mend, is_ready, mends_file, notes_own_at, table_group, with_adopted, without_pull}
 use Rattle.role_steps.specs.Epochs.{frame_in, passes_over_of}
-use Rattle.role_steps.specs.Mends.{kept_stamps, has_mend_in, is_dir, may_mend, wants_rescue_of, wants_mend_of, row_file, wants_mend_dir, wants_mend, starts_mend_of, starts_mend, starts_mends_in}
-use Rattle.role_steps.specs.Requests.{waiting_key, without_waiting, user_instance, asks, next_request, opening_of, made_for, seen_by, with_user_instance, asks_op_of, asks_close_of, descriptors_of}
-use Rattle.role_steps.specs.Reports.{on_report, on_open, on_look, on_closed, on_have}
+use Rattle.role_steps.specs.Mends.{has_mend_in, is_dir, kept_stamps, may_mend, row_file, starts_mend, starts_mend_of, starts_mends_in, wants_mend, wants_mend_dir, wants_mend_of, wants_rescue_of}
 use Rattle.role_steps.specs.Opens.{on_opened}
-use Rattle.role_steps.specs.Storage.{copy_of, with_copy}
-use Rattle.role_steps.specs.Tables.{row, first_that}
-use Rattle.role_steps.specs.Using.{without_hope, is_hopeless, after_reply, holds_again, replies, asks_want, next_want, goes_on, with_answer, takes_answer, asks_open_of, on_open_done_of, asks_op_number, on_op_done_of, on_close_done_of, asks_take, with_brought, looks_again, takes_look, on_look_done_of, accepted, own_call}
-use Rattle.role_steps.specs.Using.{asks_close_of as asks_close_number}
-use Rattle.role_steps.specs.Views.{Frame, Users, SiteView, Outcome, quiet, and_then}
+use Rattle.role_steps.specs.Reports.{on_closed, on_have, on_look, on_open, on_report}
+use Rattle.role_steps.specs.Requests.{asks, asks_close_of, asks_op_of, made_for, next_request, opening_of, seen_by, user_instance, waiting_key, with_user_instance, without_waiting}
+use Rattle.role_steps.specs.Storage.{begins, copy_of}
+use Rattle.role_steps.specs.Tables.{first_that, row}
+use Rattle.role_steps.specs.Using.{accepted_call, after_reply, asks_close_of as asks_close_number, asks_held_number, asks_op_number, asks_open_of, asks_take, asks_want, counted_users, goes_on, holds_again, is_hopeless, keeps_brought, looks_again, next_want, on_as_held_of, on_close_done_of, on_look_done_of, on_op_done_of, on_open_done_of, op_answer, replies, takes_answer, takes_copied, takes_look, with_answer, with_brought, without_hope}
+use Rattle.role_steps.specs.Views.{Frame, Outcome, SiteView, Users, and_then, quiet}
 use Rattle.role_steps.specs.declared.pulls.Pull.{Pull}
 use Rattle.role_steps.specs.declared.rounds.InEpoch.{InEpoch}
 use Rattle.role_steps.specs.declared.rounds.Round.{Round}
@@ -52,14 +39,41 @@ use Rattle.role_steps.specs.declared.users.Asking.TheVariants as asking
 use Rattle.role_steps.specs.declared.users.UserInstance.{UserInstance}
 use Rattle.role_steps.specs.declared.users.WaitingCall.{WaitingCall}
 use Rattle.the_run.specs.Kept.{Among}
-use Rattle.the_run.specs.Steps.{at_table_of, is_opened_in, takes_inside, adopts_of, adopts_in, tries_at, starts_mends_of, ends_event}
-use Rattle.orderly_laws.proofs.Numbers.{left_without}
-use Rattle.pull_laws.proofs.of_user_laws.Tabled.{first_found}
-use Rattle.convergence_laws.proofs.Lists.{among_row}
+use Rattle.the_run.specs.Steps.{adopts_in, adopts_of, at_table_of, ends_event, is_opened_in, starts_mends_of, takes_inside, tries_at}
+use Rattle.trace_book.specs.declared.call.Call.{Call}
+use Rattle.trace_book.specs.declared.call.Call.TheVariants as call
+use Rattle.trace_book.specs.declared.descriptor.Beginning.{Beginning}
+use Rattle.trace_book.specs.declared.descriptor.Beginning.TheVariants as begins
+use Rattle.trace_book.specs.declared.operation.Op.{Op}
+use Rattle.trace_book.specs.declared.operation.Outcome.{Outcome as Result}
+use Rattle.trace_book.specs.declared.operation.Outcome.TheVariants as result
+use Rattle.trace_book.specs.declared.operation.What.TheVariants as what
+use Rattle.trace_book.specs.declared.reply.Reply.{Reply}
+use Rattle.trace_book.specs.declared.reply.Reply.TheVariants as reply
+use Rattle.wire_messages.specs.declared.body.Body.{Body}
+use Rattle.wire_messages.specs.declared.body.Body.TheVariants as body
+use Rattle.wire_messages.specs.declared.body.CloseAnswer.{CloseAnswer}
+use Rattle.wire_messages.specs.declared.body.Granted.{Granted}
+use Rattle.wire_messages.specs.declared.body.Granted.TheVariants as granted
+use Rattle.wire_messages.specs.declared.body.LookAnswer.{LookAnswer}
+use Rattle.wire_messages.specs.declared.body.LookAnswer.TheVariants as looked
+use Rattle.wire_messages.specs.declared.body.Opening.TheVariants as how
 
 -- a mend of the file is among these calls
 abbrev pub Mends : FileId → List WaitingCall → Type 0
 Mends file ws = (y : WaitingCall) × Among y ws × (mends_file file y.words ≡ true)
+
+pub there_mend : (file : FileId) (u : Users) → Mends file u.waiting → has_mend u file ≡ true
+there_mend file u m = over u.waiting m.1
+  where
+    either : (a b : Bool) → b ≡ true → (a || b) ≡ true
+    either true b h = refl
+    either false b h = h
+
+    over : (ws : List WaitingCall) → Among m.0 ws → list_any (λ (w : WaitingCall). mends_file file w.words) ws ≡ true
+    over [] a = absurd a
+    over (w ∷ ws) (inl e) = ap (λ (b : Bool). b || list_any (λ (x : WaitingCall). mends_file file x.words) ws) (ap (λ (x : WaitingCall). mends_file file x.words) (sym e) ∙ m.2)
+    over (w ∷ ws) (inr a) = either (mends_file file w.words) (list_any (λ (x : WaitingCall). mends_file file x.words) ws) (over ws a)
 
 pub mend_there : (file : FileId) (u : Users) → has_mend u file ≡ true → Mends file u.waiting
 mend_there file u h = over u.waiting h
@@ -161,7 +175,7 @@ one_starts f t (Some r) v file m = by_test (same_file (row_file t r) file) refl
   where
     by_test : (b : Bool) → same_file (row_file t r) file ≡ b → Mends file v.users.waiting ⊎ ((q : FileRow) × (◌≡◌ {A = Option FileRow} (Some r) (Some q)) × (same_file (row_file t q) file ≡ true))
     by_test true e = inr (r, refl, e)
-    by_test false e = inl (goes_waited file f (accepted 0 (v.users.calls + 1) (call.Mend (row_file t r)) (beginning (descriptors_of v.users 0) (Some f.epoch) (own_call f.me f.boot (v.users.calls + 1)) (call.Mend (row_file t r)))) (record v.users { calls = v.users.calls + 1 }) (λ h. absurd (true_false (sym h ∙ e))) m)
+    by_test false e = inl (goes_waited file f (accepted_call f (Some f.epoch) 0 (call.Mend (row_file t r)) v.users) (counted_users f (Some f.epoch) 0 (call.Mend (row_file t r)) v.users) (λ h. absurd (true_false (sym h ∙ e))) m)
 
 starts_waited : (f : Frame) (t : SyncTable) (v : SiteView) (file : FileId) → Mends file (starts_mend f t v).view.users.waiting → Mends file v.users.waiting ⊎ IsWanted v (t ∷ []) file
 starts_waited f t v file = by_test (t.started && not (has_mend_in v.users t.group))
@@ -232,7 +246,18 @@ module _ (file : FileId) where
 
   op_done_waited : (f : Frame) (serial n : ℕ) (r : Result) (o : Option WaitingCall) (u : Users) → first_that (asks_op_number serial n r) u.waiting ≡ o → Waited file u (on_op_done_of f r o u)
   op_done_waited f serial n r None u e m = m
-  op_done_waited f serial n r (Some w) u e m = answer_waited f w _ u (its_own (asks_op_number serial n r) u w e) m
+  op_done_waited f serial n r (Some w) u e m = subst (λ (xs : List WaitingCall). Mends file xs) same (answer_waited f w (op_answer r) (keeps_brought w.asking r u) (λ h. subst (λ (xs : List WaitingCall). Mends file xs) (sym same) (its_own (asks_op_number serial n r) u w e h)) m)
+    where
+      same : (keeps_brought w.asking r u).waiting ≡ u.waiting
+      same = kept_only (λ (z : Users). z.waiting ≡ u.waiting) w.asking r u (λ pages. refl)
+
+  copied_waited : (f : Frame) (w : WaitingCall) (o : Option (List ℕ)) (u : Users) → (mends_file file w.words ≡ true → Mends file u.waiting) → Waited file u (takes_copied f w o u)
+  copied_waited f w None u own m = m
+  copied_waited f w (Some bytes) u own m = answer_waited f w (answer.Did (result.Data bytes)) u own m
+
+  as_held_waited : (f : Frame) (serial n : ℕ) (o : Option WaitingCall) (u : Users) → first_that (asks_held_number serial n) u.waiting ≡ o → Waited file u (on_as_held_of f o u)
+  as_held_waited f serial n None u e m = m
+  as_held_waited f serial n (Some w) u e m = copied_waited f w w.copied u (its_own (asks_held_number serial n) u w e) m
 
   close_done_waited : (f : Frame) (serial : ℕ) (a : CloseAnswer) (o : Option WaitingCall) (u : Users) → first_that (asks_close_number serial) u.waiting ≡ o → Waited file u (on_close_done_of f serial a o u)
   close_done_waited f serial a None u e m = m
@@ -264,6 +289,7 @@ module _ (file : FileId) where
   pub inside_waited : (f : Frame) (from : ℕ) (b : Body) (v : SiteView) → Mends file (takes_inside f from b v).view.users.waiting → Mends file v.users.waiting
   inside_waited f from (body.OpenDone serial answer) v m = open_done_waited f (kept_stamps v) serial answer (first_that (asks_open_of serial) v.users.waiting) v.users refl m
   inside_waited f from (body.OpDone serial n result) v m = op_done_waited f serial n result (first_that (asks_op_number serial n result) v.users.waiting) v.users refl m
+  inside_waited f from (body.AsHeld serial n len) v m = as_held_waited f serial n (first_that (asks_held_number serial n) v.users.waiting) v.users refl m
   inside_waited f from (body.CloseDone serial answer) v m = close_done_waited f serial answer (first_that (asks_close_number serial) v.users.waiting) v.users refl m
   inside_waited f from (body.LookDone call request take answer) v m = look_done_waited f call request take answer (first_that (asks_take call request take answer) v.users.waiting) v.users refl m
   inside_waited f from (body.Report group copies) v m = table_waited (on_report f from copies) (row table_group group v.tables) v m
@@ -288,11 +314,11 @@ adopts_users f (p ∷ ps) v = by_ready (is_ready v p) (adopts_users f ps v) (ado
     Same o = o.view.users ≡ v.users
 
     by_above : (b : Bool) → Same (adopts_first f ps (without_pull p v)) → Same (elim b [ true ↦ adopts_pull f p v | false ↦ adopts_first f ps (without_pull p v) ])
-    by_above true k = (let mid : SiteView = without_pull p (with_store v (with_copy (copy_adopted p) v.store)) in notes_users f p (row table_group p.file.group mid.tables) mid)
+    by_above true k = (let mid : SiteView = with_adopted p v in notes_users f p (row table_group p.file.group mid.tables) mid)
     by_above false k = k
 
-    by_ready : (b : Bool) → Same (adopts_first f ps v) → Same (adopts_first f ps (without_pull p v)) → Same (elim b [ true ↦ elim (is_above_own p (copy_of v.store p.file)) [ true ↦ adopts_pull f p v | false ↦ adopts_first f ps (without_pull p v) ] | false ↦ adopts_first f ps v ])
-    by_ready true h k = by_above (is_above_own p (copy_of v.store p.file)) k
+    by_ready : (b : Bool) → Same (adopts_first f ps v) → Same (adopts_first f ps (without_pull p v)) → Same (elim b [ true ↦ elim (fits_own p (copy_of v.store p.file)) [ true ↦ adopts_pull f p v | false ↦ adopts_first f ps (without_pull p v) ] | false ↦ adopts_first f ps v ])
+    by_ready true h k = by_above (fits_own p (copy_of v.store p.file)) k
     by_ready false h k = h
 
 adopts_of_users : (c : Config) (me : ℕ) (o : Option InEpoch) (v : SiteView) → (adopts_of c me o v).view.users ≡ v.users
@@ -302,6 +328,7 @@ adopts_of_users c me (Some e) v = adopts_users (frame_in c me v.boot e) v.pulls 
 pub tries_users : (c : Config) (me : ℕ) (b : Body) (v : SiteView) → (tries_at c me b v).view.users ≡ v.users
 tries_users c me (body.Notify about kind set size stamp vector holder) v = adopts_of_users c me v.epoch v
 tries_users c me (body.Page about stamp page bytes) v = adopts_of_users c me v.epoch v
+tries_users c me (body.Delta about wanted pages) v = adopts_of_users c me v.epoch v
 tries_users c me _ v = refl
 
 pub tick_users : (c : Config) (me : ℕ) (v : SiteView) → (adopts_in c me v).view.users ≡ v.users

@@ -1,30 +1,35 @@
 -- What a synchronization site knows of a file, by the one tree.
-use Rattle.std.proofs.Common.{◌≡◌, ℕ, ◌<◌, List, [], ◌∷◌, refl, sym, ap, subst, inl}
-use Rattle.locus_ids.specs.declared.config.Config.{Config}
-use Rattle.locus_ids.specs.declared.ids.FileId.{FileId}
-use Rattle.locus_ids.specs.Sizes.{inode_span}
-use Rattle.schedule_lines.specs.declared.line.ScheduleLine.{ScheduleLine}
-use Rattle.role_steps.specs.Adoption.{table_group}
-use Rattle.role_steps.specs.Versions.{row_ino}
-use Rattle.role_steps.specs.declared.rounds.InEpoch.{InEpoch}
-use Rattle.role_steps.specs.declared.synchronizing.FileRow.{FileRow}
-use Rattle.role_steps.specs.declared.synchronizing.SyncTable.{SyncTable}
-use Rattle.role_steps.specs.declared.synchronizing.VersionRow.{VersionRow}
-use Rattle.the_run.specs.Kept.{Among}
-use Rattle.the_run.specs.Worlds.{World, place_at}
-use Rattle.tree_laws.specs.Packets.{file_in}
-use Rattle.tree_laws.specs.Tables.{VersionFact, FileFact, TableFact}
-use Rattle.pull_laws.specs.of_one_tree_laws.Places.{InsideFact}
-use Rattle.calm_laws.proofs.of_rest_laws.StoreStepKnown.{stands_narrow}
-use Rattle.pull_laws.proofs.of_one_tree_laws.ToldVectorOnly.{row_stands}
-use Rattle.orderly_laws.specs.Calm.{AreTogether}
-use Rattle.calm_laws.specs.Carrying.{IsMember, frame_of}
-use Rattle.calm_laws.specs.Rounds.{IsInRound}
+use Rattle.std.proofs.Common.{List, Option, Some, [], ap, inl, map, refl, subst, sym, true, ℕ, ◌<◌, ◌∙◌, ◌∷◌, ◌≡◌}
 use Rattle.calm_laws.proofs.Delivered.{inside_fact}
 use Rattle.calm_laws.proofs.Facts.{RoundFacts, round_facts}
 use Rattle.calm_laws.proofs.Lists.{every_among, row_key}
 use Rattle.calm_laws.proofs.Members.{sync_is}
+use Rattle.calm_laws.proofs.SentFacts.{known}
+use Rattle.calm_laws.proofs.of_rest_laws.StoreStepKnown.{stands_narrow}
+use Rattle.calm_laws.specs.Carrying.{IsMember, frame_of}
+use Rattle.calm_laws.specs.Rounds.{IsInRound}
+use Rattle.convergence_laws.proofs.Started.{started}
+use Rattle.convergence_laws.proofs.TraceKnown.{is_row}
 use Rattle.convergence_laws.specs.Copies.{Knows}
+use Rattle.locus_ids.specs.Sizes.{inode_span}
+use Rattle.locus_ids.specs.declared.config.Config.{Config}
+use Rattle.locus_ids.specs.declared.ids.FileId.{FileId}
+use Rattle.orderly_laws.specs.Calm.{AreTogether}
+use Rattle.pull_laws.proofs.of_one_tree_laws.ToldVectorOnly.{row_stands}
+use Rattle.pull_laws.specs.of_one_tree_laws.Places.{InsideFact}
+use Rattle.role_steps.specs.Adoption.{table_group}
+use Rattle.role_steps.specs.Versions.{file_row, kept, row_ino}
+use Rattle.role_steps.specs.declared.rounds.InEpoch.{InEpoch}
+use Rattle.role_steps.specs.declared.synchronizing.FileRow.{FileRow}
+use Rattle.role_steps.specs.declared.synchronizing.SyncTable.{SyncTable}
+use Rattle.role_steps.specs.declared.synchronizing.VersionRow.{VersionRow}
+use Rattle.schedule_lines.specs.declared.line.ScheduleLine.{ScheduleLine}
+use Rattle.the_run.specs.Kept.{Among}
+use Rattle.the_run.specs.Worlds.{World, place_at}
+use Rattle.tree_laws.specs.Packets.{file_in}
+use Rattle.tree_laws.specs.Printed.{entries}
+use Rattle.tree_laws.specs.Tables.{FileFact, FilesFact, StartedFiles, TableFact, VersionFact, row_stamp}
+use Rattle.tree_model.specs.Tree.{kept_in}
 
 pub record Known (c : Config) (e : InEpoch) (w : World) (css : ℕ) (table : SyncTable) (file : FileId) (r : FileRow) : Type 0 where
   pub member : IsMember e css
@@ -71,3 +76,13 @@ only_fact c e w css table file r v k only = subst (λ (f : FileId). VersionFact 
 -- the file has a number of 16 bits
 pub only_narrow : (c : Config) (lines : List ScheduleLine) (n : ℕ) (e : InEpoch) (w : World) → IsInRound c lines n w → AreTogether w e → (file : FileId) (r : FileRow) (v : VersionRow) → Knows c e (place_at w) file r → r.kept ≡ v ∷ [] → file.ino < inode_span
 only_narrow c lines n e w round together file r v k only = stands_narrow c w.trace (round_facts c lines n w round).rest.each file v.stamp (row_stands c w.trace file v (only_fact c e w k.css k.table file r v (knows c lines n e w round together file r k) only))
+
+-- ---- what a table that has started says ----
+
+pub kept_of_row : (c : Config) (e : InEpoch) (w : World) (css : ℕ) (table : SyncTable) (file : FileId) (r : FileRow) (v : VersionRow) → Known c e w css table file r → file_row table file.ino ≡ Some r → r.kept ≡ v ∷ [] → table.started ≡ true → kept_in c (entries w.trace) e.id file ≡ v.stamp ∷ []
+kept_of_row c e w css table file r v known is_row only started =
+    sym (subst (λ (f : FileId). map row_stamp (kept (file_row table file.ino)) ≡ kept_in c (entries w.trace) e.id f) (ap (λ (g : ℕ). file_in g file.ino) known.group) (files.kept_is file.ino))
+    ∙ (ap (λ (o : Option FileRow). map row_stamp (kept o)) is_row ∙ ap (λ (vs : List VersionRow). map row_stamp vs) only)
+  where
+    files : StartedFiles c w.trace (frame_of c e css) table
+    files = subst (FilesFact c w.trace (frame_of c e css) table) started known.table_fact.files

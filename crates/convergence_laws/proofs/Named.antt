@@ -1,16 +1,18 @@
 -- The versions that notices under way name: where packets are sent, and where one has come.
-use Rattle.std.proofs.Common.{◌≡◌, ℕ, ◌+◌, ◌≤◌, ◌==◌, ◌⊎◌, Bool, true, false, List, [], ◌∷◌, ◌++◌, length, refl, sym, ◌∙◌, ap, subst, inl, inr, arith, append_assoc, length-append}
+use Rattle.std.proofs.Common.{Bool, List, [], ap, append_assoc, arith, false, inl, inr, length, length-append, refl, subst, sym, true, ℕ, ◌++◌, ◌+◌, ◌==◌, ◌∙◌, ◌∷◌, ◌≡◌, ◌≤◌, ◌⊎◌}
 use Rattle.std.proofs.lemmas.Bool.Decides.{nat_tests}
-use Rattle.wire_messages.specs.declared.body.Body.{Body}
-use Rattle.wire_messages.specs.declared.body.Body.TheVariants as body
-use Rattle.wire_messages.specs.declared.packet.Packet.{Packet}
+use Rattle.convergence_laws.proofs.Lists.{among_either}
+use Rattle.convergence_laws.specs.Offers.{Offer, is_for, named, names, names_to, notice_in}
+use Rattle.orderly_laws.proofs.Formed.{among_left, among_right}
+use Rattle.role_steps.proofs.of_plain_facts.Numbers.{equal}
+use Rattle.role_steps.proofs.of_plain_facts.Tests.{both_true}
 use Rattle.role_steps.specs.Tables.{without_row}
 use Rattle.role_steps.specs.declared.rounds.InEpoch.{InEpoch}
 use Rattle.the_run.specs.Kept.{Among}
 use Rattle.the_run.specs.Worlds.{Numbered, number_of}
-use Rattle.orderly_laws.proofs.Formed.{among_left, among_right}
-use Rattle.convergence_laws.specs.Offers.{Offer, notice_in, is_for, names_to, names, named}
-use Rattle.convergence_laws.proofs.Lists.{among_either}
+use Rattle.wire_messages.specs.declared.body.Body.{Body}
+use Rattle.wire_messages.specs.declared.body.Body.TheVariants as body
+use Rattle.wire_messages.specs.declared.packet.Packet.{Packet}
 
 -- a packet names one version at most
 notice_one : (b : Body) → length (notice_in b) ≤ 1
@@ -68,3 +70,22 @@ named_rest e s x (y ∷ ys) one = over (number_of y == x.number) refl (named_res
         let a : length (names e s y.packet ++ named e s ys) ≡ length (names e s y.packet) + length (named e s ys) = length-append (names e s y.packet) (named e s ys) in
         let b : length (names e s y.packet ++ named e s (without_row number_of x.number ys)) ≡ length (names e s y.packet) + length (named e s (without_row number_of x.number ys)) = length-append (names e s y.packet) (named e s (without_row number_of x.number ys)) in
         omega (arith, a, b, k)
+
+-- ---- who names it ----
+
+-- what is named is named by a packet
+pub named_by : (e : InEpoch) (s : ℕ) (d : Offer) (xs : List Numbered) → Among d (named e s xs) → (y : Numbered) × Among y xs × Among d (names e s y.packet)
+named_by e s d [] a = absurd a
+named_by e s d (x ∷ xs) a = over (among_either d (names e s x.packet) (named e s xs) a) (λ k. named_by e s d xs k)
+  where
+    over : Among d (names e s x.packet) ⊎ Among d (named e s xs) → (Among d (named e s xs) → (y : Numbered) × Among y xs × Among d (names e s y.packet)) → (y : Numbered) × Among y (x ∷ xs) × Among d (names e s y.packet)
+    over (inl k) later = (x, inl refl, k)
+    over (inr k) later = (let r : (y : Numbered) × Among y xs × Among d (names e s y.packet) = later k in (r.0, inr r.1, r.2))
+
+-- a packet that names a version to a member is for it, and a notice of the version
+pub names_for : (e : InEpoch) (s : ℕ) (d : Offer) (p : Packet) → Among d (names e s p) → (p.to ≡ s) × Among d (notice_in p.body) × (is_for e s p ≡ true)
+names_for e s d p a = over (is_for e s p) refl a
+  where
+    over : (b : Bool) → is_for e s p ≡ b → Among d (names_to b p.body) → (p.to ≡ s) × Among d (notice_in p.body) × (is_for e s p ≡ true)
+    over true h k = (equal p.to s (both_true (p.to == s) _ h).0, k, h)
+    over false h k = absurd k

@@ -1,34 +1,33 @@
 -- The run in which a file comes to rest: its rounds are calm, and nobody has the file open in the last two. All of it computes.
-use Rattle.std.proofs.Common.{◌≡◌, ℕ, zero, suc, ◌+◌, ◌≤◌, ◌<◌, ◌==◌, nat_lt, Bool, true, false, not, ◌&&◌, ◌||◌, List, [], ◌∷◌, ◌++◌, length, replicate, Option, None, Some, refl, sym, ◌∙◌, ap, subst, arith, length-append}
+use Rattle.std.proofs.Common.{Bool, List, None, Option, Some, [], ap, arith, false, length, length-append, nat_lt, not, refl, replicate, subst, suc, sym, true, zero, ℕ, ◌&&◌, ◌++◌, ◌+◌, ◌==◌, ◌||◌, ◌∙◌, ◌∷◌, ◌≡◌, ◌≤◌}
 use Rattle.std.proofs.lemmas.Bool.Decides.{nat_tests}
 use Rattle.std.specs.Fmt.{digits}
 use Rattle.std.specs.Prelude.{slice_index_or}
-use Rattle.role_steps.proofs.of_plain_facts.Tests.{true_false}
+use Rattle.convergence_laws.specs.Rested.{IsRested, rested_lines, rested_trace}
 use Rattle.hex.specs.Hex.{encode_with}
+use Rattle.lawful_trace.specs.Calm.{AreTogether, IsCalmRound, IsMoment}
+use Rattle.lawful_trace.specs.Places.{is_cut, lines_before, through_line}
+use Rattle.lawful_trace.specs.Samples.{epoch, file, members}
 use Rattle.locus_ids.specs.declared.ids.EpochId.{EpochId}
 use Rattle.locus_ids.specs.declared.sites.Members.{Members}
-use Rattle.trace_book.specs.declared.entry.Entry.{Entry}
+use Rattle.promises.specs.Convergence.{IsUndisturbed}
+use Rattle.pull_laws.specs.of_row_laws.Shown.{trace_of}
+use Rattle.role_steps.proofs.of_plain_facts.Tests.{true_false}
 use Rattle.schedule_lines.specs.Cluster.{config_of}
 use Rattle.schedule_lines.specs.Schedule.{AreInOrder}
 use Rattle.schedule_lines.specs.declared.line.ScheduleLine.{ScheduleLine}
-use Rattle.schedule_lines.specs.declared.line.ScheduleLine.TheVariants.{Passed}
 use Rattle.the_run.specs.Runs.{run}
-use Rattle.tree_model.specs.Epochs.{is_up, boot_of, epoch_of}
+use Rattle.trace_book.specs.declared.entry.Entry.{Entry}
+use Rattle.tree_model.specs.Epochs.{boot_of, epoch_of, is_up}
 use Rattle.tree_model.specs.Folds.{Trace, before_line}
-use Rattle.tree_model.specs.Packs.{is_member, boot_in}
+use Rattle.tree_model.specs.Packs.{boot_in, is_member}
 use Rattle.tree_model.specs.State.{openers}
 use Rattle.tree_model.specs.Tree.{tree_of}
-use Rattle.lawful_trace.specs.Calm.{IsMoment, AreTogether, IsCalmRound}
-use Rattle.lawful_trace.specs.Places.{is_cut, line_at, lines_before, through_line}
-use Rattle.lawful_trace.specs.Samples.{epoch, file, members}
-use Rattle.pull_laws.specs.of_row_laws.Shown.{trace_of}
-use Rattle.convergence_laws.specs.Rested.{rested_lines, rested_trace, IsRested}
-use Rattle.promises.specs.Convergence.{AreCalmRounds, IsUndisturbed}
 
 -- ---- the run ----
 
 pub rested_in_order : AreInOrder rested_lines
-rested_in_order = (refl, (refl, (refl, (refl, (refl, (refl, (refl, (refl, tt))))))))
+rested_in_order = (refl, (refl, (refl, (refl, (refl, (refl, (refl, (refl, (refl, tt)))))))))
 
 pub rested_within : (run rested_lines).over ≡ None
 unfolding digits encode_with
@@ -150,19 +149,39 @@ round_8 = record {
   together = λ now m. both_together (lines_before rested_lines 8) now (λ s t. refl) (each_moment AreBoth 8 0 (omega arith) refl now m);
 }
 
-none_between : (n j : ℕ) → n < j → j < n + 1 → line_at rested_lines j ≡ Passed
-none_between n j a b = absurd (omega (arith, a, b))
+round_9 : IsCalmRound rested_lines rested_trace 9 (epoch 1 1 1) both
+round_9 = record {
+  most = 1000;
+  settles = refl;
+  ended = refl;
+  listed = refl;
+  together = λ now m. both_together (lines_before rested_lines 9) now (λ s t. refl) (each_moment AreBoth 9 0 (omega arith) refl now m);
+}
 
-shut : (n : ℕ) → length (through_line rested_trace n) ≤ length (before_line rested_trace n) → openers (tree_of (config_of rested_lines) (epoch 1 1 1) 0 (through_line rested_trace n)) (file 0 2) ≡ [] → IsUndisturbed (config_of rested_lines) rested_trace n (epoch 1 1 1) (file 0 2)
+abbrev IsClosedAt : ℕ → Type 0
+IsClosedAt n = (now : Trace) → IsMoment rested_trace n now → openers (tree_of (config_of rested_lines) (epoch 1 1 1) 0 now) (file 0 2) ≡ []
+
+shut : (n : ℕ) → length (through_line rested_trace n) ≤ length (before_line rested_trace n) → openers (tree_of (config_of rested_lines) (epoch 1 1 1) 0 (through_line rested_trace n)) (file 0 2) ≡ [] → IsClosedAt n
 shut n few none now m = each_moment (λ (now : Trace). openers (tree_of (config_of rested_lines) (epoch 1 1 1) 0 now) (file 0 2) ≡ []) n 0 (omega (arith, few)) none now m
 
-last_two : AreCalmRounds rested_lines rested_trace 7 8 (epoch 1 1 1) both
-last_two = record { first = round_7; second = round_8; order = omega arith; directly = none_between 7 }
+undisturbed : IsUndisturbed (config_of rested_lines) rested_trace 7 9 (epoch 1 1 1) (file 0 2)
+undisturbed n now low high m = by_number (n == 7) (n == 8) refl refl now m
+  where
+    equal : (a b : ℕ) → (a == b) ≡ true → b ≡ a
+    equal a b h = grind (arith, nat_tests)
+
+    last : (a : ℕ) → 7 ≤ a → a ≤ 9 → (a == 7) ≡ false → (a == 8) ≡ false → 9 ≡ a
+    last a l g p q = grind (arith, nat_tests)
+
+    by_number : (a b : Bool) → (n == 7) ≡ a → (n == 8) ≡ b → IsClosedAt n
+    by_number true b p q = subst IsClosedAt (equal n 7 p) (shut 7 (omega arith) refl)
+    by_number false true p q = subst IsClosedAt (equal n 8 q) (shut 8 (omega arith) refl)
+    by_number false false p q = subst IsClosedAt (last n low high p q) (shut 9 (omega arith) refl)
 
 at_rest : IsRested rested_lines rested_trace
 at_rest = record {
-  before = record { first = round_6; second = round_7; order = omega arith; directly = none_between 6 };
-  rest = record { rounds = last_two; in_first = shut 7 (omega arith) refl; in_second = shut 8 (omega arith) refl; kept = refl };
+  before = round_6;
+  rest = record { rounds = record { first = round_7; second = round_8; third = round_9; early = omega arith; late = omega arith }; undisturbed = undisturbed; kept = refl };
   member = refl;
   packed = refl;
   in_set = refl;

@@ -1,38 +1,6 @@
 -- Once a calm round has ended, each group that a member synchronizes has started: nothing of the group is under way any more, so all of
 -- its members have reported. And in the epoch a group that has started stays so.
-use Rattle.std.proofs.Common.{◌≡◌, ℕ, ◌≤◌, Bool, true, false, ◌&&◌, ◌⊎◌, List, [], ◌∷◌, ◌++◌, map, Some, refl, sym, ◌∙◌, ap, subst, inl, inr, arith}
-use Rattle.role_steps.proofs.of_plain_facts.Tests.{both_true, true_false}
-use Rattle.locus_ids.specs.Sites.{has}
-use Rattle.locus_ids.specs.declared.config.Config.{Config}
-use Rattle.locus_ids.specs.declared.ids.EpochId.{EpochId}
-use Rattle.schedule_lines.specs.declared.line.ScheduleLine.{ScheduleLine}
-use Rattle.wire_messages.specs.declared.body.Body.TheVariants as body
-use Rattle.role_steps.specs.Adoption.{table_group}
-use Rattle.role_steps.specs.Epochs.{frame_in}
-use Rattle.role_steps.specs.Reports.{have_all_reported}
-use Rattle.role_steps.specs.Tables.{row}
-use Rattle.role_steps.specs.Views.{SiteView, all_sites, is_member, pack_sites, sync_site}
-use Rattle.role_steps.specs.declared.rounds.InEpoch.{InEpoch}
-use Rattle.role_steps.specs.declared.synchronizing.SyncTable.{SyncTable}
-use Rattle.the_run.specs.Kept.{Among}
-use Rattle.the_run.specs.Runs.{ticks_to, run_in}
-use Rattle.the_run.specs.Worlds.{World, Running, Line, place_at}
-use Rattle.lawful_trace.specs.Places.{lines_before}
-use Rattle.tree_laws.specs.Instances.{IsStarted}
-use Rattle.tree_laws.specs.Printed.{entries}
-use Rattle.tree_laws.specs.Tables.{TableFact}
-use Rattle.tree_laws.proofs.Kinship.{started_stays}
-use Rattle.tree_model.specs.Tree.{tree_of}
-use Rattle.pull_laws.specs.of_one_tree_laws.Places.{InsideFact}
-use Rattle.pull_laws.proofs.of_one_tree_laws.Parts.{synced_one}
-use Rattle.pull_laws.proofs.of_one_tree_laws.Rising.{among_map}
-use Rattle.pull_laws.proofs.of_one_tree_laws.UserStepGroups.{among_row}
-use Rattle.orderly_laws.specs.Calm.{IsInside, AreTogether}
-use Rattle.orderly_laws.proofs.Places.{view_eq}
-use Rattle.orderly_laws.proofs.Rounds.{ticks_kept}
-use Rattle.calm_laws.specs.Calming.{StartsInTime}
-use Rattle.calm_laws.specs.Carrying.{IsMember, frame_of, HasReported, Reports}
-use Rattle.calm_laws.specs.Rounds.{after, IsInRound, IsCalm, CalmLeft}
+use Rattle.std.proofs.Common.{Bool, List, Some, [], ap, arith, false, inl, inr, map, refl, subst, sym, true, ℕ, ◌&&◌, ◌++◌, ◌∙◌, ◌∷◌, ◌≡◌, ◌≤◌, ◌⊎◌}
 use Rattle.calm_laws.proofs.Calm.{calm_in_round, round_carries}
 use Rattle.calm_laws.proofs.Delivered.{inside_fact}
 use Rattle.calm_laws.proofs.Facts.{round_facts}
@@ -41,9 +9,42 @@ use Rattle.calm_laws.proofs.Members.{member_of, nothing_goes}
 use Rattle.calm_laws.proofs.Moments.{GoesOn, goes_itself, goes_round_kept}
 use Rattle.calm_laws.proofs.Rounds.{delivered_kept}
 use Rattle.calm_laws.proofs.StartsRun.{groups_start}
-use Rattle.convergence_laws.specs.Converging.{GroupsHaveStarted}
-use Rattle.convergence_laws.specs.Rounds.{AreCalmRounds}
+use Rattle.calm_laws.specs.Calming.{StartsInTime}
+use Rattle.calm_laws.specs.Carrying.{HasReported, IsMember, Reports, frame_of}
+use Rattle.calm_laws.specs.Rounds.{CalmLeft, IsCalm, IsInRound, after}
 use Rattle.convergence_laws.proofs.Starting.{second_begins}
+use Rattle.convergence_laws.specs.Converging.{GroupsHaveStarted}
+use Rattle.convergence_laws.specs.Rounds.{AreDirectRounds}
+use Rattle.lawful_trace.specs.Places.{lines_before}
+use Rattle.locus_ids.specs.Sites.{has}
+use Rattle.locus_ids.specs.declared.config.Config.{Config}
+use Rattle.locus_ids.specs.declared.ids.EpochId.{EpochId}
+use Rattle.orderly_laws.proofs.Places.{view_eq}
+use Rattle.orderly_laws.proofs.Rounds.{ticks_kept}
+use Rattle.orderly_laws.specs.Calm.{AreTogether, IsInside}
+use Rattle.pull_laws.proofs.of_one_tree_laws.Parts.{synced_one}
+use Rattle.pull_laws.proofs.of_one_tree_laws.Rising.{among_map}
+use Rattle.pull_laws.proofs.of_one_tree_laws.UserStepGroups.{among_row}
+use Rattle.pull_laws.specs.of_one_tree_laws.Places.{InsideFact}
+use Rattle.role_steps.proofs.of_plain_facts.Numbers.{same}
+use Rattle.role_steps.proofs.of_plain_facts.Tests.{both_true, true_false}
+use Rattle.role_steps.specs.Adoption.{table_group}
+use Rattle.role_steps.specs.Epochs.{frame_in}
+use Rattle.role_steps.specs.Reports.{have_all_reported}
+use Rattle.role_steps.specs.Tables.{row}
+use Rattle.role_steps.specs.Views.{SiteView, all_sites, is_member, pack_sites, sync_site}
+use Rattle.role_steps.specs.declared.rounds.InEpoch.{InEpoch}
+use Rattle.role_steps.specs.declared.synchronizing.SyncTable.{SyncTable}
+use Rattle.schedule_lines.specs.declared.line.ScheduleLine.{ScheduleLine}
+use Rattle.the_run.specs.Kept.{Among}
+use Rattle.the_run.specs.Runs.{run_in, ticks_to}
+use Rattle.the_run.specs.Worlds.{Line, Running, World, place_at}
+use Rattle.tree_laws.proofs.Kinship.{started_stays}
+use Rattle.tree_laws.specs.Instances.{IsStarted}
+use Rattle.tree_laws.specs.Printed.{entries}
+use Rattle.tree_laws.specs.Tables.{TableFact}
+use Rattle.tree_model.specs.Tree.{tree_of}
+use Rattle.wire_messages.specs.declared.body.Body.TheVariants as body
 
 -- ---- the end of a calm round ----
 
@@ -126,8 +127,8 @@ table_before v u group t same found =
     among_row table_group group v.tables (subst (λ (gs : List ℕ). Among group gs) (sym same) (subst (λ (g : ℕ). Among g (map table_group u.tables)) a.1 (among_map table_group t u.tables a.0)))
 
 -- so the groups of members have started in each later world of a round
-pub still_started : (c : Config) (e : InEpoch) (lines : List ScheduleLine) (n m : ℕ) (w u : World) → IsInRound c lines n w → AreTogether w e → IsInRound c lines m u → AreTogether u e → GoesOn w u → GroupsHaveStarted e (place_at w) → GroupsHaveStarted e (place_at u)
-still_started c e lines n m w u round together round_u together_u goes old s group v t k here found = z.fact.started ∙ in_tree
+pub still_started : (c : Config) (e : InEpoch) (lines : List ScheduleLine) (n m : ℕ) (w u : World) → IsInRound c lines n w → AreTogether w e → IsInRound c lines m u → AreTogether u e → (more : List Line) → u.trace ≡ more ++ w.trace → GroupsHaveStarted e (place_at w) → GroupsHaveStarted e (place_at u)
+still_started c e lines n m w u round together round_u together_u more goes old s group v t k here found = z.fact.started ∙ in_tree
   where
     z : Synced c e u s group t
     z = is_synced c lines m e u round_u together_u s group v t k here found
@@ -151,12 +152,12 @@ still_started c e lines n m w u round together round_u together_u goes old s gro
     was = subst (λ (g : ℕ). IsStarted c w.trace e.id g) y.is_group (sym y.fact.started ∙ old s group i.view b.0 k i.here b.1)
 
     in_tree : (tree_of c e.id t.group (entries u.trace)).started ≡ true
-    in_tree = subst (λ (g : ℕ). IsStarted c u.trace e.id g) (sym z.is_group) (subst (λ (l : List Line). IsStarted c l e.id group) (sym goes.trace) (starts_stay c goes.lines w.trace e.id group was))
+    in_tree = subst (λ (g : ℕ). IsStarted c u.trace e.id g) (sym z.is_group) (subst (λ (l : List Line). IsStarted c l e.id group) (sym goes) (starts_stay c more w.trace e.id group was))
 
 -- ---- two rounds ----
 
 -- the second round goes on from the end of the first
-pub rounds_go_on : (c : Config) (lines : List ScheduleLine) (n m : ℕ) (e : InEpoch) (k l : ℕ) → AreCalmRounds c lines n m e k l → (j : ℕ) → GoesOn (after c lines n k) (after c lines m j)
+pub rounds_go_on : (c : Config) (lines : List ScheduleLine) (n m : ℕ) (e : InEpoch) (k l : ℕ) → AreDirectRounds c lines n m e k l → (j : ℕ) → GoesOn (after c lines n k) (after c lines m j)
 rounds_go_on c lines n m e k l h j = subst (λ (w : World). GoesOn w (after c lines m j)) (second_begins c lines n m e k l h) goes_on
   where
     from : World
@@ -165,7 +166,7 @@ rounds_go_on c lines n m e k l h j = subst (λ (w : World). GoesOn w (after c li
     goes_on : GoesOn from (after c lines m j)
     goes_on = delivered_kept c m (GoesOn from) (goes_round_kept c m from) j (ticks_to c m all_sites from) (ticks_kept c m (GoesOn from) (goes_round_kept c m from) all_sites from (goes_itself from))
 
-pub started : (c : Config) → CalmLeft c → (lines : List ScheduleLine) (n m : ℕ) (e : InEpoch) (k l j : ℕ) → AreCalmRounds c lines n m e k l → j ≤ l → GroupsHaveStarted e (place_at (after c lines m j))
+pub started : (c : Config) → CalmLeft c → (lines : List ScheduleLine) (n m : ℕ) (e : InEpoch) (k l j : ℕ) → AreDirectRounds c lines n m e k l → j ≤ l → GroupsHaveStarted e (place_at (after c lines m j))
 started c left lines n m e k l j h le =
-    still_started c e lines n m (after c lines n k) (after c lines m j) (calm_in_round c lines n e k k h.first (omega arith)) (h.first.each k (omega arith)) (calm_in_round c lines m e l j h.second le) (h.second.each j le) (rounds_go_on c lines n m e k l h j)
-    (all_started c lines n e k left h.first)
+    still_started c e lines n m (after c lines n k) (after c lines m j) (calm_in_round c lines n e k k h.rounds.first (omega arith)) (h.rounds.first.each k (omega arith)) (calm_in_round c lines m e l j h.rounds.second le) (h.rounds.second.each j le) (rounds_go_on c lines n m e k l h j).lines (rounds_go_on c lines n m e k l h j).trace
+    (all_started c lines n e k left h.rounds.first)

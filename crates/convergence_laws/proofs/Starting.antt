@@ -21,7 +21,7 @@ use Rattle.calm_laws.proofs.of_orderly_traces.Spans.{world, next_world}
 use Rattle.calm_laws.specs.Rounds.{after, IsCalm}
 use Rattle.calm_laws.proofs.Rounds.{delivered_kept, delivered_then}
 use Rattle.calm_laws.proofs.Ticks.{AreApart, over_round}
-use Rattle.convergence_laws.specs.Rounds.{AreCalmRounds}
+use Rattle.convergence_laws.specs.Rounds.{AreDirectRounds}
 use Rattle.convergence_laws.proofs.Events.{RunsOn, Moved, acts_moved}
 use Rattle.convergence_laws.proofs.Repeating.{ticks_touch, tick_touches}
 
@@ -48,14 +48,14 @@ passed_event : (l : LineWords) → Passed ≡ EventLine l → ⊥
 passed_event l e = cc
 
 -- its line ends in the round's last world
-round_ends : (c : Config) (lines : List ScheduleLine) (n : ℕ) (e : InEpoch) (k : ℕ) → IsCalm c lines n e k → world c lines n ≡ after c lines n k
+pub round_ends : (c : Config) (lines : List ScheduleLine) (n : ℕ) (e : InEpoch) (k : ℕ) → IsCalm c lines n e k → world c lines n ≡ after c lines n k
 round_ends c lines zero e k h = absurd (passed_event (line.Settle h.most) h.settles)
 round_ends c lines (suc p) e k h =
     next_world c lines p ∙ (ap (λ (l : ScheduleLine). acts_line c (suc p) l (world c lines p)) h.settles
     ∙ (ap (λ (j : ℕ). delivers c (suc p) h.most (ticks_to c (suc p) all_sites (world c lines j))) {x = p} {y = suc p - 1} (omega arith) ∙ delivers_all c (suc p) k h.most (ticks_to c (suc p) all_sites (run_in c (lines_before lines (suc p)))) h.few h.ended))
 
-pub second_begins : (c : Config) (lines : List ScheduleLine) (n m : ℕ) (e : InEpoch) (k l : ℕ) → AreCalmRounds c lines n m e k l → run_in c (lines_before lines m) ≡ after c lines n k
-second_begins c lines n m e k l h = ap (world c lines) {x = m - 1} {y = n + (m - 1 - n)} (let low : n < m = h.order in omega (arith, low)) ∙ (stays (m - 1 - n) (let low : n < m = h.order in omega (arith, low)) ∙ round_ends c lines n e k h.first)
+pub second_begins : (c : Config) (lines : List ScheduleLine) (n m : ℕ) (e : InEpoch) (k l : ℕ) → AreDirectRounds c lines n m e k l → run_in c (lines_before lines m) ≡ after c lines n k
+second_begins c lines n m e k l h = ap (world c lines) {x = m - 1} {y = n + (m - 1 - n)} (let low : n < m = h.rounds.order in omega (arith, low)) ∙ (stays (m - 1 - n) (let low : n < m = h.rounds.order in omega (arith, low)) ∙ round_ends c lines n e k h.rounds.first)
   where
     stays : (i : ℕ) → n + i < m → world c lines (n + i) ≡ world c lines n
     stays zero low = ap (world c lines) {x = n + 0} {y = n} (omega arith)

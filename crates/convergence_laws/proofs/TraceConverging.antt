@@ -1,8 +1,21 @@
 -- Copies converge: as the lines of a schedule and the records of its run tell it.
-use Rattle.std.proofs.Common.{◌≡◌, ℕ, zero, suc, ◌==◌, not, Bool, true, ◌&&◌, ◌⊎◌, List, [], ◌∷◌, Option, Some, None, refl, sym, ◌∙◌, ap, inl, inr, arith}
+use Rattle.convergence_laws.proofs.Starting.{round_ends}
+use Rattle.convergence_laws.proofs.TraceBetween.{shut_between}
+use Rattle.std.proofs.Common.{Bool, List, None, Option, Some, [], ap, arith, inl, inr, not, refl, suc, sym, true, zero, ℕ, ◌&&◌, ◌<◌, ◌==◌, ◌∙◌, ◌∷◌, ◌≡◌, ◌⊎◌, ◌++◌}
 use Rattle.std.proofs.lemmas.Bool.Decides.{nat_tests}
 use Rattle.std.specs.Option.{option_map}
-use Rattle.role_steps.proofs.of_plain_facts.Options.{none_some, some_same}
+use Rattle.calm_laws.proofs.Delivered.{inside_fact}
+use Rattle.calm_laws.specs.Carrying.{IsMember, frame_of}
+use Rattle.calm_laws.specs.Rounds.{CalmLeft, after}
+use Rattle.calm_laws.specs.of_orderly_traces.Agreeing.{IsWithin}
+use Rattle.convergence_laws.proofs.Convergence.{converge}
+use Rattle.convergence_laws.proofs.TraceKnown.{HasOne, HasTable, has_one, has_table, known_row}
+use Rattle.convergence_laws.proofs.TraceMoments.{IsMidway, at_end, lacked, quiet}
+use Rattle.convergence_laws.proofs.TracePlayed.{IsPlayed, member_of_list, played}
+use Rattle.convergence_laws.proofs.TraceUndisturbed.{among_passing}
+use Rattle.convergence_laws.specs.Copies.{HoldsTheOnly}
+use Rattle.convergence_laws.specs.Rounds as rounds
+use Rattle.lawful_trace.specs.Places.{lines_before, through_line}
 use Rattle.locus_ids.specs.Sites.{has}
 use Rattle.locus_ids.specs.declared.config.Config.{Config}
 use Rattle.locus_ids.specs.declared.ids.EpochId.{EpochId}
@@ -10,37 +23,26 @@ use Rattle.locus_ids.specs.declared.ids.FileId.{FileId}
 use Rattle.locus_ids.specs.declared.ids.Stamp.{Stamp}
 use Rattle.locus_ids.specs.declared.sites.Members.{Members}
 use Rattle.locus_ids.specs.declared.sites.Sites.{Sites}
+use Rattle.order_laws.proofs.ProcessSynchronizing.{sync_same}
+use Rattle.promises.specs.Convergence.{CopiesConverge, IsAtRest, LackedRoom}
+use Rattle.pull_laws.specs.of_one_tree_laws.Places.{InsideFact}
+use Rattle.pull_laws.specs.of_row_laws.Shown.{trace_of}
+use Rattle.role_steps.proofs.of_plain_facts.Options.{none_some, some_same}
+use Rattle.role_steps.specs.Views.{all_sites, boot_in, first_site, is_member, members_of, pack_sites, sync_site}
+use Rattle.role_steps.specs.declared.copies.FileCopy.{FileCopy}
+use Rattle.role_steps.specs.declared.rounds.InEpoch.{InEpoch}
 use Rattle.schedule_lines.specs.Cluster.{config_of}
 use Rattle.schedule_lines.specs.Schedule.{AreInOrder}
 use Rattle.schedule_lines.specs.declared.line.ScheduleLine.{ScheduleLine}
-use Rattle.role_steps.specs.Views.{all_sites, boot_in, is_member, first_site, members_of, pack_sites, sync_site}
-use Rattle.role_steps.specs.declared.copies.FileCopy.{FileCopy}
-use Rattle.role_steps.specs.declared.rounds.InEpoch.{InEpoch}
 use Rattle.the_run.specs.Kept.{Among}
-use Rattle.the_run.specs.Runs.{run}
+use Rattle.the_run.specs.Runs.{run, run_in}
 use Rattle.the_run.specs.Worlds.{World, place_at}
+use Rattle.tree_laws.specs.Printed.{entries}
+use Rattle.tree_laws.specs.Stores.{copy_for}
 use Rattle.tree_model.specs.Files.{set_of_file, version_of}
 use Rattle.tree_model.specs.Folds.{Trace}
 use Rattle.tree_model.specs.Histories.{held}
 use Rattle.tree_model.specs.Packs as tree
-use Rattle.lawful_trace.specs.Places.{through_line}
-use Rattle.pull_laws.specs.of_row_laws.Shown.{trace_of}
-use Rattle.tree_laws.specs.Printed.{entries}
-use Rattle.tree_laws.specs.Stores.{copy_for}
-use Rattle.order_laws.proofs.ProcessSynchronizing.{sync_same}
-use Rattle.pull_laws.specs.of_one_tree_laws.Places.{InsideFact}
-use Rattle.calm_laws.specs.of_orderly_traces.Agreeing.{IsWithin}
-use Rattle.calm_laws.specs.Carrying.{IsMember, frame_of}
-use Rattle.calm_laws.specs.Rounds.{CalmLeft, after}
-use Rattle.calm_laws.proofs.Delivered.{inside_fact}
-use Rattle.convergence_laws.specs.Copies.{HoldsTheOnly}
-use Rattle.convergence_laws.specs.Rounds as rounds
-use Rattle.convergence_laws.proofs.Convergence.{converge}
-use Rattle.promises.specs.Convergence.{IsAtRest, LackedRoom, CopiesConverge}
-use Rattle.convergence_laws.proofs.TraceKnown.{HasTable, HasOne, has_table, has_one, known_row}
-use Rattle.convergence_laws.proofs.TraceMoments.{IsMidway, at_end, quiet, lacked}
-use Rattle.convergence_laws.proofs.TracePlayed.{IsPlayed, member_of_list, played}
-use Rattle.convergence_laws.proofs.TraceUndisturbed.{among_passing}
 
 -- ---- rows ----
 
@@ -54,7 +56,7 @@ some_boot (suc b) h = grind (arith, nat_tests)
 
 -- ---- the promise ----
 
-module _ (lines : List ScheduleLine) (order : AreInOrder lines) (within : IsWithin lines) (calm : CalmLeft (config_of lines)) (n m : ℕ) (id : EpochId) (members : Members) (f : FileId) (stamp : Stamp) (h : IsAtRest (config_of lines) lines (trace_of (run lines)) n m id members f stamp) (s : ℕ) (listed : tree.is_member members s ≡ true)
+module _ (lines : List ScheduleLine) (order : AreInOrder lines) (within : IsWithin lines) (calm : CalmLeft (config_of lines)) (o n m : ℕ) (id : EpochId) (members : Members) (f : FileId) (stamp : Stamp) (h : IsAtRest (config_of lines) lines (trace_of (run lines)) o n m id members f stamp) (s : ℕ) (listed : tree.is_member members s ≡ true)
     (packed : tree.has_pack (config_of lines) f.group s ≡ true) (in_set : has (set_of_file (config_of lines) (through_line (trace_of (run lines)) m) f) s ≡ true) where
   abbrev c : Config
   c = config_of lines
@@ -66,10 +68,10 @@ module _ (lines : List ScheduleLine) (order : AreInOrder lines) (within : IsWith
   trace = trace_of (run lines)
 
   first : IsPlayed lines n e
-  first = played lines order within n id members h.rounds.first
+  first = played lines order within n id members h.rounds.second
 
   second : IsPlayed lines m e
-  second = played lines order within m id members h.rounds.second
+  second = played lines order within m id members h.rounds.third
 
   abbrev end : World
   end = after c lines m second.deliveries
@@ -87,11 +89,19 @@ module _ (lines : List ScheduleLine) (order : AreInOrder lines) (within : IsWith
   q : HasOne lines m e second f css.0 t stamp
   q = has_one lines m e second f css.0 t stamp h.kept
 
+  -- each part of the trace between the two rounds is a moment of some line between them
+  between : rounds.IsShutFrom c e f (after c lines n first.deliveries).trace (run_in c (lines_before lines m)).trace
+  between more since now a b = shut_between lines order within n m h.rounds.late id f (λ p now low high k. h.undisturbed p now (let early : o < n = h.rounds.early in omega (arith, early, low)) high k) more since now a
+      (b ∙ ap (λ (w : World). since ++ w.trace) (sym (round_ends c lines n e first.deliveries first.calm)))
+
   rest : rounds.IsAtRest c lines n m e first.deliveries second.deliveries f q.version q.row.set
   rest = record {
-    rounds = record { first = first.calm; second = second.calm; order = h.rounds.order; directly = h.rounds.directly };
-    in_first = quiet lines n e first f q.numbered h.in_first;
-    in_second = quiet lines m e second f q.numbered h.in_second;
+    rounds = record { first = first.calm; second = second.calm; order = h.rounds.late };
+    undisturbed = record {
+      in_first = quiet lines n e first f q.numbered (λ now k. h.undisturbed n now (let a : o < n = h.rounds.early in omega (arith, a)) (let b : n < m = h.rounds.late in omega (arith, b)) k);
+      between = between;
+      in_second = quiet lines m e second f q.numbered (λ now k. h.undisturbed m now (let a : o < n = h.rounds.early in let b : n < m = h.rounds.late in omega (arith, a, b)) (omega arith) k);
+    };
     kept = record { file_known = q.row; known = known_row lines m e second f css.0 t q.row q.is_row.found; only = q.only; sites = refl };
   }
 
@@ -116,4 +126,4 @@ module _ (lines : List ScheduleLine) (order : AreInOrder lines) (within : IsWith
       over (inr x) = inr (lacked lines m e second s member f stamp q.version q.size_is x)
 
 pub converging : (lines : List ScheduleLine) → AreInOrder lines → IsWithin lines → CalmLeft (config_of lines) → CopiesConverge lines (trace_of (run lines))
-converging lines order within calm n m e members f stamp h s listed packed in_set = converged lines order within calm n m e members f stamp h s listed packed in_set
+converging lines order within calm o n m e members f stamp h s listed packed in_set = converged lines order within calm o n m e members f stamp h s listed packed in_set

@@ -1,43 +1,43 @@
 -- Moments of a calm round: what is undisturbed by the records is so in the run, and room that is lacking in the run is so by the records.
-use Rattle.std.proofs.Common.{◌≡◌, ℕ, nat_le, false, List, length, refl, sym, ◌∙◌, ap, subst, inl, inr, arith}
+use Rattle.std.proofs.Common.{List, [], ap, arith, false, inl, inr, length, nat_le, refl, subst, sym, ℕ, ◌∙◌, ◌≡◌}
+use Rattle.calm_laws.proofs.Calm.{calm_in_round}
+use Rattle.calm_laws.proofs.Delivered.{inside_fact}
+use Rattle.calm_laws.proofs.Facts.{RoundFacts, round_facts}
+use Rattle.calm_laws.proofs.of_rest_laws.Shown.{shown_entries}
+use Rattle.calm_laws.proofs.of_rest_laws.StoreStepResting.{plain_rests}
+use Rattle.calm_laws.specs.Carrying.{IsMember, frame_of}
+use Rattle.calm_laws.specs.Rounds.{after}
+use Rattle.commit_graph.specs.Versions.{content_of}
+use Rattle.convergence_laws.proofs.Midst.{past_of_round}
+use Rattle.convergence_laws.proofs.TracePlayed.{IsPlayed}
+use Rattle.convergence_laws.proofs.TraceUndisturbed.{closed_at}
+use Rattle.convergence_laws.specs.Rounds as rounds
+use Rattle.file_content.specs.Pages.{pages_of}
+use Rattle.lawful_trace.specs.Calm as traced
+use Rattle.lawful_trace.specs.Places.{through_line}
 use Rattle.locus_ids.specs.declared.config.Config.{Config}
 use Rattle.locus_ids.specs.declared.ids.FileId.{FileId}
 use Rattle.locus_ids.specs.declared.ids.Stamp.{Stamp}
-use Rattle.commit_graph.specs.Versions.{content_of}
-use Rattle.file_content.specs.Pages.{pages_of}
-use Rattle.schedule_lines.specs.Cluster.{config_of}
-use Rattle.schedule_lines.specs.declared.line.ScheduleLine.{ScheduleLine}
+use Rattle.orderly_laws.specs.Calm.{AreTogether}
+use Rattle.promises.specs.Convergence.{LackedRoom}
+use Rattle.pull_laws.proofs.of_one_tree_laws.Staying.{rest_below}
+use Rattle.pull_laws.proofs.of_store_laws.StorageResting.{room_is}
+use Rattle.pull_laws.specs.of_one_tree_laws.Places.{InsideFact, WorldFact}
+use Rattle.pull_laws.specs.of_one_tree_laws.Rest.{Past}
+use Rattle.pull_laws.specs.of_row_laws.Shown.{trace_of}
 use Rattle.role_steps.specs.Storage.{free_pages}
 use Rattle.role_steps.specs.declared.rounds.InEpoch.{InEpoch}
 use Rattle.role_steps.specs.declared.synchronizing.VersionRow.{VersionRow}
+use Rattle.schedule_lines.specs.Cluster.{config_of}
+use Rattle.schedule_lines.specs.declared.line.ScheduleLine.{ScheduleLine}
 use Rattle.the_run.specs.Runs.{run}
 use Rattle.the_run.specs.Worlds.{World}
+use Rattle.tree_laws.specs.Printed.{entries}
 use Rattle.tree_model.specs.Folds.{Trace}
 use Rattle.tree_model.specs.Histories.{history}
 use Rattle.tree_model.specs.State.{openers}
 use Rattle.tree_model.specs.Tree.{tree_of}
 use Rattle.tree_model.specs.Working.{free_pages as tree_free}
-use Rattle.lawful_trace.specs.Calm as traced
-use Rattle.lawful_trace.specs.Places.{through_line}
-use Rattle.pull_laws.specs.of_row_laws.Shown.{trace_of}
-use Rattle.tree_laws.specs.Printed.{entries}
-use Rattle.pull_laws.proofs.of_store_laws.StorageResting.{room_is}
-use Rattle.pull_laws.specs.of_one_tree_laws.Places.{InsideFact, WorldFact}
-use Rattle.pull_laws.specs.of_one_tree_laws.Rest.{Past}
-use Rattle.pull_laws.proofs.of_one_tree_laws.Staying.{rest_below}
-use Rattle.calm_laws.proofs.of_rest_laws.Shown.{shown_entries}
-use Rattle.calm_laws.proofs.of_rest_laws.StoreStepResting.{plain_rests}
-use Rattle.orderly_laws.specs.Calm.{AreTogether}
-use Rattle.calm_laws.specs.Carrying.{IsMember, frame_of}
-use Rattle.calm_laws.specs.Rounds.{after}
-use Rattle.calm_laws.proofs.Calm.{calm_in_round}
-use Rattle.calm_laws.proofs.Delivered.{inside_fact}
-use Rattle.calm_laws.proofs.Facts.{RoundFacts, round_facts}
-use Rattle.convergence_laws.specs.Rounds as rounds
-use Rattle.promises.specs.Convergence.{IsUndisturbed, LackedRoom}
-use Rattle.convergence_laws.proofs.CurrentReached.{past_of_round}
-use Rattle.convergence_laws.proofs.TracePlayed.{IsPlayed}
-use Rattle.convergence_laws.proofs.TraceUndisturbed.{closed_at}
 
 -- what stands at each moment
 pub record IsMidway (c : Config) (e : InEpoch) (w : World) : Type 0 where
@@ -65,7 +65,7 @@ module _ (lines : List ScheduleLine) (n : ℕ) (e : InEpoch) (p : IsPlayed lines
   pub at_end : IsMidway c e (after c lines n p.deliveries)
   at_end = midway (after c lines n p.deliveries) (inr (p.deliveries, omega arith, refl))
 
-  pub quiet : (f : FileId) → (f.ino ≡ 0 → ⊥) → IsUndisturbed c trace n e.id f → rounds.IsUndisturbed c lines n e p.deliveries f
+  pub quiet : (f : FileId) → (f.ino ≡ 0 → ⊥) → ((now : Trace) → traced.IsMoment trace n now → openers (tree_of c e.id f.group now) f ≡ []) → rounds.IsUndisturbed c lines n e p.deliveries f
   quiet f numbered none w k = (let q : IsMidway c e w = midway w k in
       closed_at c e w q.fact q.together f numbered (ap (λ (t : Trace). openers (tree_of c e.id f.group t) f) (sym (shown_entries w.trace)) ∙ none (trace_of w) (moment w k)))
 

@@ -52,8 +52,8 @@ use Rattle.calm_laws.specs.Rounds.{after, IsInRound, IsCalm}
 use Rattle.calm_laws.proofs.Limits.{world_within, line_there, take_length, take_fit, before_any}
 use Rattle.calm_laws.proofs.Moments.{GoesOn, goes_itself, goes_round_kept, moment_of, TellsNoBudget, no_budget, RunsOut, runs_out}
 use Rattle.calm_laws.proofs.Placed.{Stands, stands_kept, first_stands}
-use Rattle.calm_laws.proofs.Facts.{round_facts}
-use Rattle.convergence_laws.proofs.TraceTicked.{ticks_then, rest_earlier, holds_round, together_by}
+use Rattle.calm_laws.proofs.Facts.{round_facts, holds_round}
+use Rattle.convergence_laws.proofs.TraceTicked.{ticks_then, rest_earlier, together_by}
 use Rattle.calm_laws.proofs.Rounds.{round_kept, in_round, delivered_kept, delivered_then}
 use Rattle.calm_laws.proofs.Together.{together_in}
 use Rattle.calm_laws.proofs.Twins.{twin, first_twin}

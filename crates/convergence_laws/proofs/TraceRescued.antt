@@ -1,44 +1,44 @@
 -- No directory wants a rescue after calm rounds: as the lines of a schedule and the records of its run tell it.
-use Rattle.std.proofs.Common.{◌≡◌, ℕ, Bool, true, false, not, cond, ◌&&◌, ◌||◌, ◌⊎◌, List, [], ◌∷◌, length, map, refl, sym, ◌∙◌, ap, inl, inr}
+use Rattle.std.proofs.Common.{Bool, List, [], ap, arith, cond, false, inl, inr, length, map, not, refl, sym, true, ℕ, ◌&&◌, ◌<◌, ◌||◌, ◌∙◌, ◌∷◌, ◌≡◌, ◌⊎◌}
 use Rattle.std.specs.List.{list_all, list_any}
 use Rattle.std.specs.Str.{bytes_eq}
-use Rattle.role_steps.proofs.of_plain_facts.Tests.{true_false}
-use Rattle.locus_ids.specs.declared.config.Config.{Config}
-use Rattle.locus_ids.specs.declared.ids.FileId.{FileId}
-use Rattle.locus_ids.specs.declared.ids.Stamp.{Stamp}
+use Rattle.calm_laws.proofs.of_rest_laws.MendStepKeptVectors.{vectors_agree}
+use Rattle.calm_laws.proofs.of_rest_laws.MendStepWanted.{joined_none}
+use Rattle.calm_laws.specs.Carrying.{frame_of}
+use Rattle.calm_laws.specs.Rounds.{CalmLeft, after}
+use Rattle.calm_laws.specs.of_orderly_traces.Agreeing.{IsWithin}
 use Rattle.commit_graph.specs.Versions.{content_of}
-use Rattle.dir_format.specs.declared.entry.Entry.{Entry}
+use Rattle.convergence_laws.proofs.DirectoriesUndisturbed.{undisturbed}
+use Rattle.convergence_laws.proofs.TraceKnown.{HasOne, HasTable, has_one, has_table, known_row, lost_there}
+use Rattle.convergence_laws.proofs.TraceMoments.{lacked, quiet}
+use Rattle.convergence_laws.proofs.TracePlayed.{IsPlayed, played}
+use Rattle.convergence_laws.specs.Directories as worlds
+use Rattle.convergence_laws.specs.Rounds as rounds
 use Rattle.dir_format.specs.Contents.{entries_from, entries_of, is_dir}
 use Rattle.dir_format.specs.Entries.{is_live}
 use Rattle.dir_format.specs.Grammar.{dir_bytes}
+use Rattle.dir_format.specs.declared.entry.Entry.{Entry}
 use Rattle.dir_reconcile.specs.Rescues.{rescue_wanted, wants_rescue}
-use Rattle.schedule_lines.specs.Cluster.{config_of}
-use Rattle.schedule_lines.specs.Schedule.{AreInOrder}
-use Rattle.schedule_lines.specs.declared.line.ScheduleLine.{ScheduleLine}
+use Rattle.lawful_trace.specs.Places.{through_line}
+use Rattle.locus_ids.specs.declared.config.Config.{Config}
+use Rattle.locus_ids.specs.declared.ids.FileId.{FileId}
+use Rattle.locus_ids.specs.declared.ids.Stamp.{Stamp}
+use Rattle.promises.specs.Convergence.{AreDirectRounds, MayWant, NoRescueIsWanted, UndisturbedWantNoRescue, WantsRescue}
+use Rattle.pull_laws.specs.of_row_laws.Shown.{trace_of}
+use Rattle.role_steps.proofs.of_plain_facts.Tests.{true_false}
 use Rattle.role_steps.specs.Mends as role
 use Rattle.role_steps.specs.declared.rounds.InEpoch.{InEpoch}
 use Rattle.role_steps.specs.declared.synchronizing.SyncTable.{SyncTable}
+use Rattle.schedule_lines.specs.Cluster.{config_of}
+use Rattle.schedule_lines.specs.Schedule.{AreInOrder}
+use Rattle.schedule_lines.specs.declared.line.ScheduleLine.{ScheduleLine}
 use Rattle.the_run.specs.Runs.{run}
 use Rattle.the_run.specs.Worlds.{World}
+use Rattle.tree_laws.specs.Printed.{entries}
 use Rattle.tree_model.specs.Folds.{Trace}
 use Rattle.tree_model.specs.Histories.{history}
 use Rattle.tree_model.specs.Mending.{joined_all, kept_vectors}
 use Rattle.tree_model.specs.Tree.{tree_of}
-use Rattle.lawful_trace.specs.Places.{through_line}
-use Rattle.pull_laws.specs.of_row_laws.Shown.{trace_of}
-use Rattle.tree_laws.specs.Printed.{entries}
-use Rattle.calm_laws.proofs.of_rest_laws.MendStepKeptVectors.{vectors_agree}
-use Rattle.calm_laws.proofs.of_rest_laws.MendStepWanted.{joined_none}
-use Rattle.calm_laws.specs.of_orderly_traces.Agreeing.{IsWithin}
-use Rattle.calm_laws.specs.Carrying.{frame_of}
-use Rattle.calm_laws.specs.Rounds.{CalmLeft, after}
-use Rattle.convergence_laws.specs.Directories as worlds
-use Rattle.convergence_laws.specs.Rounds as rounds
-use Rattle.promises.specs.Convergence.{AreCalmRounds}
-use Rattle.promises.specs.Convergence.{WantsRescue, MayWant, UndisturbedWantNoRescue, NoRescueIsWanted}
-use Rattle.convergence_laws.proofs.TraceKnown.{HasTable, HasOne, has_table, has_one, known_row, lost_there}
-use Rattle.convergence_laws.proofs.TraceMoments.{quiet, lacked}
-use Rattle.convergence_laws.proofs.TracePlayed.{IsPlayed, played}
 
 -- ---- entries ----
 
@@ -96,22 +96,22 @@ module _ (lines : List ScheduleLine) (n : ℕ) (e : InEpoch) (p : IsPlayed lines
 
 -- ---- the promises ----
 
-together : (lines : List ScheduleLine) (n m : ℕ) (e : InEpoch) (first : IsPlayed lines n e) (second : IsPlayed lines m e) → AreCalmRounds lines (trace_of (run lines)) n m e.id e.members → rounds.AreCalmRounds (config_of lines) lines n m e first.deliveries second.deliveries
-together lines n m e first second h = record { first = first.calm; second = second.calm; order = h.order; directly = h.directly }
+together : (lines : List ScheduleLine) (n m : ℕ) (e : InEpoch) (first : IsPlayed lines n e) (second : IsPlayed lines m e) → AreDirectRounds lines (trace_of (run lines)) n m e.id e.members → rounds.AreDirectRounds (config_of lines) lines n m e first.deliveries second.deliveries
+together lines n m e first second h = record { rounds = record { first = first.calm; second = second.calm; order = h.order }; directly = h.directly }
 
 pub undisturbed_by_trace : (lines : List ScheduleLine) → AreInOrder lines → IsWithin lines → CalmLeft (config_of lines) → worlds.UndisturbedWantNoRescue (config_of lines) → UndisturbedWantNoRescue lines (trace_of (run lines))
-undisturbed_by_trace lines order within calm law n m id members css f stamp rest h =
-    told lines m e second css f stamp h t q (law lines n m e first.deliveries second.deliveries f q.row q.version (together lines n m e first second rest.rounds)
-    (quiet lines n e first f q.numbered rest.in_first) (quiet lines m e second f q.numbered rest.in_second) (known_row lines m e second f css t q.row q.is_row.found) (directory lines m e second css f stamp h t q) q.only (wants lines m e second css f stamp h t q))
+undisturbed_by_trace lines order within calm law n m id members css f stamp direct undisturbed h =
+    told lines m e second css f stamp h t q (law lines n m e first.deliveries second.deliveries f q.row q.version (together lines n m e first second direct)
+    (quiet lines n e first f q.numbered (λ now k. undisturbed n now (omega arith) (let b : n < m = direct.order in omega (arith, b)) k)) (quiet lines m e second f q.numbered (λ now k. undisturbed m now (let b : n < m = direct.order in omega (arith, b)) (omega arith) k)) (known_row lines m e second f css t q.row q.is_row.found) (directory lines m e second css f stamp h t q) q.only (wants lines m e second css f stamp h t q))
   where
     e : InEpoch
     e = record { id = id; members = members }
 
     first : IsPlayed lines n e
-    first = played lines order within n id members rest.rounds.first
+    first = played lines order within n id members direct.first
 
     second : IsPlayed lines m e
-    second = played lines order within m id members rest.rounds.second
+    second = played lines order within m id members direct.second
 
     t : HasTable lines m e second f.group css
     t = has_table lines calm m e second f.group css h.synced

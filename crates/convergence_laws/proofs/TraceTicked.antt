@@ -8,34 +8,24 @@ use Rattle.locus_ids.specs.declared.config.Config.{Config}
 use Rattle.locus_ids.specs.declared.ids.EpochId.{EpochId}
 use Rattle.locus_ids.specs.declared.sites.Members.{Members}
 use Rattle.schedule_lines.specs.declared.line.ScheduleLine.{ScheduleLine}
-use Rattle.role_steps.specs.Views.{SiteView, Event, Shown, Ticks, Receives, all_sites}
+use Rattle.role_steps.specs.Views.{SiteView}
 use Rattle.role_steps.specs.declared.rounds.InEpoch.{InEpoch}
 use Rattle.tree_model.specs.Epochs.{is_up, epoch_of, members_of}
 use Rattle.tree_model.specs.Packs.{boot_in, is_member}
 use Rattle.the_run.specs.Runs.{ticks_to}
-use Rattle.the_run.specs.Steps.{step}
-use Rattle.the_run.specs.Worlds.{World, Place, Running, Stopped, Line, CutCircuit, number_of, place_at, links_of, passed, acts, is_between}
+use Rattle.the_run.specs.Worlds.{World, Place, Running, Stopped, Line, CutCircuit, place_at, is_between}
 use Rattle.pull_laws.specs.of_row_laws.Shown.{trace_of}
 use Rattle.pull_laws.proofs.of_row_laws.Causes.{epoch_standing}
 use Rattle.tree_laws.specs.Following.{IsFollowed}
 use Rattle.tree_laws.specs.Printed.{entries}
 use Rattle.tree_laws.proofs.Mending.{members_stay}
-use Rattle.pull_laws.specs.of_one_tree_laws.Places.{NumberedFact, SiteIn, WorldFact}
-use Rattle.pull_laws.specs.of_one_tree_laws.Rest.{EachRest, IsRest}
+use Rattle.pull_laws.specs.of_one_tree_laws.Places.{SiteIn, WorldFact}
+use Rattle.pull_laws.specs.of_one_tree_laws.Rest.{EachRest}
 use Rattle.calm_laws.proofs.of_rest_laws.Shown.{shown_entries}
 use Rattle.orderly_laws.specs.Calm.{IsInside, AreTogether}
 use Rattle.calm_laws.specs.Carrying.{IsMember}
-use Rattle.calm_laws.proofs.Lists.{every_among}
 use Rattle.calm_laws.proofs.Moments.{GoesOn}
 use Rattle.calm_laws.proofs.Placed.{Stands}
-use Rattle.the_run.proofs.InsideSync.{every_without}
-use Rattle.orderly_laws.proofs.Rounds.{RoundKept}
-use Rattle.pull_laws.specs.of_one_tree_laws.Roles.{EventFact, RolesDo}
-use Rattle.pull_laws.proofs.of_one_tree_laws.Cuts.{step_writes}
-use Rattle.pull_laws.proofs.of_one_tree_laws.Staying.{Stays, stays}
-use Rattle.pull_laws.proofs.of_one_tree_laws.Steps.{step_fine}
-use Rattle.pull_laws.proofs.of_one_tree_laws.Worlds.{Holds, acts_holds, says_holds}
-use Rattle.trace_book.specs.declared.record.Record.TheVariants as says
 use Rattle.role_steps.specs.Views as views
 use Rattle.lawful_trace.specs.Calm as traced
 
@@ -48,23 +38,6 @@ ticks_then c n (x ∷ xs) ys w = ticks_then c n xs ys _
 pub rest_earlier : (c : Config) (new old : List Line) → EachRest c (new ++ old) → EachRest c old
 rest_earlier c [] old h = h
 rest_earlier c (x ∷ xs) old h = rest_earlier c xs old h.1
-
--- what is shown of the run stands after each tick and each delivery
-pass_holds : (c : Config) (k : ℕ) (w : World) → Holds c w → Holds c (passed k w)
-pass_holds c k w g = λ r. (let f : WorldFact c w = g r in record { followed = f.followed; places = f.places; sent = f.sent; underway = every_without (NumberedFact c w.trace) number_of k w.underway f.underway })
-
-does : (c : Config) → RolesDo c → Stays c → (n s : ℕ) (e : Event) (v : SiteView) (w : World) → place_at w s ≡ Some (Running v) → (IsRest c w.trace → EventFact c w.trace s v e) → Holds c w → Holds c (acts n s v (step c s (links_of w s) v e) w)
-does c roles stays n s e v w here fact g = acts_holds c roles stays n s v (step c s (links_of w s) v e) w here
-    (λ old r f. step_fine c roles stays n s (links_of w s) w.trace v e old (f.places s (Running v) here) (fact old.rest) r)
-    (λ old f. step_writes c roles n s (links_of w s) w.trace v e old (f.places s (Running v) here) (fact old.rest)) g
-
-pub holds_round : (c : Config) (n : ℕ) → RolesDo c → RoundKept c n (Holds c)
-holds_round c n roles = record {
-  ticks = λ s v w here g. does c roles (stays c) n s Ticks v w here (λ r. tt) g;
-  receives = λ x v w here a undropped g. does c roles (stays c) n x.packet.to (Receives x.packet) v (passed x.number w) here (λ r. (refl, every_among (NumberedFact c w.trace) x w.underway a (g r).underway)) (pass_holds c x.number w g);
-  drops = λ x w a dropped g. pass_holds c x.number w g;
-  budgets = λ w g. says_holds c roles (stays c) n (Shown says.Budget ∷ []) w (tt, tt) g;
-}
 
 -- ---- members that are together ----
 

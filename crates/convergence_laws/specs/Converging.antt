@@ -2,7 +2,6 @@
 use Rattle.std.specs.Prelude.{ℕ, ◌≡◌, ◌≢◌, true, false, List, [], ◌∷◌, Some}
 use Rattle.locus_ids.specs.declared.config.Config.{Config}
 use Rattle.locus_ids.specs.declared.ids.FileId.{FileId}
-use Rattle.schedule_lines.specs.declared.line.ScheduleLine.{ScheduleLine}
 use Rattle.wire_messages.specs.declared.body.Body.{Body}
 use Rattle.wire_messages.specs.declared.body.Body.TheVariants as body
 use Rattle.role_steps.specs.Adoption.{table_group}
@@ -19,13 +18,11 @@ use Rattle.role_steps.specs.declared.synchronizing.FileRow.{FileRow}
 use Rattle.role_steps.specs.declared.synchronizing.SyncTable.{SyncTable}
 use Rattle.role_steps.specs.declared.synchronizing.VersionRow.{VersionRow}
 use Rattle.the_run.specs.Kept.{Among}
-use Rattle.the_run.specs.Runs.{arrives}
-use Rattle.the_run.specs.Worlds.{World, Running, Numbered, place_at}
+use Rattle.the_run.specs.Worlds.{Running, Numbered}
 use Rattle.epoch_laws.specs.Known.{Places}
 use Rattle.calm_laws.specs.Carrying.{IsMember}
-use Rattle.calm_laws.specs.Rounds.{Delivery}
 use Rattle.convergence_laws.specs.Copies.{Knows}
-use Rattle.convergence_laws.specs.Offers.{Offer, named, is_above, offer_of, IsToHold, IsFree, IsOnItsWay}
+use Rattle.convergence_laws.specs.Offers.{Offer, named, is_above}
 
 -- no version of the file above this one is named by a notice under way to the site, or is pulled there
 pub record NoneAbove (e : InEpoch) (at : Places) (under : List Numbered) (s : ℕ) (file : FileId) (v : VersionRow) : Type 0 where
@@ -40,10 +37,12 @@ IsNotify _ = ⊥
 
 abbrev pub IsPage : Body → Type 0
 IsPage (body.Page file stamp page bytes) = Unit {0}
+IsPage (body.Delta file wanted pages) = Unit {0}
 IsPage _ = ⊥
 
 abbrev pub IsPull : Body → Type 0
 IsPull (body.Pull file stamp page) = Unit {0}
+IsPull (body.Want file wanted own) = Unit {0}
 IsPull _ = ⊥
 
 abbrev pub IsHave : Body → Type 0
@@ -57,6 +56,7 @@ IsPlain (body.Open serial call process request file how) = Unit {0}
 IsPlain (body.OpenSs inst file mode set kind base vector parents) = Unit {0}
 IsPlain (body.OpenDone serial answer) = Unit {0}
 IsPlain (body.OpDone serial n result) = Unit {0}
+IsPlain (body.AsHeld serial n len) = Unit {0}
 IsPlain (body.ClosedOk inst) = Unit {0}
 IsPlain (body.CloseDone serial answer) = Unit {0}
 IsPlain (body.Look call process request take file what) = Unit {0}
@@ -75,6 +75,7 @@ IsOpened _ = ⊥
 -- its storage site may commit
 abbrev pub MayCommit : Body → Type 0
 MayCommit (body.Op serial n o seen) = Unit {0}
+MayCommit (body.ReadHeld serial n at len) = Unit {0}
 MayCommit (body.Close serial) = Unit {0}
 MayCommit _ = ⊥
 
@@ -93,19 +94,9 @@ FormsEpochs _ = ⊥
 
 -- ---- what stands in a round after another one ----
 
--- what a member pulls above its copy is the only kept version of its file, and the member is to hold it
-abbrev pub PullsAreCurrent : Config → InEpoch → Places → Type 0
-PullsAreCurrent c e at = (s : ℕ) (v : SiteView) (p : Pull) → IsMember e s → at s ≡ Some (Running v) → Among p v.pulls → is_above p.vector (copy_of v.store p.file) ≡ true → IsToHold c e at s (offer_of p)
-
 -- each group that a member synchronizes has started
 abbrev pub GroupsHaveStarted : InEpoch → Places → Type 0
 GroupsHaveStarted e at = (s group : ℕ) (v : SiteView) (t : SyncTable) → IsMember e s → at s ≡ Some (Running v) → row table_group group v.tables ≡ Some t → t.started ≡ true
-
--- Where a packet of this kind comes once each group has started, a version that is on its way to a member, which could adopt it at once,
--- stays so.
-abbrev pub GoesOn : Config → (Body → Type 0) → Type 0
-GoesOn c kind = (lines : List ScheduleLine) (n : ℕ) (e : InEpoch) (x : Numbered) (w : World) (s : ℕ) (file : FileId) (v : VersionRow) → Delivery c lines n e x w → kind x.packet.body → IsMember e s → GroupsHaveStarted e (place_at w) → NoneAbove e (place_at w) w.underway s file v → IsFree (place_at w) s file v →
-    IsOnItsWay c e (place_at w) w.underway s file v → IsOnItsWay c e (place_at (arrives c n x w)) (arrives c n x w).underway s file v
 
 -- the table of a file with one kept version names a holder of it, and no member whose copy is below it
 pub record TellsHolders (e : InEpoch) (at : Places) (file : FileId) (r : FileRow) (v : VersionRow) : Type 0 where

@@ -16,7 +16,7 @@ use Rattle.tree_model.specs.Histories.{history}
 use Rattle.tree_laws.specs.Printed.{entries}
 use Rattle.calm_laws.specs.Rounds.{after, IsCalm}
 use Rattle.convergence_laws.specs.Copies.{Knows}
-use Rattle.convergence_laws.specs.Rounds.{LackedRoom, AreCalmRounds, IsUndisturbed}
+use Rattle.convergence_laws.specs.Rounds.{LackedRoom, AreDirectRounds, IsUndisturbed}
 
 -- several versions of the file are kept
 pub record IsFlagged (r : FileRow) : Type 0 where
@@ -42,13 +42,13 @@ NoDirectoryIsFlagged c = (lines : List ScheduleLine) (n : ℕ) (e : InEpoch) (k 
 -- After two of them of which one stands directly after the other no directory that is undisturbed in both wants a rescue but one whose mend
 -- was refused, or whose only kept version had no room in the pack of the synchronization site at some moment of the second.
 abbrev pub UndisturbedWantNoRescue : Config → Type 0
-UndisturbedWantNoRescue c = (lines : List ScheduleLine) (n m : ℕ) (e : InEpoch) (k l : ℕ) (file : FileId) (r : FileRow) (v : VersionRow) → AreCalmRounds c lines n m e k l → IsUndisturbed c lines n e k file → IsUndisturbed c lines m e l file → (d : Knows c e (place_at (after c lines m l)) file r) → is_dir r.kind ≡ true → r.kept ≡ v ∷ [] →
+UndisturbedWantNoRescue c = (lines : List ScheduleLine) (n m : ℕ) (e : InEpoch) (k l : ℕ) (file : FileId) (r : FileRow) (v : VersionRow) → AreDirectRounds c lines n m e k l → IsUndisturbed c lines n e k file → IsUndisturbed c lines m e l file → (d : Knows c e (place_at (after c lines m l)) file r) → is_dir r.kind ≡ true → r.kept ≡ v ∷ [] →
     WantsRescue c (after c lines m l) d.table file v → WasRefused d.view file ⊎ LackedRoom c lines m l d.css file v
 
 -- three calm rounds that stand directly one after another
 pub record AreThreeRounds (c : Config) (lines : List ScheduleLine) (o n m : ℕ) (e : InEpoch) (j k l : ℕ) : Type 0 where
-  pub first : AreCalmRounds c lines o n e j k
-  pub last : AreCalmRounds c lines n m e k l
+  pub first : AreDirectRounds c lines o n e j k
+  pub last : AreDirectRounds c lines n m e k l
 
 -- After three of them no directory wants a rescue but one whose mend was refused, or whose only kept version had no room in the pack of
 -- the synchronization site at some moment of the third.

@@ -1,5 +1,5 @@
 -- How a member comes to hold the only kept version of a file in a round: it has pulled it whole, and as many notices are under way to
--- it as there are versions that it could adopt before. Each notice that comes lets it adopt one.
+-- it as there are files of which it could adopt a version before. Each notice that comes lets it adopt one.
 use Rattle.std.specs.Prelude.{ℕ, ◌≡◌, ◌≤◌, ◌==◌, ◌⊎◌, Bool, true, false, ◌&&◌, nat_le, List, [], ◌∷◌, ◌++◌, length, Option, Some, None}
 use Rattle.locus_ids.specs.Sites.{has}
 use Rattle.locus_ids.specs.declared.config.Config.{Config}
@@ -10,10 +10,10 @@ use Rattle.wire_messages.specs.declared.body.Body.{Body}
 use Rattle.wire_messages.specs.declared.body.Body.TheVariants as body
 use Rattle.wire_messages.specs.declared.packet.Packet.{Packet}
 use Rattle.role_steps.specs.Adoption.{has_mend}
-use Rattle.role_steps.specs.Pulling.{pull_of, is_complete}
+use Rattle.role_steps.specs.Pulling.{pull_key, pull_of, is_complete, is_over, wanted_pages}
 use Rattle.role_steps.specs.Storage.{copy_of, has_open, free_pages}
 use Rattle.role_steps.specs.Versions.{is_below}
-use Rattle.role_steps.specs.Views.{SiteView, boot_in}
+use Rattle.role_steps.specs.Views.{SiteView, boot_in, file_key}
 use Rattle.role_steps.specs.declared.copies.FileCopy.{FileCopy}
 use Rattle.role_steps.specs.declared.pulls.Pull.{Pull}
 use Rattle.role_steps.specs.declared.rounds.InEpoch.{InEpoch}
@@ -73,26 +73,34 @@ pub record IsToHold (c : Config) (e : InEpoch) (at : Places) (s : ℕ) (d : Offe
 abbrev pub offer_of : Pull → Offer
 offer_of p = record { file = p.file; stamp = p.stamp; vector = p.vector }
 
--- the site pulls it
-abbrev pub IsPulled : SiteView → Offer → Type 0
-IsPulled v d = (p : Pull) × Among p v.pulls × (offer_of p ≡ d)
+-- a version of the file with this key is pulled whole, above the copy
+pub record HasWhole (v : SiteView) (k : ℕ) : Type 0 where
+  pub pull : Pull
+  pub there : Among pull v.pulls
+  pub key : pull_key pull ≡ k
+  pub whole : is_complete pull ≡ true
+  pub above : is_above pull.vector (copy_of v.store pull.file) ≡ true
 
--- The version is above the site's copy, and is to be held there, is pulled there, or is named by a notice under way to it.
-pub record IsDue (c : Config) (e : InEpoch) (at : Places) (under : List Numbered) (s : ℕ) (d : Offer) : Type 0 where
-  pub view : SiteView
-  pub here : at s ≡ Some (Running view)
-  pub above : is_above d.vector (copy_of view.store d.file) ≡ true
-  pub why : IsToHold c e at s d ⊎ (IsPulled view d ⊎ Among d (named e s under))
+-- The site has no copy of the file, and a notice of it is under way: the version may have no pages, and is whole with the notice. (Over
+-- a copy it is the holder that says which pages are to be pulled.)
+pub record MayBegin (e : InEpoch) (under : List Numbered) (s : ℕ) (v : SiteView) (k : ℕ) : Type 0 where
+  pub offer : Offer
+  pub named : Among offer (named e s under)
+  pub key : file_key offer.file ≡ k
+  pub none : copy_of v.store offer.file ≡ None
 
--- there are as many notices under way to the site as versions due there, or more
-pub record HasEnough (c : Config) (e : InEpoch) (at : Places) (under : List Numbered) (s : ℕ) : Type 0 where
-  pub offers : List Offer
-  pub each : (d : Offer) → IsDue c e at under s d → Among d offers
-  pub notices : length offers ≤ length (named e s under)
+abbrev pub MayAdopt : InEpoch → List Numbered → ℕ → SiteView → ℕ → Type 0
+MayAdopt e under s v k = HasWhole v k ⊎ MayBegin e under s v k
+
+-- there are as many notices under way to the site as such files, or more
+pub record HasEnough (e : InEpoch) (under : List Numbered) (s : ℕ) (v : SiteView) : Type 0 where
+  pub keys : List ℕ
+  pub each : (k : ℕ) → MayAdopt e under s v k → Among k keys
+  pub notices : length keys ≤ length (named e s under)
 
 -- ---- how a version is on its way ----
 
--- the site has pulled the version whole, and it is above its copy
+-- the site has pulled the version whole over the copy that it has, and it is above that
 pub record HasPulled (at : Places) (s : ℕ) (file : FileId) (v : VersionRow) : Type 0 where
   pub view : SiteView
   pub here : at s ≡ Some (Running view)
@@ -102,12 +110,10 @@ pub record HasPulled (at : Places) (s : ℕ) (file : FileId) (v : VersionRow) : 
   pub is_file : pull.file ≡ file
   pub stamp : pull.stamp ≡ v.stamp
   pub vector : pull.vector ≡ v.vector
-  pub size : pull.size ≡ v.size
+  -- the pages that were pulled are some of the version's
+  pub few : length (wanted_pages pull) ≤ pages_of v.size
+  pub over : is_over (copy_of view.store file) pull.base ≡ true
   pub above : is_above v.vector (copy_of view.store file) ≡ true
-
--- the site holds it, or has pulled it whole and has enough notices under way
-abbrev pub IsOnItsWay : Config → InEpoch → Places → List Numbered → ℕ → FileId → VersionRow → Type 0
-IsOnItsWay c e at under s file v = HoldsTheOnly at s file v ⊎ (HasPulled at s file v × HasEnough c e at under s)
 
 -- what lets the site adopt it at once: there is room, no instance of the file is open there, and no mend of it waits
 pub record IsFree (at : Places) (s : ℕ) (file : FileId) (v : VersionRow) : Type 0 where

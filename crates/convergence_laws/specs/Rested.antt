@@ -18,7 +18,8 @@ use Rattle.tree_model.specs.Folds.{Trace}
 use Rattle.tree_model.specs.Packs.{has_pack, is_member}
 use Rattle.lawful_trace.specs.Places.{through_line}
 use Rattle.lawful_trace.specs.Samples.{at, epoch, caller, inst, file, stamp, brought, members}
-use Rattle.promises.specs.Convergence.{AreCalmRounds, IsAtRest}
+use Rattle.lawful_trace.specs.Calm.{IsCalmRound}
+use Rattle.promises.specs.Convergence.{IsAtRest}
 
 abbrev pub rested_lines : List ScheduleLine
 rested_lines =
@@ -27,6 +28,7 @@ rested_lines =
     Event (line.Merge 1) ∷
     Event (line.Settle 1000) ∷
     Event (line.Call 1 1 (call.Create (codes "/a") None)) ∷
+    Event (line.Settle 1000) ∷
     Event (line.Settle 1000) ∷
     Event (line.Settle 1000) ∷
     Event (line.Settle 1000) ∷
@@ -52,11 +54,11 @@ rested_trace =
     at 4 (Join 1 (epoch 1 1 1) (members (1 ∷ 1 ∷ []))) ∷
     []
 
--- Lines 6, 7 and 8 are calm rounds of the two sites, of which the first serves the call; the file is at rest in the last two, and is for
--- both sites.
+-- Lines 6, 7, 8 and 9 are calm rounds of the two sites, of which the first serves the call; the file is at rest in the last three, and is
+-- for both sites.
 pub record IsRested (lines : List ScheduleLine) (trace : Trace) : Type 0 where
-  pub before : AreCalmRounds lines trace 6 7 (epoch 1 1 1) (members (1 ∷ 1 ∷ []))
-  pub rest : IsAtRest (config_of lines) lines trace 7 8 (epoch 1 1 1) (members (1 ∷ 1 ∷ [])) (file 0 2) (stamp 1 1)
+  pub before : IsCalmRound lines trace 6 (epoch 1 1 1) (members (1 ∷ 1 ∷ []))
+  pub rest : IsAtRest (config_of lines) lines trace 7 8 9 (epoch 1 1 1) (members (1 ∷ 1 ∷ [])) (file 0 2) (stamp 1 1)
   pub member : is_member (members (1 ∷ 1 ∷ [])) 2 ≡ true
   pub packed : has_pack (config_of lines) 0 2 ≡ true
-  pub in_set : has (set_of_file (config_of lines) (through_line trace 8) (file 0 2)) 2 ≡ true
+  pub in_set : has (set_of_file (config_of lines) (through_line trace 9) (file 0 2)) 2 ≡ true

@@ -57,9 +57,9 @@ wanting_trace =
     at 21 (Release (epoch 3 1 1) (inst 1 5) (file 0 1) (Some (stamp 1 3))) ∷
     at 21 (Commit (file 0 1) 1 (stamp 1 3) ((stamp 1 2) ∷ []) (1 ∷ 102 ∷ 0 ∷ 2 ∷ 1 ∷ 0 ∷ 0 ∷ 0 ∷ 3 ∷ [])) ∷
     at 21 (Act (epoch 3 1 1) (inst 1 5) 1 op.Mend outcome.Done) ∷
-    at 21 (Look (epoch 3 1 1) (caller 1 1 3) 2 (file 0 1) (what.Whole (stamp 1 2)) (served.At (stamp 1 2))) ∷
     at 21 (Adopt (file 0 1) 2 (stamp 1 2)) ∷
     at 21 (Adopt (file 0 2) 1 (stamp 2 1)) ∷
+    at 21 (Look (epoch 3 1 1) (caller 1 1 3) 2 (file 0 1) (what.Whole (stamp 1 2)) (served.At (stamp 1 2))) ∷
     at 21 (Grant (epoch 3 1 1) (caller 1 1 3) 1 (inst 1 5) mode.Mend (file 0 1) (Some (stamp 1 2)) 1) ∷
     at 21 (Accept 1 0 (caller 1 1 3) (call.Mend (file 0 1))) ∷
     at 21 (Start (epoch 3 1 1) 0 (brought 1 (stamp 1 1) ∷ brought 1 (stamp 1 2) ∷ brought 2 (stamp 1 1) ∷ brought 2 (stamp 2 1) ∷ [])) ∷

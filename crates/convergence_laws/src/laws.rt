@@ -9,19 +9,14 @@ ghost use Rattle.promises.specs.Convergence.{CopiesConverge as CopiesConvergeInT
 ghost use Rattle.convergence_laws.specs.Rested.{rested_lines, IsRested};
 ghost use Rattle.convergence_laws.specs.Wanting.{wanting_lines, IsWanting};
 ghost use Rattle.promises.specs.Convergence.{NoDirectoryIsFlagged as NoDirectoryIsFlaggedInTrace, UndisturbedWantNoRescue as UndisturbedWantNoRescueInTrace, NoRescueIsWanted as NoRescueIsWantedInTrace};
-ghost use Rattle.convergence_laws.specs.Rounds.{CopiesConverge, CopiesConvergeInThree};
+ghost use Rattle.convergence_laws.specs.Rounds.{CopiesConverge};
 ghost use Rattle.convergence_laws.specs.Directories.{NoDirectoryIsFlagged, UndisturbedWantNoRescue, NoRescueIsWanted};
 
-/// After two calm rounds of which one stands directly after the other, in which an unflagged file is undisturbed, each member in its set
-/// holds its only kept version, or had no room for it at some moment of the second. (The second's ticks notify each member of whatever
-/// it lags behind, and each delivery lets it adopt one version for each notice that comes.)
+/// After two calm rounds with any lines between them, in which an unflagged file is undisturbed, each member in its set holds its only
+/// kept version, or had no room for it at some moment of the second. (In the first each member pulls whatever it lags behind whole; the
+/// second's ticks notify it of whatever it could adopt, and each notice that comes lets it adopt one.)
 pub fn copies_converge()
     ensures { (c : Config) → CopiesConverge c }
-{}
-
-/// So it is after three calm rounds of which the last two stand directly one after another.
-pub fn copies_converge_in_three_rounds()
-    ensures { (c : Config) → CopiesConvergeInThree c }
 {}
 
 /// After a calm round no directory is flagged but one whose mend was refused for want of room or for a count at its end: each event of a
@@ -44,9 +39,9 @@ pub fn no_rescue_is_wanted()
     ensures { (c : Config) → NoRescueIsWanted c }
 {}
 
-/// In the trace of every run that stays within its limits: after two calm rounds of an epoch of which one stands directly after the
-/// other, in which nobody has a file open that has one kept version at their end, each member in the file's set has that version on its
-/// disk, or had no room for it at some moment of the second.
+/// In the trace of every run that stays within its limits: after three calm rounds of an epoch with any lines between them, in which
+/// nobody has a file open that has one kept version at their end, each member in the file's set has that version on its disk, or had no
+/// room for it at some moment of the third.
 pub fn copies_converge_in_traces()
     ensures { (lines : List ScheduleLine) → AreInOrder lines → IsWithin lines → CopiesConvergeInTrace lines (trace_of (run lines)) }
 {}
@@ -70,8 +65,8 @@ pub fn no_rescue_is_wanted_in_traces()
     ensures { (lines : List ScheduleLine) → AreInOrder lines → IsWithin lines → NoRescueIsWantedInTrace lines (trace_of (run lines)) }
 {}
 
-/// There are such rounds and such files: in this run three rounds are calm that stand directly one after another, and the first of them
-/// makes a file for two sites, which nobody has open in the others.
+/// There are such rounds and such files: in this run four rounds are calm, and the first of them makes a file for two sites, which nobody
+/// has open in the others.
 pub fn some_files_are_at_rest()
     ensures in_order { AreInOrder rested_lines }
     ensures within { IsWithin rested_lines }

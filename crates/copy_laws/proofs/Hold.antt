@@ -1,5 +1,5 @@
 -- All that holds of versions and copies in a run.
-use Rattle.std.specs.Prelude.{List}
+use Rattle.std.specs.Prelude.{◌≤◌, List, length}
 use Rattle.locus_ids.specs.declared.config.Config.{Config}
 use Rattle.schedule_lines.specs.declared.line.ScheduleLine.{ScheduleLine}
 use Rattle.the_run.specs.Runs.{run_in}
@@ -10,16 +10,20 @@ use Rattle.kept_laws.proofs.of_pack_laws.InodeFitsRun.{run_fits}
 use Rattle.kept_laws.proofs.RootsRun.{run_roots}
 use Rattle.kept_laws.proofs.NamesRun.{run_named}
 use Rattle.kept_laws.proofs.Hold.{run_kept_hold}
-use Rattle.copy_laws.specs.Hold.{VersionsAndCopiesHold}
-use Rattle.copy_laws.proofs.ContentsRun.{run_contents}
+use Rattle.rest_laws.specs.of_order_laws.Joining.{PacksAreOfSites}
+use Rattle.rest_laws.specs.of_row_laws.Voids.{LinesFit}
+use Rattle.copy_laws.specs.Hold.{VersionsAndCopiesHold, VersionsStand}
+use Rattle.copy_laws.proofs.Contents.{run_contents}
 
-pub run_versions_and_copies : (c : Config) (lines : List ScheduleLine) → VersionsAndCopiesHold c (run_in c lines)
-run_versions_and_copies c lines = record {
+pub run_versions : (c : Config) (lines : List ScheduleLine) → VersionsStand c (run_in c lines)
+run_versions c lines = record {
   kept = run_kept_hold c lines;
   numbered = run_numbered c lines (run_agrees c lines);
   roots = run_roots c lines;
   named = run_named c lines;
   fit = run_fits c lines;
   told = run_copies c lines;
-  contents = run_contents c lines;
 }
+
+pub run_versions_and_copies : (c : Config) (lines : List ScheduleLine) → LinesFit c lines → PacksAreOfSites c → length c.packs ≤ 4 → VersionsAndCopiesHold c (run_in c lines)
+run_versions_and_copies c lines fit packs few = record { versions = run_versions c lines; contents = run_contents c lines fit packs few }

@@ -1,15 +1,4 @@
-pub mod Facts
-pub mod Pages
-pub mod RolesSend
-pub mod SyncFacts
-pub mod SyncEvents
-pub mod StoreFacts
-pub mod StoreOps
-pub mod SiteFacts
-pub mod FormingFacts
-pub mod StepFacts
-pub mod Closing
 pub mod CoversKept
-pub mod BytesRun
-pub mod ContentsRun
+pub mod LawsRun
+pub mod Contents
 pub mod Hold

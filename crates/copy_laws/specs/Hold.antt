@@ -9,7 +9,7 @@ use Rattle.kept_laws.specs.Roots.{RootsFollow}
 use Rattle.kept_laws.specs.Kept.{KeptVersionsHold}
 use Rattle.copy_laws.specs.Contents.{CopiesHaveContents}
 
-pub record VersionsAndCopiesHold (c : Config) (w : World) : Type 0 where
+pub record VersionsStand (c : Config) (w : World) : Type 0 where
   -- what holds of versions, of the copies' stamps and vectors, and of what epochs keep
   pub kept : KeptVersionsHold c w
   -- a commit's stamp names its site, and its parents were told before it, or are the format's
@@ -22,5 +22,8 @@ pub record VersionsAndCopiesHold (c : Config) (w : World) : Type 0 where
   pub fit : NumbersFit (past_of w.trace)
   -- of each file a disk holds the version that its site committed or adopted last, and where none was told what the format wrote
   pub told : CopiesAreTold c w
+
+pub record VersionsAndCopiesHold (c : Config) (w : World) : Type 0 where
+  pub versions : VersionsStand c w
   -- each copy has the bytes that its version was committed with, and the format's has none
   pub contents : CopiesHaveContents w

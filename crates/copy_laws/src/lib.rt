@@ -4,4 +4,4 @@
 
 mod laws;
 
-pub use laws::{copies_have_contents, versions_and_copies_hold};
+pub use laws::{copies_have_contents, versions_and_copies_hold, versions_stand};

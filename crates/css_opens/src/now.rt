@@ -9,7 +9,7 @@ use keyed_tables::Keyed;
 use locus_ids::{FileId, Mode, Refusal, SiteId};
 
 /// An open instance as it excludes others, with its place in the table of opens.
-#[derive(Clone, Copy, PartialEq, Eq)]
+#[derive(Clone, Copy)]
 pub struct OpenNow {
     pub place: u64,
     pub file: FileId,

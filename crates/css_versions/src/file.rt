@@ -21,7 +21,6 @@ use std::marker::Model;
 use wire_messages::{MadeVersion, ReportedCopy};
 
 /// What is known of a file of the group.
-#[derive(Drop)]
 pub struct KnownFile {
     ino: u16,
     kind: Kind,
@@ -29,6 +28,20 @@ pub struct KnownFile {
     versions: Vec<VersionRow>,
     kept: Vec<VersionRow>,
     holders: Vec<Holding>,
+}
+
+// Taken apart in one place: where a file is dropped, the prover sees one call.
+impl Drop for KnownFile {
+    fn drop(self) {
+        let KnownFile {
+            ino: _,
+            kind: _,
+            set: _,
+            versions: _,
+            kept: _,
+            holders: _,
+        } = self;
+    }
 }
 
 impl Model for KnownFile {

@@ -8,7 +8,7 @@ use keyed_tables::{Keyed, SortedTable};
 use locus_ids::{Members, NoMemory};
 
 /// A file that is listed, by its inode.
-#[derive(Clone, Copy, PartialEq, Eq)]
+#[derive(Clone, Copy)]
 pub struct Listed {
     pub ino: u16,
 }

@@ -6,7 +6,7 @@ use crate::{Entry, entry_cmp};
 use std::cmp::Ordering;
 
 /// Where an entry goes.
-#[derive(Clone, Copy, PartialEq, Eq)]
+#[derive(Clone, Copy)]
 pub(crate) enum Place {
     /// Before the entries that stand from there on: none of them has its pair.
     Free(usize),

@@ -4,7 +4,7 @@ use dir_format::locus_ids::NoMemory;
 use thiserror::Error;
 
 /// Why no rescue was made.
-#[derive(Clone, Copy, Debug, PartialEq, Eq, Error)]
+#[derive(Clone, Copy, Debug, Error)]
 pub enum RescueFault {
     /// An entry that is to become live has the greatest count.
     #[error("a count is spent")]

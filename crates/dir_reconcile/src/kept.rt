@@ -3,7 +3,7 @@ use dir_format::locus_ids::{Ino, ItemList};
 use dir_format::version_vector::Vector;
 
 /// The vector of a version of a file that is kept.
-#[derive(Clone, Copy, PartialEq, Eq)]
+#[derive(Clone, Copy)]
 pub struct KeptVector {
     pub ino: Ino,
     pub vector: Vector<SITES>,

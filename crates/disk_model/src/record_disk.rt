@@ -11,7 +11,7 @@ use locus_ids::NoMemory;
 use std::alloc::Global;
 
 /// A call that was kept: a write of the bytes that stand in the pool from a place on, or a sync.
-#[derive(Clone, Copy, PartialEq, Eq)]
+#[derive(Clone, Copy)]
 pub enum Call {
     Wrote(Span, usize),
     Synced,

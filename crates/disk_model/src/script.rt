@@ -22,7 +22,7 @@ pub enum Fired {
 }
 
 /// What the next writes and syncs meet: so many pass, and then one stops or fails.
-#[derive(Clone, Copy, PartialEq, Eq)]
+#[derive(Clone, Copy)]
 pub(crate) enum Armed {
     Nothing,
     StopAfter(u32, Leave),
@@ -30,7 +30,7 @@ pub(crate) enum Armed {
 }
 
 /// What one call meets.
-#[derive(Clone, Copy, PartialEq, Eq)]
+#[derive(Clone, Copy)]
 pub(crate) enum Turn {
     Passes,
     Stops(Leave),

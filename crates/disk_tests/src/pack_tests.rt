@@ -1,5 +1,8 @@
 use crate::checks::holds;
-use crate::packs::{adopt, commit_first_page, new_disk, new_pack, page_and_half, second_inode};
+use crate::packs::{
+    adopt, adopt_first_page, byte_at, commit_first_page, new_disk, new_pack, page_and_half,
+    page_place, second_inode,
+};
 use inode_pack::Pack;
 use locus_ids::{Ino, ItemList};
 
@@ -20,6 +23,22 @@ fn a_pack_has_what_was_adopted_and_committed(rt: HostRuntime) {
     commit_first_page(&rt, &mut pack, &mut disk, second.as_slice());
     // The first page is the least free one; the other one stays.
     holds(&rt, pages_of(&pack, ino) == [2, 1, 0xFFFF]);
+    holds(&rt, pack.free_pages() == 3_070);
+}
+
+#[test]
+fn an_adoption_writes_the_pages_that_came_alone(rt: HostRuntime) {
+    let ino = second_inode(&rt);
+    let mut disk = new_disk(&rt, rt.alloc());
+    let mut pack = new_pack(&rt, rt.alloc(), &mut disk);
+    let first = page_and_half(&rt, rt.alloc(), 7);
+    adopt(&rt, &mut pack, &mut disk, ino, &first);
+    let second = page_and_half(&rt, rt.alloc(), 9);
+    adopt_first_page(&rt, &mut pack, &mut disk, second.as_slice());
+    // The first page is the least free one; the other one stays, with the bytes that it had.
+    holds(&rt, pages_of(&pack, ino) == [2, 1, 0xFFFF]);
+    holds(&rt, byte_at(&rt, &mut disk, page_place(&rt, 2, 0)) == 9);
+    holds(&rt, byte_at(&rt, &mut disk, page_place(&rt, 1, 0)) == 7);
     holds(&rt, pack.free_pages() == 3_070);
 }
 

@@ -1,15 +1,19 @@
 // What the tests of packs make and look at. Where a call fails, the test ends: so a function has no exit behind each of its calls.
-ghost use Rattle.std.specs.Prelude.{ℕ, ◌≤◌, ◌<◌, ◌+◌, ◌^◌, length};
+ghost use Rattle.std.specs.Prelude.{◌≡◌, ℕ, ◌≤◌, ◌<◌, ◌+◌, ◌^◌, true, length};
 ghost use Rattle.locus_ids.specs.Sizes.{content_bytes_max};
 ghost use Rattle.disk_model.specs.Disk.{IsSettled};
 ghost use Rattle.disk_model.specs.ScriptDisk.{seen, moment};
 ghost use Rattle.pack_layout.specs.Layout.{area_length};
 ghost use Rattle.inode_pack.specs.Pack.{Stands};
+ghost use Rattle.new_contents.specs.Laid.{has_come};
 ghost use Rattle.stored_versions.specs.Versions.{IsVersion};
+ghost use Rattle.stored_versions.specs.of_file_content.Pages.{pages_of};
 
 use disk_model::{Disk, Leave, RecordDisk, ScriptDisk};
-use inode_pack::{NewVersion, Pack};
-use locus_ids::{Bytes, Ino, Kind, SiteId, Sites, Stamp};
+use inode_pack::{LaidPages, NewVersion, Pack};
+use locus_ids::sizes::PAGE_BYTES;
+use locus_ids::{Bytes, Ino, ItemList, Kind, SiteId, Sites, Stamp};
+use new_contents::page_count;
 use pack_layout::page_at;
 use pack_slots::format;
 use std::alloc::Global;
@@ -73,7 +77,43 @@ pub fn adopt<D: Disk, R: Abort>(rt: &R, pack: &mut Pack, disk: &mut D, ino: Ino,
     requires size { length content.now ≤ content_bytes_max }
     ensures stands { Stands pack.new (D.moment disk.new) }
 {
-    pack.adopt(disk, ino, &unchanged_file(Sites(1)), content)
+    let numbers = all_pages(rt, content);
+    let came = LaidPages {
+        size: content.len() as u32,
+        numbers: numbers.as_slice(),
+        bytes: content.as_slice(),
+    };
+    pack.adopt(disk, ino, &unchanged_file(Sites(1)), &came)
+        .expect(rt, "not adopted");
+}
+
+/// The numbers of all pages of a content.
+fn all_pages<R: Abort>(rt: &R, content: &Bytes) -> ItemList<u16>
+    requires { length content.now ≤ content_bytes_max }
+    ensures { (page : ℕ) → page < pages_of (length content.now) → has_come result page ≡ true }
+{
+    let mut numbers = ItemList::new(content.allocator());
+    for page in 0..page_count(content.len() as u32) {
+        numbers.push(page).expect(rt, "no memory");
+    }
+    numbers
+}
+
+/// Adopts a content of which the first page alone came, over the version of inode 2, which is as long or longer.
+pub fn adopt_first_page<R: Abort>(rt: &R, pack: &mut Pack, disk: &mut ScriptDisk, content: &[u8])
+    requires stands { Stands pack.old (moment disk.old) }
+    requires size { length content.now ≤ content_bytes_max }
+    ensures stands { Stands pack.new (moment disk.new) }
+{
+    let ino = second_inode(rt);
+    let slot = pack.copy(ino.get()).expect(rt, "no version");
+    assert!(rt; slot.size as usize >= content.len());
+    let came = LaidPages {
+        size: content.len() as u32,
+        numbers: &[0],
+        bytes: content.get(..PAGE_BYTES).expect(rt, "no page"),
+    };
+    pack.adopt(disk, ino, &unchanged_file(Sites(1)), &came)
         .expect(rt, "not adopted");
 }
 

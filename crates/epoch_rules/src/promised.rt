@@ -6,7 +6,7 @@ use crate::{is_epoch_below, same_epoch};
 use locus_ids::EpochId;
 
 /// The greatest id that a site has promised, and whether it has joined that epoch.
-#[derive(Clone, Copy, PartialEq, Eq)]
+#[derive(Clone, Copy)]
 pub struct Promised {
     pub id: EpochId,
     /// The promised epoch is joined, or nothing was promised yet.

@@ -15,7 +15,7 @@ pub enum FieldFault {
 }
 
 /// Why something could not be read from bytes into memory.
-#[derive(Clone, Copy, Debug, PartialEq, Eq, Error)]
+#[derive(Clone, Copy, Debug, Error)]
 pub enum ReadError {
     #[error("{0}")]
     Field(FieldFault),

@@ -15,9 +15,6 @@ pub mod Numbers
 pub mod Tables
 pub mod Opens
 pub mod Versions
-pub mod PageLists
-pub mod Effects
-pub mod Working
 pub mod Sets
 pub mod Slots
 pub mod Storing
@@ -25,6 +22,7 @@ pub mod RoomRun
 pub mod Running
 pub mod Pulling
 pub mod Totals
+pub mod Tried
 pub mod RoomStore
 pub mod RoomSites
 pub mod CalmAskingDirectories

@@ -1,7 +1,6 @@
 -- What is pulled may be adopted.
 use Rattle.std.proofs.Common.{◌≡◌, ◌≤◌, ℕ, List, [], ◌∷◌, length, Some, sym, subst}
 use Rattle.locus_ids.specs.declared.config.Config.{Config}
-use Rattle.locus_ids.specs.declared.ids.EpochId.{EpochId}
 use Rattle.locus_ids.specs.declared.ids.FileId.{FileId}
 use Rattle.locus_ids.specs.declared.ids.Kind.{Kind}
 use Rattle.locus_ids.specs.declared.ids.Stamp.{Stamp}
@@ -13,7 +12,7 @@ use Rattle.wire_messages.specs.declared.body.Body.TheVariants as body
 use Rattle.wire_messages.specs.declared.packet.Packet.{Packet}
 use Rattle.role_steps.specs.Own.{Every}
 use Rattle.role_steps.specs.Epochs.{frame_in}
-use Rattle.role_steps.specs.Views.{SiteView}
+use Rattle.role_steps.specs.Views.{Frame, SiteView, Store}
 use Rattle.role_steps.specs.declared.pulls.Pull.{Pull}
 use Rattle.role_steps.specs.declared.rounds.InEpoch.{InEpoch}
 use Rattle.the_run.specs.Kept.{WasSent}
@@ -26,6 +25,7 @@ use Rattle.rest_laws.specs.of_pack_laws.Packed.{BodyPacked, PullPacked, WorldPac
 use Rattle.rest_laws.proofs.of_pack_laws.PacksRun.{all_kept, first_all, sent_packed}
 use Rattle.tree_model.specs.Files.{HeldVersion}
 use Rattle.tree_laws.specs.Instances.{IsVersion as IsOfFile}
+use Rattle.tree_laws.specs.Doing.{StoreHeld}
 use Rattle.tree_laws.specs.Packets.{BodyFact}
 use Rattle.tree_laws.specs.Stores.{PullFact}
 use Rattle.order_laws.specs.Joining.{PacksAreOfSites}
@@ -37,6 +37,7 @@ use Rattle.fit_laws.specs.Versions.{FitsSlot, given}
 use Rattle.fit_laws.proofs.Running.{run_inside}
 use Rattle.fit_laws.proofs.Slots.{version_slot}
 use Rattle.fit_laws.proofs.Tables.{past_of_run, world_of}
+use Rattle.fit_laws.proofs.Tried.{pull_kept}
 
 -- a version of the file may stand in a slot
 pub held_slot : (c : Config) (t : List Line) → Past c t → (f : FileId) (v : HeldVersion) → IsOfFile c t f v → FitsSlot f v
@@ -51,22 +52,22 @@ told_version v kind set stamp vector size a b d e f k = subst (λ (n : ℕ). IsV
     (subst (λ (x : Sites). IsVersion (record { kind = kind; set = x; stamp = v.stamp; vector = v.vector }) (length v.content)) b
     (subst (λ (x : Kind). IsVersion (record { kind = x; set = v.set; stamp = v.stamp; vector = v.vector }) (length v.content)) a k))))
 
-pull_fits : (c : Config) (t : List Line) → Past c t → (e : EpochId) (me : ℕ) (p : Pull) → PullFact c t e me p → PullPacked c me p → FitsPull c me p
-pull_fits c t past e me p k packed =
+pull_fits : (c : Config) (t : List Line) → Past c t → (f : Frame) (s : Store) → StoreHeld c f t s → (p : Pull) → PullFact c t f.epoch f.me p → PullPacked c f.me p → FitsPull c f.me s p
+pull_fits c t past f s held p k packed =
     let slot : FitsSlot p.file k.version = held_slot c t past p.file k.version k.is_version in
-    record { packed = packed.here; number = slot.number; version = told_version k.version p.kind p.set p.stamp p.vector p.size k.kind_is k.set_is k.stamp_is k.vector_is k.size_is slot.version }
+    record { packed = packed.here; number = slot.number; version = told_version k.version p.kind p.set p.stamp p.vector p.size k.kind_is k.set_is k.stamp_is k.vector_is k.size_is slot.version; kept = pull_kept c t past f s held p k }
 
-pub pulls_fit : (c : Config) (t : List Line) → Past c t → (e : EpochId) (me : ℕ) (ps : List Pull) → Every (PullFact c t e me) ps → Every (PullPacked c me) ps → Every (FitsPull c me) ps
-pulls_fit c t past e me [] h k = tt
-pulls_fit c t past e me (p ∷ ps) h k = (pull_fits c t past e me p h.0 k.0, pulls_fit c t past e me ps h.1 k.1)
+pub pulls_fit : (c : Config) (t : List Line) → Past c t → (f : Frame) (s : Store) → StoreHeld c f t s → (ps : List Pull) → Every (PullFact c t f.epoch f.me) ps → Every (PullPacked c f.me) ps → Every (FitsPull c f.me s) ps
+pulls_fit c t past f s held [] h k = tt
+pulls_fit c t past f s held (p ∷ ps) h k = (pull_fits c t past f s held p h.0 k.0, pulls_fit c t past f s held ps h.1 k.1)
 
 world_packed : (c : Config) (lines : List ScheduleLine) → WorldPacked c (run_in c lines)
 world_packed c lines = (every_run c _ (all_kept c) (first_all c) lines).1 (run_agrees c lines)
 
-pub run_pulls : (c : Config) (lines : List ScheduleLine) → LinesFit c lines → PacksAreOfSites c → length c.packs ≤ 4 → (s : ℕ) (v : SiteView) (e : InEpoch) → place_at (run_in c lines) s ≡ Some (Running v) → v.epoch ≡ Some e → Every (FitsPull c s) v.pulls
+pub run_pulls : (c : Config) (lines : List ScheduleLine) → LinesFit c lines → PacksAreOfSites c → length c.packs ≤ 4 → (s : ℕ) (v : SiteView) (e : InEpoch) → place_at (run_in c lines) s ≡ Some (Running v) → v.epoch ≡ Some e → Every (FitsPull c s v.store) v.pulls
 run_pulls c lines fit packs few s v e here inside =
     let fact : InsideFact c (frame_in c s v.boot e) (run_in c lines).trace v = run_inside c lines fit packs few s v e here inside in
-    pulls_fit c (run_in c lines).trace (past_of_run c lines fit packs few) e.id s v.pulls fact.pulls ((world_packed c lines).views s v here).pulls
+    pulls_fit c (run_in c lines).trace (past_of_run c lines fit packs few) (frame_in c s v.boot e) v.store fact.store v.pulls fact.pulls ((world_packed c lines).views s v here).pulls
 
 pub notice_fits : (c : Config) (t : List Line) → Past c t → (p : Packet) (b : Body) → BodyFact c t p b → BodyPacked c p.from p.to b → NoticeFits c p.to b
 notice_fits c t past p (body.Notify file kind set size stamp vector holder) k packed =

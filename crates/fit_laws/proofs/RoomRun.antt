@@ -31,10 +31,10 @@ use Rattle.tree_laws.specs.Doing.{FrameFact, StoreHeld}
 use Rattle.tree_laws.specs.Stores.{Ascends, InstanceFact, StageFact}
 use Rattle.rest_laws.specs.of_one_tree_laws.Places.{SiteFact, SiteIn, WorldFact}
 use Rattle.rest_laws.specs.of_one_tree_laws.Rest.{IsRest, Past}
-use Rattle.rest_laws.specs.of_one_tree_laws.Roles.{RolesDo}
+use Rattle.rest_laws.specs.of_one_tree_laws.Roles.{EventFact, RolesDo}
 use Rattle.rest_laws.proofs.of_one_tree_laws.Composing.{rest_before}
 use Rattle.rest_laws.proofs.of_one_tree_laws.Rising.{every_among, row_key}
-use Rattle.rest_laws.proofs.of_one_tree_laws.Run.{first_holds, kept}
+use Rattle.rest_laws.proofs.of_one_tree_laws.Run.{arrives_fact, event_fact, first_holds, kept}
 use Rattle.rest_laws.proofs.of_one_tree_laws.Staying.{stays}
 use Rattle.rest_laws.proofs.of_one_tree_laws.Worlds.{Holds}
 use Rattle.rest_laws.proofs.Roles.{roles_do}
@@ -43,6 +43,7 @@ use Rattle.fit_laws.proofs.RoomSites.{SiteRooms, step_room}
 use Rattle.fit_laws.proofs.RoomStore.{FitsHere, StoreGood, WriteRoom}
 use Rattle.fit_laws.proofs.Storing.{fits_running, own_group}
 use Rattle.fit_laws.proofs.Tables.{rest_of}
+use Rattle.fit_laws.proofs.Tried.{event_room}
 
 -- ---- a site by its facts ----
 
@@ -68,14 +69,14 @@ site_good c t past me v None h = outside_good v.store h.copies.ascends h.instanc
 site_good c t past me v (Some e) h = inside_good c t past (frame_in c me v.boot e) h.frame v.store h.store
 
 -- whatever comes next, the packs have room after it
-pub next_room : (c : Config) (t : List Line) (me : ℕ) (links : Links) (v : SiteView) (e : Event) → Past c t → SiteFact c me t v → RoomFits v.store → RoomFits (step c me links v e).view.store
-next_room c t me links v e past fact h = (step_room c me links v e (site_good c t past me v v.epoch fact)).view h
+pub next_room : (c : Config) → RolesDo c → (t : List Line) (me : ℕ) (links : Links) (v : SiteView) (e : Event) → Past c t → SiteFact c me t v → EventFact c t me v e → RoomFits v.store → RoomFits (step c me links v e).view.store
+next_room c roles t me links v e past fact comes h = (step_room c me links v e (site_good c t past me v v.epoch fact) (event_room c roles t past me v e fact comes)).view h
 
 -- ---- the world ----
 
 abbrev pub PlaceRoom : Place → Type 0
 PlaceRoom (Running v) = RoomFits v.store
-PlaceRoom (Stopped d) = RoomFits (record { copies = d.copies; instances = [] })
+PlaceRoom (Stopped d) = RoomFits (record { copies = d.copies; instances = []; steps = [] })
 
 abbrev pub RoomWorld : World → Type 0
 RoomWorld w = (s : ℕ) (p : Place) → place_at w s ≡ Some p → PlaceRoom p
@@ -96,14 +97,14 @@ happened_room : (c : Config) (n : ℕ) (ps : List Packet) (told : List Told) (ch
 happened_room c n ps told change w places g =
     happened_keeps (Roomy c) n ps told change w g (λ l r. g r) (λ k b t r. (let old : IsRest c w.trace = rest_before c n told w.trace r in places old (g old)))
 
-without_instances : (s : Store) → RoomFits s → RoomFits (record { copies = s.copies; instances = [] })
+without_instances : (s : Store) → RoomFits s → RoomFits (record { copies = s.copies; instances = []; steps = [] })
 without_instances s h g = less (total (copy_pages g) s.copies) (total (changed_pages g) s.instances) (h g)
   where
     less : (a b : ℕ) → a + b ≤ pack_pages → a + 0 ≤ pack_pages
     less a b l = omega (arith, l)
 
 -- what a cut write leaves
-cut_room : (v : SiteView) (written : Option DiskWrite) (d : DiskWrite) → written ≡ Some d → WriteRoom v.store written → RoomFits v.store → (b : Bool) → RoomFits (record { copies = cond b (with_row copy_key d.copy v.store.copies) v.store.copies; instances = [] })
+cut_room : (v : SiteView) (written : Option DiskWrite) (d : DiskWrite) → written ≡ Some d → WriteRoom v.store written → RoomFits v.store → (b : Bool) → RoomFits (record { copies = cond b (with_row copy_key d.copy v.store.copies) v.store.copies; instances = []; steps = [] })
 cut_room v written d e write h false = without_instances v.store h
 cut_room v written d e write h true = λ g. more (total (copy_pages g) (with_row copy_key d.copy v.store.copies)) (its g)
   where
@@ -113,8 +114,8 @@ cut_room v written d e write h true = λ g. more (total (copy_pages g) (with_row
     more : (a : ℕ) → a ≤ pack_pages → a + 0 ≤ pack_pages
     more a l = omega (arith, l)
 
-does : (c : Config) (n s : ℕ) (e : Event) (v : SiteView) (w : World) → place_at w s ≡ Some (Running v) → Holds c w → Roomy c w → Roomy c (acts n s v (step c s (links_of w s) v e) w)
-does c n s e v w here holds g = acts_cases (Roomy c) n s v o w
+does : (c : Config) → RolesDo c → (n s : ℕ) (e : Event) (v : SiteView) (w : World) → place_at w s ≡ Some (Running v) → (IsRest c w.trace → EventFact c w.trace s v e) → Holds c w → Roomy c w → Roomy c (acts n s v (step c s (links_of w s) v e) w)
+does c roles n s e v w here comes holds g = acts_cases (Roomy c) n s v o w
     (happened_room c n o.sent o.told (λ now. puts s (Running o.view) now) w (λ r f t p. placed s (Running o.view) w ((rooms r).view (f s (Running v) here)) f t p) g)
     (λ a. happened_room c n o.sent o.told (λ now. puts s (Running o.view) (arms a now)) w (λ r f t p. placed s (Running o.view) (arms a w) ((rooms r).view (f s (Running v) here)) f t p) g)
     (λ d a q. happened_room c n [] (cut_told s v.store d a.how a.left) (stops_with s (cut_disk v.boot v.store d a.how a.left)) w
@@ -124,9 +125,11 @@ does c n s e v w here holds g = acts_cases (Roomy c) n s v o w
     o = step c s (links_of w s) v e
 
     rooms : IsRest c w.trace → SiteRooms v o
-    rooms r = (let f : WorldFact c w = holds r in step_room c s (links_of w s) v e (site_good c w.trace (record { followed = f.followed; rest = r }) s v v.epoch (f.places s (Running v) here)))
+    rooms r = (let f : WorldFact c w = holds r in
+        let past : Past c w.trace = record { followed = f.followed; rest = r } in
+        step_room c s (links_of w s) v e (site_good c w.trace past s v v.epoch (f.places s (Running v) here)) (event_room c roles w.trace past s v e (f.places s (Running v) here) (comes r)))
 
-stops : (c : Config) (n s : ℕ) (told : List Told) (d : Disk) (w : World) → (RoomWorld w → RoomFits (record { copies = d.copies; instances = [] })) → Roomy c w → Roomy c (happened n [] told (stops_with s d) w)
+stops : (c : Config) (n s : ℕ) (told : List Told) (d : Disk) (w : World) → (RoomWorld w → RoomFits (record { copies = d.copies; instances = []; steps = [] })) → Roomy c w → Roomy c (happened n [] told (stops_with s d) w)
 stops c n s told d w room g = happened_room c n [] told (stops_with s d) w (λ r f t p. placed s (Stopped d) w (room f) f t p) g
 
 boot_places : (a : Option Armed) (s : ℕ) (p : Place) (w : World) (t : ℕ) → place_at (rearms s a (puts s p w)) t ≡ place_at (puts s p w) t
@@ -137,8 +140,8 @@ booted : (c : Config) (n s : ℕ) (d : Disk) (b : Booted) (w : World) → place_
 booted c n s d (Whole x a) w here same g =
     let new : Place = Running (fresh x.label.boot x.copies) in
     happened_room c n [] (Shown (says.Up s x.label.boot) ∷ []) (λ now. rearms s a (puts s new now)) w
-    (λ r f t p e. placed s new w (subst (λ (xs : List FileCopy). RoomFits (record { copies = xs; instances = [] })) (sym same) (f s (Stopped d) here)) f t p (sym (boot_places a s new w t) ∙ e)) g
-booted c n s d (CutOff x how) w here same g = stops c n s _ x w (λ f. subst (λ (xs : List FileCopy). RoomFits (record { copies = xs; instances = [] })) (sym same) (f s (Stopped d) here)) g
+    (λ r f t p e. placed s new w (subst (λ (xs : List FileCopy). RoomFits (record { copies = xs; instances = []; steps = [] })) (sym same) (f s (Stopped d) here)) f t p (sym (boot_places a s new w t) ∙ e)) g
+booted c n s d (CutOff x how) w here same g = stops c n s _ x w (λ f. subst (λ (xs : List FileCopy). RoomFits (record { copies = xs; instances = []; steps = [] })) (sym same) (f s (Stopped d) here)) g
 
 -- ---- all lines ----
 
@@ -148,13 +151,13 @@ Both c w = Holds c w × Roomy c w
 pub kept_room : (c : Config) (lines : List ScheduleLine) → LinesFit c lines → RolesDo c → KeptIn c lines (λ n w. Both c w)
 kept_room c lines fit roles = record {
   begins = λ n w le q g. g;
-  ticks = λ n most s v w at here g. (one.ticks n most s v w at here g.0, does c n s Ticks v w here g.0 g.1);
-  receives = λ n l x v w at d here sent g. (one.receives n l x v w at d here sent g.0, does c n x.packet.to (Receives x.packet) v _ here (one.passes n x.number w g.0) g.1);
+  ticks = λ n most s v w at here g. (one.ticks n most s v w at here g.0, does c roles n s Ticks v w here (λ r. tt) g.0 g.1);
+  receives = λ n l x v w at d here sent g. (one.receives n l x v w at d here sent g.0, does c roles n x.packet.to (Receives x.packet) v _ here (λ r. (refl, arrives_fact c w x v (g.0 r) sent here)) (one.passes n x.number w g.0) g.1);
   passes = λ n k w g. (one.passes n k w g.0, g.1);
   drops = λ n k w g. (one.drops n k w g.0, g.1);
   budgets = λ n most w at g. (one.budgets n most w at g.0, happened_room c n [] (Shown says.Budget ∷ []) (λ now. now) w (λ r f t p e. f t p e) g.1);
   voiding = λ n l w le at void g. (one.voiding n l w le at void g.0, happened_room c (n + 1) [] (Shown says.Void ∷ []) (λ now. now) w (λ r f t p e. f t p e) g.1);
-  steps = λ n s l e v w le at gives here g. (one.steps n s l e v w le at gives here g.0, does c (n + 1) s e v w here g.0 g.1);
+  steps = λ n s l e v w le at gives here g. (one.steps n s l e v w le at gives here g.0, does c roles (n + 1) s e v w here (λ r. event_fact c lines (n + 1) s l e v w fit at gives here) g.0 g.1);
   cutting = λ n a b w le at cut g. (one.cutting n a b w le at cut g.0, g.1);
   mending = λ n a b w le at cut g. (one.mending n a b w le at cut g.0, g.1);
   arming = λ n l a w le at it g. (one.arming n l a w le at it g.0, g.1);
@@ -176,7 +179,7 @@ root_pages c g (k ∷ ks) = over (k == g) (root_pages c g ks)
     over true e = omega (arith, e)
     over false e = omega (arith, e)
 
-formatted_fits : (c : Config) (s : ℕ) → RoomFits (record { copies = formatted c s; instances = [] })
+formatted_fits : (c : Config) (s : ℕ) → RoomFits (record { copies = formatted c s; instances = []; steps = [] })
 formatted_fits c s g = nothing (total (copy_pages g) (formatted c s)) (root_pages c g _)
   where
     nothing : (n : ℕ) → n ≡ 0 → n + 0 ≤ pack_pages

@@ -8,7 +8,6 @@ use Rattle.locus_ids.specs.declared.config.Config.{Config}
 use Rattle.locus_ids.specs.Sizes.{pack_pages}
 use Rattle.trace_book.specs.Same.{same_epoch}
 use Rattle.trace_book.specs.declared.call.Call.TheVariants as call
-use Rattle.file_content.specs.Pages.{pages_of}
 use Rattle.wire_messages.specs.declared.packet.Packet.{Packet}
 use Rattle.wire_messages.specs.declared.body.Body.{Body}
 use Rattle.wire_messages.specs.declared.body.Body.TheVariants as body
@@ -16,9 +15,9 @@ use Rattle.role_steps.specs.Tables.{row, without_row, first_that, total, with_ro
 use Rattle.role_steps.specs.Views.{Frame, Store, SiteView, Promises, DiskWrite, Outcome, Event, Calls, Receives, Ticks, Parts, Merges, GivesUp, quiet, sends, tells, and_then, first_written}
 use Rattle.role_steps.specs.Reports.{on_report, on_open, on_look, on_closed, on_have}
 use Rattle.role_steps.specs.Opens.{on_opened}
-use Rattle.role_steps.specs.Storage.{copy_of, instance_of, on_open_ss, with_copy, changed_pages, copy_key, copy_pages, free_pages}
+use Rattle.role_steps.specs.Storage.{content_of, copy_of, instance_of, on_open_ss, changed_pages, copy_key, copy_pages, free_pages}
 use Rattle.role_steps.specs.Epochs.{is_epoch_below, frame_in, leaves_of, leaves, promises, promised_view, reached, polls, round_id, begins_round, starts_merge, boots_where, merge_boot, part_boot, starts_part_of, starts_part, promise_packet, refuse_packet, on_poll, on_promise_of, on_refuse_of, joins, may_install, is_in, joined_packet, on_install, on_joined, passed_over, unanswered, chosen_members, chosen_set, installs_all, decides_if, passes_over_of, passes_over}
-use Rattle.role_steps.specs.Adoption.{notes_own_at, copy_adopted, table_group, with_store, without_pull, is_ready, is_above_own, adopts_pull, adopts_first, has_room}
+use Rattle.role_steps.specs.Adoption.{notes_own_at, copy_adopted, table_group, without_pull, is_ready, adopts_pull, adopts_first, has_room, with_adopted, fits_own, content_under}
 use Rattle.role_steps.specs.Mends.{mending, kept_stamps, has_mend_in, wants_mend, starts_mend_of, starts_mend, starts_mends_in, row_file}
 use Rattle.role_steps.specs.declared.pulls.Pull.{Pull}
 use Rattle.role_steps.specs.declared.rounds.InEpoch.{InEpoch}
@@ -27,15 +26,18 @@ use Rattle.role_steps.specs.declared.synchronizing.SyncTable.{SyncTable}
 use Rattle.role_steps.specs.declared.synchronizing.FileRow.{FileRow}
 use Rattle.the_run.specs.Steps.{from_user, group_of, at_table_of, is_opened_in, takes_inside, is_dropped, takes_framed, takes, adopts_of, adopts_in, tries_at, starts_mends_of, ends_event, whole, ticks_after, call_frame, epoch_id, takes_call, step}
 use Rattle.rest_laws.specs.of_run_laws.Words.{Talks}
-use Rattle.rest_laws.proofs.of_run_laws.Telling.{on_opened_talks, on_open_talks, on_look_talks, on_report_talks, on_closed_talks, on_have_talks, on_notify_talks, on_page_talks, on_call_talks, on_open_done_talks, on_op_done_talks, on_close_done_talks, on_look_done_talks}
+use Rattle.rest_laws.proofs.of_run_laws.Telling.{on_opened_talks, on_open_talks, on_look_talks, on_report_talks, on_closed_talks, on_have_talks, on_notify_talks, on_page_talks, on_delta_talks, on_as_held_talks, on_call_talks, on_open_done_talks, on_op_done_talks, on_close_done_talks, on_look_done_talks}
 use Rattle.std.specs.Prelude.{nat_le}
 use Rattle.std.proofs.lemmas.Bool.Decides.{nat_tests}
 use Rattle.role_steps.proofs.of_plain_facts.Numbers.{equal}
 use Rattle.role_steps.proofs.of_plain_facts.Tests.{and_first, and_second}
-use Rattle.role_steps.specs.Pulling.{is_complete}
+use Rattle.role_steps.specs.Pulling.{is_complete, wanted_pages}
+use Rattle.role_steps.specs.declared.copies.FileCopy.{FileCopy}
+use Rattle.tree_laws.specs.Stores.{Ascends}
+use Rattle.role_steps.specs.Own.{Every}
 use Rattle.fit_laws.specs.Room.{RoomFits}
-use Rattle.fit_laws.proofs.RoomStore.{Calm, Rooms, StoreGood, calm_rooms, calm_same, calm_then, on_close_room, on_closed_ok_calm, on_op_room, on_open_ss_calm, rooms_then, then_rooms}
-use Rattle.fit_laws.proofs.Totals.{row_more}
+use Rattle.fit_laws.proofs.RoomStore.{Calm, Rooms, StoreGood, calm_rooms, calm_same, calm_then, on_close_room, on_closed_ok_calm, on_op_room, on_read_held_room, on_open_ss_calm, rooms_then, then_rooms}
+use Rattle.fit_laws.proofs.Totals.{measured, row_total}
 
 abbrev pub Keeps : SiteView → Outcome SiteView → Type 0
 Keeps v o = Calm v.store o.view.store o.written
@@ -72,7 +74,9 @@ inside_room f from (body.OpenSs inst file mode set kind base vector parents) v g
 inside_room f from (body.Opened inst answer) v good = rooming (table_keeps (on_opened f inst answer) (first_that (is_opened_in inst) v.tables) v (on_opened_talks f inst answer))
 inside_room f from (body.OpenDone serial answer) v good = rooming (quietly v.store _ (on_open_done_talks f (kept_stamps v) serial answer v.users).1)
 inside_room f from (body.Op serial n o seen) v good = on_op_room f (mending v (group_of (instance_of v.store (from_user from serial)))) (from_user from serial) n o seen v.store good
+inside_room f from (body.ReadHeld serial n at len) v good = on_read_held_room f (from_user from serial) n at len v.store good
 inside_room f from (body.OpDone serial n result) v good = rooming (quietly v.store _ (on_op_done_talks f serial n result v.users).1)
+inside_room f from (body.AsHeld serial n len) v good = rooming (quietly v.store _ (on_as_held_talks f serial n v.users).1)
 inside_room f from (body.Close serial) v good = on_close_room f (from_user from serial) v.store good
 inside_room f from (body.Closed inst made) v good = rooming (table_keeps (on_closed f from inst made) (first_that (is_opened_in inst) v.tables) v (on_closed_talks f from inst made))
 inside_room f from (body.ClosedOk inst) v good = calm_rooms v.store _ _ (on_closed_ok_calm f inst v.store)
@@ -80,9 +84,11 @@ inside_room f from (body.CloseDone serial answer) v good = rooming (quietly v.st
 inside_room f from (body.Look call process request take file what) v good = rooming (table_keeps (on_look f from (record { call = call; process = process; request = request; take = take; file = file; what = what })) (row table_group file.group v.tables) v (on_look_talks f from (record { call = call; process = process; request = request; take = take; file = file; what = what })))
 inside_room f from (body.LookSs us call process request take file what serve) v good = rooming (quietly v.store None refl)
 inside_room f from (body.LookDone call request take answer) v good = rooming (quietly v.store _ (on_look_done_talks f call request take answer v.users).1)
-inside_room f from (body.Notify file kind set size stamp vector holder) v good = rooming (quietly v.store _ (on_notify_talks f from (copy_of v.store file) (record { file = file; kind = kind; set = set; size = size; stamp = stamp; vector = vector; holder = holder; content = [] }) v.pulls).1)
+inside_room f from (body.Notify file kind set size stamp vector holder) v good = rooming (quietly v.store _ (on_notify_talks f from (copy_of v.store file) (record { file = file; kind = kind; set = set; size = size; stamp = stamp; vector = vector; holder = holder; base = None; wanted = None; content = [] }) v.pulls).1)
 inside_room f from (body.Pull file stamp page) v good = rooming (quietly v.store None refl)
+inside_room f from (body.Want file wanted own) v good = rooming (quietly v.store None refl)
 inside_room f from (body.Page file stamp page bytes) v good = rooming (quietly v.store _ (on_page_talks f file stamp page bytes v.pulls).1)
+inside_room f from (body.Delta file wanted pages) v good = rooming (quietly v.store _ (on_delta_talks f (copy_of v.store file) file wanted pages v.pulls).1)
 inside_room f from (body.Have file stamp) v good = rooming (table_keeps (on_have from file stamp) (row table_group file.group v.tables) v (on_have_talks from file stamp))
 inside_room f from body.Poll v good = rooming (quiet_keeps v)
 inside_room f from (body.Promise reach) v good = rooming (quiet_keeps v)
@@ -101,57 +107,72 @@ noted_store f p None v = refl
 noted_store f p (Some t) v = refl
 
 -- a ready pull has room
-pub ready_room : (v : SiteView) (p : Pull) → is_ready v p ≡ true → (pages_of (length p.content) ≤ free_pages v.store p.file.group)
-ready_room v p h = subst (λ (n : ℕ). pages_of n ≤ free_pages v.store p.file.group) (sym whole) (low (and_first (has_room v.store p) _ (and_second (is_complete p) _ h)))
+pub ready_room : (v : SiteView) (p : Pull) → is_ready v p ≡ true → length (wanted_pages p) ≤ free_pages v.store p.file.group
+ready_room v p h = low (and_first (has_room v.store p) _ (and_second (is_complete p) _ h))
   where
-    whole : length p.content ≡ p.size
-    whole = equal (length p.content) p.size (and_first (is_complete p) _ h)
-
-    low : nat_le (pages_of p.size) (free_pages v.store p.file.group) ≡ true → pages_of p.size ≤ free_pages v.store p.file.group
+    low : nat_le (length (wanted_pages p)) (free_pages v.store p.file.group) ≡ true → length (wanted_pages p) ≤ free_pages v.store p.file.group
     low e = grind (arith, nat_tests)
 
-adopted_fits : (v : SiteView) (p : Pull) → is_ready v p ≡ true → RoomFits v.store → (g : ℕ) → (total (copy_pages g) (with_row copy_key (copy_adopted p) v.store.copies) + total (changed_pages g) v.store.instances ≤ pack_pages)
-adopted_fits v p ready h g = over (p.file.group == g) refl
+-- laid over the site's own copy, what was pulled takes no more pages than this one and those that came
+abbrev pub PullRoom : Store → Pull → Type 0
+PullRoom s p = is_complete p ≡ true → fits_own p (copy_of s p.file) ≡ true → (g : ℕ) → copy_pages g (copy_adopted p (content_of (copy_of s p.file))) ≤ measured (copy_pages g) (copy_of s p.file) + cond (p.file.group == g) (length (wanted_pages p)) 0
+
+-- so it is with all that a site pulls
+pub record PullsRoom (v : SiteView) : Type 0 where
+  pub ascends : Ascends copy_key v.store.copies
+  pub pulls : Every (PullRoom v.store) v.pulls
+
+adopted_fits : (v : SiteView) (p : Pull) → is_ready v p ≡ true → fits_own p (copy_of v.store p.file) ≡ true → Ascends copy_key v.store.copies → PullRoom v.store p → RoomFits v.store → (g : ℕ) →
+    (total (copy_pages g) (with_row copy_key (copy_adopted p (content_under v p)) v.store.copies) + total (changed_pages g) v.store.instances ≤ pack_pages)
+adopted_fits v p ready fits ascends room h g = over (p.file.group == g) refl
   where
-    more : total (copy_pages g) (with_row copy_key (copy_adopted p) v.store.copies) ≤ total (copy_pages g) v.store.copies + copy_pages g (copy_adopted p)
-    more = row_more (copy_pages g) copy_key (copy_adopted p) v.store.copies
+    adopted : FileCopy
+    adopted = copy_adopted p (content_under v p)
 
-    free_is : p.file.group ≡ g → pages_of (length p.content) ≤ pack_pages - (total (copy_pages g) v.store.copies + total (changed_pages g) v.store.instances)
-    free_is e = subst (λ (n : ℕ). pages_of (length p.content) ≤ pack_pages - (total (copy_pages n) v.store.copies + total (changed_pages n) v.store.instances)) e (ready_room v p ready)
+    all : total (copy_pages g) (with_row copy_key adopted v.store.copies) + measured (copy_pages g) (copy_of v.store p.file) ≡ total (copy_pages g) v.store.copies + copy_pages g adopted
+    all = row_total (copy_pages g) copy_key adopted v.store.copies ascends
 
-    here : (a b x y z : ℕ) → a ≤ b + x → x ≡ z → z ≤ pack_pages - (b + y) → b + y ≤ pack_pages → a + y ≤ pack_pages
-    here a b x y z l e m n = omega (arith, l, e, m, n)
+    more : copy_pages g adopted ≤ measured (copy_pages g) (copy_of v.store p.file) + cond (p.file.group == g) (length (wanted_pages p)) 0
+    more = room (and_first (is_complete p) _ ready) fits g
 
-    other : (a b x y : ℕ) → a ≤ b + x → x ≡ 0 → b + y ≤ pack_pages → a + y ≤ pack_pages
-    other a b x y l e n = omega (arith, l, e, n)
+    free_is : p.file.group ≡ g → length (wanted_pages p) ≤ pack_pages - (total (copy_pages g) v.store.copies + total (changed_pages g) v.store.instances)
+    free_is e = subst (λ (n : ℕ). length (wanted_pages p) ≤ pack_pages - (total (copy_pages n) v.store.copies + total (changed_pages n) v.store.instances)) e (ready_room v p ready)
 
-    over : (b : Bool) → (p.file.group == g) ≡ b → total (copy_pages g) (with_row copy_key (copy_adopted p) v.store.copies) + total (changed_pages g) v.store.instances ≤ pack_pages
-    over true e = here (total (copy_pages g) (with_row copy_key (copy_adopted p) v.store.copies)) (total (copy_pages g) v.store.copies) (copy_pages g (copy_adopted p)) (total (changed_pages g) v.store.instances) (pages_of (length p.content)) more (ap (λ (x : Bool). cond x (pages_of (length p.content)) 0) e) (free_is (equal p.file.group g e)) (h g)
-    over false e = other (total (copy_pages g) (with_row copy_key (copy_adopted p) v.store.copies)) (total (copy_pages g) v.store.copies) (copy_pages g (copy_adopted p)) (total (changed_pages g) v.store.instances) more (ap (λ (x : Bool). cond x (pages_of (length p.content)) 0) e) (h g)
+    here : (a m b x y z w : ℕ) → a + m ≡ b + x → x ≤ m + z → z ≡ w → w ≤ pack_pages - (b + y) → b + y ≤ pack_pages → a + y ≤ pack_pages
+    here a m b x y z w e l k q n = omega (arith, e, l, k, q, n)
 
-adopts_pull_room : (f : Frame) (p : Pull) (v : SiteView) → is_ready v p ≡ true → SiteRooms v (adopts_pull f p v)
-adopts_pull_room f p v ready = record {
-  view = λ h. subst RoomFits (sym (noted_store f p (row table_group p.file.group v.tables) (without_pull p (with_store v (with_copy (copy_adopted p) v.store))))) (adopted_fits v p ready h);
-  disk = λ h g. less (total (copy_pages g) (with_row copy_key (copy_adopted p) v.store.copies)) (total (changed_pages g) v.store.instances) (adopted_fits v p ready h g);
+    other : (a m b x y z : ℕ) → a + m ≡ b + x → x ≤ m + z → z ≡ 0 → b + y ≤ pack_pages → a + y ≤ pack_pages
+    other a m b x y z e l k n = omega (arith, e, l, k, n)
+
+    over : (b : Bool) → (p.file.group == g) ≡ b → total (copy_pages g) (with_row copy_key adopted v.store.copies) + total (changed_pages g) v.store.instances ≤ pack_pages
+    over true e = here (total (copy_pages g) (with_row copy_key adopted v.store.copies)) (measured (copy_pages g) (copy_of v.store p.file)) (total (copy_pages g) v.store.copies) (copy_pages g adopted) (total (changed_pages g) v.store.instances) (cond (p.file.group == g) (length (wanted_pages p)) 0) (length (wanted_pages p))
+        all more (ap (λ (x : Bool). cond x (length (wanted_pages p)) 0) e) (free_is (equal p.file.group g e)) (h g)
+    over false e = other (total (copy_pages g) (with_row copy_key adopted v.store.copies)) (measured (copy_pages g) (copy_of v.store p.file)) (total (copy_pages g) v.store.copies) (copy_pages g adopted) (total (changed_pages g) v.store.instances) (cond (p.file.group == g) (length (wanted_pages p)) 0)
+        all more (ap (λ (x : Bool). cond x (length (wanted_pages p)) 0) e) (h g)
+
+adopts_pull_room : (f : Frame) (p : Pull) (v : SiteView) → is_ready v p ≡ true → fits_own p (copy_of v.store p.file) ≡ true → Ascends copy_key v.store.copies → PullRoom v.store p → SiteRooms v (adopts_pull f p v)
+adopts_pull_room f p v ready fits ascends room = record {
+  view = λ h. subst RoomFits (sym (noted_store f p (row table_group p.file.group v.tables) (with_adopted p v))) (adopted_fits v p ready fits ascends room h);
+  disk = λ h g. less (total (copy_pages g) (with_row copy_key (copy_adopted p (content_under v p)) v.store.copies)) (total (changed_pages g) v.store.instances) (adopted_fits v p ready fits ascends room h g);
 }
   where
     less : (a b : ℕ) → a + b ≤ pack_pages → a ≤ pack_pages
     less a b l = omega (arith, l)
 
-adopts_first_room : (f : Frame) (ps : List Pull) (v : SiteView) → SiteRooms v (adopts_first f ps v)
-adopts_first_room f [] v = rooming (quiet_keeps v)
-adopts_first_room f (p ∷ ps) v =
-    (elim (is_ready v p) as (λ t. is_ready v p ≡ t → SiteRooms v (elim t [ true ↦ elim (is_above_own p (copy_of v.store p.file)) [ true ↦ adopts_pull f p v | false ↦ adopts_first f ps (without_pull p v) ] | false ↦ adopts_first f ps v ])) [
-      | true ↦ λ e. (elim (is_above_own p (copy_of v.store p.file)) as (λ t. SiteRooms v (elim t [ true ↦ adopts_pull f p v | false ↦ adopts_first f ps (without_pull p v) ])) [
-        | true ↦ adopts_pull_room f p v e
-        | false ↦ adopts_first_room f ps (without_pull p v)
-      ])
-      | false ↦ λ e. adopts_first_room f ps v
+adopts_first_room : (f : Frame) (ps : List Pull) (v : SiteView) → Ascends copy_key v.store.copies → Every (PullRoom v.store) ps → SiteRooms v (adopts_first f ps v)
+adopts_first_room f [] v ascends rooms = rooming (quiet_keeps v)
+adopts_first_room f (p ∷ ps) v ascends rooms =
+    (elim (is_ready v p) as (λ t. is_ready v p ≡ t → SiteRooms v (elim t [ true ↦ elim (fits_own p (copy_of v.store p.file)) [ true ↦ adopts_pull f p v | false ↦ adopts_first f ps (without_pull p v) ] | false ↦ adopts_first f ps v ])) [
+      | true ↦ λ e. (elim (fits_own p (copy_of v.store p.file)) as (λ t. fits_own p (copy_of v.store p.file) ≡ t → SiteRooms v (elim t [ true ↦ adopts_pull f p v | false ↦ adopts_first f ps (without_pull p v) ])) [
+        | true ↦ λ k. adopts_pull_room f p v e k ascends rooms.0
+        | false ↦ λ k. adopts_first_room f ps (without_pull p v) ascends rooms.1
+      ]) refl
+      | false ↦ λ e. adopts_first_room f ps v ascends rooms.1
     ]) refl
 
-adopts_of_room : (c : Config) (me : ℕ) (e : Option InEpoch) (v : SiteView) → SiteRooms v (adopts_of c me e v)
-adopts_of_room c me None v = rooming (quiet_keeps v)
-adopts_of_room c me (Some e) v = adopts_first_room (frame_in c me v.boot e) v.pulls v
+adopts_of_room : (c : Config) (me : ℕ) (e : Option InEpoch) (v : SiteView) → PullsRoom v → SiteRooms v (adopts_of c me e v)
+adopts_of_room c me None v room = rooming (quiet_keeps v)
+adopts_of_room c me (Some e) v room = adopts_first_room (frame_in c me v.boot e) v.pulls v room.ascends room.pulls
 
 starts_mend_of_keeps : (f : Frame) (t : SyncTable) (o : Option FileRow) (v : SiteView) → Keeps v (starts_mend_of f t o v)
 starts_mend_of_keeps f t None v = quiet_keeps v
@@ -244,44 +265,62 @@ writes_room : (c : Config) (me : ℕ) (links : Links) (v : SiteView) (o : Outcom
 writes_room c me links v o h = rooms_then v.store o.view.store (ends_event c me links o.view).view.store o.written (ends_event c me links o.view).written h (ends_keeps c me links o.view)
 
 -- an adoption that is tried; the event itself writes nothing then
-tried_room : (c : Config) (me : ℕ) (links : Links) (v : SiteView) (o : Outcome SiteView) → Keeps v o → SiteRooms v (whole c me links o (adopts_in c me))
-tried_room c me links v o h =
+tried_room : (c : Config) (me : ℕ) (links : Links) (v : SiteView) (o : Outcome SiteView) → Keeps v o → PullsRoom o.view → SiteRooms v (whole c me links o (adopts_in c me))
+tried_room c me links v o h room =
     let a : Outcome SiteView = adopts_in c me o.view in
     let last : Outcome SiteView = ends_event c me links a.view in
     rooms_then v.store a.view.store last.view.store a.written (first_written o.written last.written)
-    (then_rooms v.store o.view.store a.view.store o.written a.written h (adopts_of_room c me o.view.epoch o.view))
+    (then_rooms v.store o.view.store a.view.store o.written a.written h (adopts_of_room c me o.view.epoch o.view room))
     (calm_then a.view.store a.view.store last.view.store o.written last.written (calm_same a.view.store a.view.store o.written refl h.none) (ends_keeps c me links a.view))
 
-received_room : (c : Config) (me : ℕ) (links : Links) (p : Packet) (x : Body) (v : SiteView) → p.body ≡ x → StoreGood v.store → SiteRooms v (whole c me links (takes c me links p x v) (tries_at c me x))
-received_room c me links p body.Poll v e good = writes_room c me links v (takes c me links p body.Poll v) (rooming (on_poll_keeps me links p.from p.from_boot p.epoch v))
-received_room c me links p (body.Promise reach) v e good = writes_room c me links v (takes c me links p (body.Promise reach) v) (rooming (on_promise_keeps p.from p.from_boot p.epoch reach v.round v))
-received_room c me links p (body.Refuse promised) v e good = writes_room c me links v (takes c me links p (body.Refuse promised) v) (rooming (on_refuse_keeps me links p.epoch promised v.round v))
-received_room c me links p (body.Install members) v e good = writes_room c me links v (takes c me links p (body.Install members) v) (rooming (on_install_keeps c me p.from p.from_boot p.epoch members v))
-received_room c me links p body.Joined v e good = writes_room c me links v (takes c me links p body.Joined v) (rooming (on_joined_keeps p.from p.epoch v))
-received_room c me links p (body.Notify file kind set size stamp vector holder) v e good = tried_room c me links v (takes_framed c me p v.epoch v) (notify_keeps v.epoch)
+-- after what is taken an adoption is tried, and all that is pulled then has room
+abbrev pub TakesRoom : Config → ℕ → Packet → Body → SiteView → Type 0
+TakesRoom c me p (body.Notify file kind set size stamp vector holder) v = PullsRoom (takes_framed c me p v.epoch v).view
+TakesRoom c me p (body.Page file stamp page bytes) v = PullsRoom (takes_framed c me p v.epoch v).view
+TakesRoom c me p (body.Delta file wanted pages) v = PullsRoom (takes_framed c me p v.epoch v).view
+TakesRoom c me p _ v = Unit {0}
+
+received_room : (c : Config) (me : ℕ) (links : Links) (p : Packet) (x : Body) (v : SiteView) → p.body ≡ x → StoreGood v.store → TakesRoom c me p x v → SiteRooms v (whole c me links (takes c me links p x v) (tries_at c me x))
+received_room c me links p body.Poll v e good room = writes_room c me links v (takes c me links p body.Poll v) (rooming (on_poll_keeps me links p.from p.from_boot p.epoch v))
+received_room c me links p (body.Promise reach) v e good room = writes_room c me links v (takes c me links p (body.Promise reach) v) (rooming (on_promise_keeps p.from p.from_boot p.epoch reach v.round v))
+received_room c me links p (body.Refuse promised) v e good room = writes_room c me links v (takes c me links p (body.Refuse promised) v) (rooming (on_refuse_keeps me links p.epoch promised v.round v))
+received_room c me links p (body.Install members) v e good room = writes_room c me links v (takes c me links p (body.Install members) v) (rooming (on_install_keeps c me p.from p.from_boot p.epoch members v))
+received_room c me links p body.Joined v e good room = writes_room c me links v (takes c me links p body.Joined v) (rooming (on_joined_keeps p.from p.epoch v))
+received_room c me links p (body.Notify file kind set size stamp vector holder) v e good room = tried_room c me links v (takes_framed c me p v.epoch v) (notify_keeps v.epoch) room
   where
     notify_keeps : (o : Option InEpoch) → Keeps v (takes_framed c me p o v)
     notify_keeps None = quiet_keeps v
     notify_keeps (Some i) = subst (λ (y : Body). Keeps v (takes_inside (frame_in c me v.boot i) p.from y v)) (sym e)
-        (quietly v.store _ (on_notify_talks (frame_in c me v.boot i) p.from (copy_of v.store file) (record { file = file; kind = kind; set = set; size = size; stamp = stamp; vector = vector; holder = holder; content = [] }) v.pulls).1)
-received_room c me links p (body.Page file stamp page bytes) v e good = tried_room c me links v (takes_framed c me p v.epoch v) (page_keeps v.epoch)
+        (quietly v.store _ (on_notify_talks (frame_in c me v.boot i) p.from (copy_of v.store file) (record { file = file; kind = kind; set = set; size = size; stamp = stamp; vector = vector; holder = holder; base = None; wanted = None; content = [] }) v.pulls).1)
+received_room c me links p (body.Page file stamp page bytes) v e good room = tried_room c me links v (takes_framed c me p v.epoch v) (page_keeps v.epoch) room
   where
     page_keeps : (o : Option InEpoch) → Keeps v (takes_framed c me p o v)
     page_keeps None = quiet_keeps v
     page_keeps (Some i) = subst (λ (y : Body). Keeps v (takes_inside (frame_in c me v.boot i) p.from y v)) (sym e) (quietly v.store _ (on_page_talks (frame_in c me v.boot i) file stamp page bytes v.pulls).1)
-received_room c me links p _ v e good = writes_room c me links v (takes_framed c me p v.epoch v) (framed_room c me p v.epoch v good)
+received_room c me links p (body.Delta file wanted pages) v e good room = tried_room c me links v (takes_framed c me p v.epoch v) (delta_keeps v.epoch) room
+  where
+    delta_keeps : (o : Option InEpoch) → Keeps v (takes_framed c me p o v)
+    delta_keeps None = quiet_keeps v
+    delta_keeps (Some i) = subst (λ (y : Body). Keeps v (takes_inside (frame_in c me v.boot i) p.from y v)) (sym e) (quietly v.store _ (on_delta_talks (frame_in c me v.boot i) (copy_of v.store file) file wanted pages v.pulls).1)
+received_room c me links p _ v e good room = writes_room c me links v (takes_framed c me p v.epoch v) (framed_room c me p v.epoch v good)
 
-ticks_room : (c : Config) (me : ℕ) (links : Links) (v : SiteView) → SiteRooms v (ticks_after c me links (adopts_in c me v))
-ticks_room c me links v = (let a : Outcome SiteView = adopts_in c me v in rooms_then v.store a.view.store (ends_event c me links a.view).view.store a.written (ends_event c me links a.view).written (adopts_of_room c me v.epoch v) (ends_keeps c me links a.view))
+ticks_room : (c : Config) (me : ℕ) (links : Links) (v : SiteView) → PullsRoom v → SiteRooms v (ticks_after c me links (adopts_in c me v))
+ticks_room c me links v room = (let a : Outcome SiteView = adopts_in c me v in rooms_then v.store a.view.store (ends_event c me links a.view).view.store a.written (ends_event c me links a.view).written (adopts_of_room c me v.epoch v room) (ends_keeps c me links a.view))
 
-pub step_room : (c : Config) (me : ℕ) (links : Links) (v : SiteView) (e : Event) → StoreGood v.store → SiteRooms v (step c me links v e)
-step_room c me links v (Calls process words) good = writes_room c me links v (takes_call c me process words v) (rooming (quietly v.store _ (on_call_talks (call_frame c me v.boot v.epoch) (epoch_id v.epoch) process words v.users).1))
-step_room c me links v (Receives p) good =
-    elim (is_dropped p v) as (λ t. SiteRooms v (elim t [ true ↦ quiet v | false ↦ whole c me links (takes c me links p p.body v) (tries_at c me p.body) ])) [
-      | true ↦ rooming (quiet_keeps v)
-      | false ↦ received_room c me links p p.body v refl good
-    ]
-step_room c me links v Ticks good = ticks_room c me links v
-step_room c me links v Parts good = writes_room c me links v (starts_part me links v) (rooming (starts_part_keeps me links v.epoch v))
-step_room c me links v Merges good = writes_room c me links v (starts_merge me links v) (rooming (begins_keeps me links (v.promised.number + 1) (boots_where (merge_boot me links)) v))
-step_room c me links v GivesUp good = writes_room c me links v (leaves me v) (rooming (leaves_of_keeps me v.epoch v))
+-- what is pulled has room in the view in which an adoption is tried
+abbrev pub EventRoom : Config → ℕ → SiteView → Event → Type 0
+EventRoom c me v (Receives p) = is_dropped p v ≡ false → TakesRoom c me p p.body v
+EventRoom c me v Ticks = PullsRoom v
+EventRoom c me v _ = Unit {0}
+
+pub step_room : (c : Config) (me : ℕ) (links : Links) (v : SiteView) (e : Event) → StoreGood v.store → EventRoom c me v e → SiteRooms v (step c me links v e)
+step_room c me links v (Calls process words) good room = writes_room c me links v (takes_call c me process words v) (rooming (quietly v.store _ (on_call_talks (call_frame c me v.boot v.epoch) (epoch_id v.epoch) process words v.users).1))
+step_room c me links v (Receives p) good room =
+    (elim (is_dropped p v) as (λ t. is_dropped p v ≡ t → SiteRooms v (elim t [ true ↦ quiet v | false ↦ whole c me links (takes c me links p p.body v) (tries_at c me p.body) ])) [
+      | true ↦ λ e. rooming (quiet_keeps v)
+      | false ↦ λ e. received_room c me links p p.body v refl good (room e)
+    ]) refl
+step_room c me links v Ticks good room = ticks_room c me links v room
+step_room c me links v Parts good room = writes_room c me links v (starts_part me links v) (rooming (starts_part_keeps me links v.epoch v))
+step_room c me links v Merges good room = writes_room c me links v (starts_merge me links v) (rooming (begins_keeps me links (v.promised.number + 1) (boots_where (merge_boot me links)) v))
+step_room c me links v GivesUp good room = writes_room c me links v (leaves me v) (rooming (leaves_of_keeps me v.epoch v))

@@ -22,10 +22,11 @@ use Rattle.wire_messages.specs.declared.body.MadeVersion.{MadeVersion}
 use Rattle.wire_messages.specs.declared.body.CloseAnswer.{CloseAnswer}
 use Rattle.wire_messages.specs.declared.body.CloseAnswer.TheVariants as closing
 use Rattle.dir_format.specs.declared.entry.Entry.{Entry}
+use Rattle.dir_format.specs.Entries.{nothing_seen}
 use Rattle.dir_format.specs.Grammar.{dir_bytes}
 use Rattle.dir_reconcile.specs.Rescues.{rescue_is_spent, rescued}
 use Rattle.role_steps.specs.Storage.{StoreRequest, begun_instance, changed_pages, closes_owing, commits, content_of, copy_key, copy_made, copy_of, copy_pages, ends_at, free_pages, instance_committed, instance_key, instance_of, is_open, is_open_in, is_spent, made_version, next_stamp, next_vector, on_close, on_close_at, on_close_of, on_closed_ok, on_closed_ok_of, on_open_ss, on_open_ss_of, opens, opens_made, own_ino, shut, shuts, shuts_again, with_instance}
-use Rattle.role_steps.specs.Operations.{by_number, op_again, acts, acts_committed, commits_owing, executes, executes_effect, last_committed, on_op, on_op_at, on_op_of}
+use Rattle.role_steps.specs.Operations.{by_number, op_again, acts, acts_committed, commits_owing, executes, executes_effect, in_form, last_committed, nothing_to_mend, on_op, on_op_at, on_op_of, on_read_held}
 use Rattle.role_steps.specs.OperationEffects.{Mending, effect_of, has_several, joined_contents, or_spent}
 use Rattle.role_steps.specs.Tables.{row, total, with_latest, with_row}
 use Rattle.role_steps.specs.Views.{DiskWrite, Frame, Outcome, Store, and_then, first_written, quiet, sends, serial_key}
@@ -36,8 +37,8 @@ use Rattle.role_steps.specs.declared.instances.Stage.TheVariants as stage
 use Rattle.tree_laws.specs.Stores.{Ascends}
 use Rattle.rest_laws.proofs.of_one_tree_laws.Rising.{row_key}
 use Rattle.fit_laws.specs.Room.{RoomFits}
-use Rattle.fit_laws.specs.Working.{ChangesPages, FitsOver}
-use Rattle.fit_laws.proofs.Effects.{effect_so}
+use Rattle.rest_laws.specs.of_work_laws.Working.{ChangesPages, FitsOver}
+use Rattle.rest_laws.proofs.of_work_laws.Effects.{effect_so}
 use Rattle.fit_laws.proofs.Totals.{after_length, few_pages, latest_total, measured, row_total}
 
 -- ---- shapes of steps ----
@@ -373,6 +374,14 @@ at_stage f m s good inst i e n o seen (stage.Closed a) q = quiet_room s
 op_of_room : (f : Frame) (m : Mending) (s : Store) → StoreGood s → (inst : Serial) (n : ℕ) (o : Op) (seen : List ℕ) (x : Option Instance) → instance_of s inst ≡ x → RoomsOf s (on_op_of f m x n o seen s)
 op_of_room f m s good inst n o seen None e = quiet_room s
 op_of_room f m s good inst n o seen (Some i) e = at_stage f m s good inst i e n o seen i.stage refl
+
+-- the form of an answer leaves what the store has
+in_form_room : (s : Store) (x : Option Instance) (o : Outcome Store) → RoomsOf s o → RoomsOf s (in_form x o)
+in_form_room s None o k = k
+in_form_room s (Some i) o k = k
+
+pub on_read_held_room : (f : Frame) (inst : Serial) (n at len : ℕ) (s : Store) → StoreGood s → RoomsOf s (on_read_held f inst n at len s)
+on_read_held_room f inst n at len s good = in_form_room s (instance_of s inst) (on_op f nothing_to_mend inst n (op.Read at len) nothing_seen s) (op_of_room f nothing_to_mend s good inst n (op.Read at len) nothing_seen (instance_of s inst) refl)
 
 pub on_op_room : (f : Frame) (m : Mending) (inst : Serial) (n : ℕ) (o : Op) (seen : List ℕ) (s : Store) → StoreGood s → RoomsOf s (on_op f m inst n o seen s)
 on_op_room f m inst n o seen s good = op_of_room f m s good inst n o seen (instance_of s inst) refl

@@ -12,10 +12,11 @@ use Rattle.fit_laws.specs.Versions.{FitsSlot}
 use Rattle.fit_laws.proofs.Numbers.{stands_inode}
 use Rattle.fit_laws.proofs.Sets.{set_some}
 use Rattle.fit_laws.proofs.Versions.{stamp_slot, vector_slot}
-use Rattle.fit_laws.proofs.Working.{holds_file, trace_works}
+use Rattle.rest_laws.proofs.of_work_laws.Working.{holds_file, trace_works}
+use Rattle.rest_laws.proofs.of_one_tree_laws.Staying.{rest_below}
 
 pub version_slot : (c : Config) (t : List Line) → Past c t → (f : FileId) (s : Stamp) → Stands c t f s → FitsSlot f (version_of c (entries t) f s)
 version_slot c t past f s stands = record {
   number = stands_inode c f s t past.rest.each stands;
-  version = record { some = set_some c t past f s stands; most = holds_file (length (version_of c (entries t) f s).content) ((trace_works c t past.followed past.rest.each).0 f s); named = stamp_slot c t past f s stands; agrees = vector_slot c t past f s stands };
+  version = record { some = set_some c t past f s stands; most = holds_file (length (version_of c (entries t) f s).content) ((trace_works c t past.followed (rest_below c t past.rest)).0 f s); named = stamp_slot c t past f s stands; agrees = vector_slot c t past f s stands };
 }

@@ -50,12 +50,14 @@ use Rattle.rest_laws.specs.of_one_tree_laws.Rest.{EachRest, Past}
 use Rattle.fit_laws.specs.Inodes.{IsInodeNumber}
 use Rattle.fit_laws.specs.Room.{RoomFits}
 use Rattle.fit_laws.specs.Storing.{AreStorable, MayStore, RunsStorable}
-use Rattle.fit_laws.specs.Working.{FitsOver}
+use Rattle.rest_laws.specs.of_work_laws.Working.{FitsOver}
 use Rattle.fit_laws.proofs.Numbers.{own_inode, stands_inode}
-use Rattle.fit_laws.proofs.PageLists.{are_pages}
+use Rattle.rest_laws.proofs.of_work_laws.PageLists.{are_pages}
 use Rattle.fit_laws.proofs.Sets.{has_some, made_some, set_some}
 use Rattle.fit_laws.proofs.Versions.{beyond}
-use Rattle.fit_laws.proofs.Working.{Works, holds_file, trace_works}
+use Rattle.rest_laws.specs.of_work_laws.Working.{Works}
+use Rattle.rest_laws.proofs.of_work_laws.Working.{holds_file, trace_works}
+use Rattle.rest_laws.proofs.of_one_tree_laws.Staying.{rest_below}
 
 -- ---- packs and numbers ----
 
@@ -186,7 +188,7 @@ module _ (c : Config) (t : List Line) (past : Past c t) (f : Frame) (frame : Fra
   works_over x w = subst (λ (base : List ℕ). FitsOver base i.work.content i.work.changed) base_is (subst (λ (y : _). FitsOver (stamped_content (history c (entries t)) x.grant.file x.work.last) y.content y.changed) w.work_is it)
     where
       it : Works (history c (entries t)) x
-      it = all_found (Works (history c (entries t))) (is_named i.inst) (tree_of c f.epoch (granted_group (entries t) f.epoch i.inst) (entries t)).instances x ((trace_works c t past.followed past.rest.each).1 f.epoch (granted_group (entries t) f.epoch i.inst)) w.open_at.found
+      it = all_found (Works (history c (entries t))) (is_named i.inst) (tree_of c f.epoch (granted_group (entries t) f.epoch i.inst) (entries t)).instances x ((trace_works c t past.followed (rest_below c t past.rest)).1 f.epoch (granted_group (entries t) f.epoch i.inst)) w.open_at.found
 
       rests : StoreRests c t
       rests = store_rests c t past

@@ -9,8 +9,8 @@ use Rattle.file_content.specs.Pages.{has_page, pages_needed, pages_of, pages_wit
 use Rattle.role_steps.specs.Own.{Every}
 use Rattle.role_steps.specs.Tables.{row, total, with_latest, with_row}
 use Rattle.tree_laws.specs.Stores.{Ascends}
-use Rattle.fit_laws.specs.Working.{AreBelow, FitsOver}
-use Rattle.fit_laws.proofs.PageLists.{kept_there, page_there, passed_over}
+use Rattle.rest_laws.specs.of_work_laws.Working.{AreBelow, FitsOver}
+use Rattle.rest_laws.proofs.of_work_laws.PageLists.{kept_there, page_there, passed_over}
 
 -- ---- tables ----
 

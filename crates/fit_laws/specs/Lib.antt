@@ -1,7 +1,6 @@
 pub mod EntryEntries
 pub mod Inodes
 pub mod Opens
-pub mod Working
 pub mod Versions
 pub mod Storing
 pub mod Room

@@ -22,6 +22,7 @@ ghost use Rattle.tree_laws.specs.Instances.{Stands};
 ghost use Rattle.tree_laws.specs.Printed.{entries};
 ghost use Rattle.rest_laws.specs.of_one_tree_laws.Places.{SiteFact};
 ghost use Rattle.rest_laws.specs.of_one_tree_laws.Rest.{Past};
+ghost use Rattle.rest_laws.specs.of_one_tree_laws.Roles.{EventFact};
 ghost use Rattle.fit_laws.specs.Inodes.{AreInodes, IsInodeNumber};
 ghost use Rattle.fit_laws.specs.Opens.{OpensForSite};
 ghost use Rattle.fit_laws.specs.Pulling.{FitsPull, NoticeFits};
@@ -64,10 +65,10 @@ pub fn packs_have_room()
     ensures { (c : Config) (lines : List ScheduleLine) → LinesFit c lines → PacksAreOfSites c → length c.packs ≤ 4 → (s : ℕ) (v : SiteView) → place_at (run_in c lines) s ≡ Some (Running v) → RoomFits v.store }
 {}
 
-/// After every schedule, what a running site pulls may be adopted there once it is complete: the site has a pack of its group, and its version
-/// may stand in a slot. (A pull is adopted where its pages have room beside those that open instances have changed.)
+/// After every schedule, what a running site pulls may be adopted there once it is complete and fits the site's own copy: the site has a pack
+/// of its group, its version may stand in a slot, and of each page that isn't pulled the own copy has the bytes. (A pull is adopted where its pages have room beside those that open instances have changed.)
 pub fn what_is_pulled_may_be_adopted()
-    ensures { (c : Config) (lines : List ScheduleLine) → LinesFit c lines → PacksAreOfSites c → length c.packs ≤ 4 → (s : ℕ) (v : SiteView) (e : InEpoch) → place_at (run_in c lines) s ≡ Some (Running v) → v.epoch ≡ Some e → Every (FitsPull c s) v.pulls }
+    ensures { (c : Config) (lines : List ScheduleLine) → LinesFit c lines → PacksAreOfSites c → length c.packs ≤ 4 → (s : ℕ) (v : SiteView) (e : InEpoch) → place_at (run_in c lines) s ≡ Some (Running v) → v.epoch ≡ Some e → Every (FitsPull c s v.store) v.pulls }
 {}
 
 /// After every schedule each notice is of a version that may stand in a slot, no longer than a file may be, and goes to a site that has a pack
@@ -76,9 +77,9 @@ pub fn notices_are_of_versions()
     ensures { (c : Config) (lines : List ScheduleLine) → LinesFit c lines → PacksAreOfSites c → length c.packs ≤ 4 → (x : Numbered) → WasSent (run_in c lines) x → NoticeFits c x.packet.to x.packet.body }
 {}
 
-/// Whatever comes next at a site that is as it may be, and whether or not a limit is passed then: where its packs have room they have room
+/// Whatever comes next, as it may, at a site that is as it may be, and whether or not a limit is passed then: where its packs have room they have room
 /// after it; and where they have, each instance that runs may be stored as its next version.
 pub fn sites_keep_their_room()
-    ensures room { (c : Config) (trace : List Line) (me : ℕ) (links : Links) (v : SiteView) (e : Event) → Past c trace → SiteFact c me trace v → RoomFits v.store → RoomFits (step c me links v e).view.store }
+    ensures room { (c : Config) → length c.packs ≤ 4 → (trace : List Line) (me : ℕ) (links : Links) (v : SiteView) (e : Event) → Past c trace → SiteFact c me trace v → EventFact c trace me v e → RoomFits v.store → RoomFits (step c me links v e).view.store }
     ensures storable { (c : Config) (trace : List Line) (f : Frame) (s : Store) → Past c trace → FrameFact c trace f → StoreHeld c f trace s → RoomFits s → AreStorable c f s }
 {}

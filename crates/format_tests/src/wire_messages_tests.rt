@@ -121,7 +121,7 @@ fn are_a_packet<R: Abort>(rt: &R, alloc: Global, bytes: &[u8], kind: u8) {
 fn each_kind_is_its_bytes(rt: HostRuntime) {
     let alloc = rt.alloc();
     // The kind, its body before a vector and, where it has one, what follows the vector.
-    let kinds: [(u8, &[u8], Option<&[u8]>); 24] = [
+    let kinds: [(u8, &[u8], Option<&[u8]>); 28] = [
         (1, &[], None),
         (2, &[0, 0], None),
         (3, &[0, 0, 0, 2, 3, 0, 0, 0, 4], None),
@@ -151,6 +151,9 @@ fn each_kind_is_its_bytes(rt: HostRuntime) {
         ),
         (12, &[0, 0, 0, 1, 0, 0, 0, 1, 4, 1, 0x61, 0, 2], Some(&[])),
         (13, &[0, 0, 0, 1, 0, 0, 0, 1, 1, 1, 0, 2, 0x61, 0x62], None),
+        // A read of bytes that the asker has, and its answer.
+        (12, &[0, 0, 0, 1, 0, 0, 0, 2, 13, 0, 0, 0, 9, 0, 2], None),
+        (13, &[0, 0, 0, 1, 0, 0, 0, 2, 1, 4, 0, 2], None),
         (14, &[0, 0, 0, 1], None),
         (15, &[1, 0, 0, 0, 1, 1, 1, 0, 0, 0, 3], Some(&[0, 0, 0, 9])),
         (16, &[1, 0, 0, 0, 1], None),
@@ -182,6 +185,8 @@ fn each_kind_is_its_bytes(rt: HostRuntime) {
         (22, &[0, 0, 2, 1, 0, 0, 0, 3, 63], None),
         (23, &[0, 0, 2, 1, 0, 0, 0, 3, 63, 0, 2, 0x61, 0xFF], None),
         (24, &[0, 0, 2, 1, 0, 0, 0, 3], None),
+        (25, &[0, 0, 2, 1, 0, 0, 0, 3, 2, 0, 0, 0, 1], None),
+        (26, &[0, 0, 2, 1, 0, 0, 0, 3, 0, 2, 0, 1, 0, 3], None),
     ];
     for (kind, before, after) in kinds {
         let body = body(&rt, alloc, before, after);
@@ -230,4 +235,12 @@ fn a_report_that_descends(rt: HostRuntime) {
     let both = body(&rt, alloc, &first, Some(second.as_slice()));
     let bytes = packet(&rt, alloc, 6, both.as_slice());
     holds(&rt, fault(&rt, alloc, bytes.as_slice()) == Some(106));
+}
+
+#[test]
+fn a_delta_that_names_a_page_twice(rt: HostRuntime) {
+    let alloc = rt.alloc();
+    let body: [u8; 14] = [0, 0, 2, 1, 0, 0, 0, 3, 0, 2, 0, 3, 0, 3];
+    let bytes = packet(&rt, alloc, 26, &body);
+    holds(&rt, fault(&rt, alloc, bytes.as_slice()) == Some(37));
 }

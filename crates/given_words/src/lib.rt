@@ -12,7 +12,7 @@ pub enum Given<'a> {
 }
 
 /// Why words aren't given.
-#[derive(Clone, Copy, Debug, PartialEq, Eq, Error)]
+#[derive(Clone, Copy, Debug, Error)]
 pub enum GivenFault {
     /// They are neither one nor three.
     #[error("not one word, nor three")]

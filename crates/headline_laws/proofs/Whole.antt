@@ -10,6 +10,7 @@ use Rattle.prompt_laws.proofs.of_whole_run_laws.of_call_row_laws.TreeSum.{tree_l
 use Rattle.prompt_laws.proofs.of_whole_run_laws.of_orderly_traces.Forms.{blocks_form}
 use Rattle.prompt_laws.proofs.of_whole_run_laws.of_orderly_traces.OwnLeaves.{leaves_are_own}
 use Rattle.tree_laws.specs.Following.{RowsAreLawful}
+use Rattle.prompt_laws.proofs.of_whole_run_laws.of_rest_laws.Caching.{schedule_pages}
 use Rattle.prompt_laws.proofs.of_whole_run_laws.of_rest_laws.MendStepMeeting.{rows_meet}
 use Rattle.prompt_laws.proofs.of_whole_run_laws.of_rest_laws.Run.{schedule_rows}
 use Rattle.prompt_laws.proofs.of_whole_run_laws.of_rest_laws.Shown.{shown_entries}
@@ -58,6 +59,7 @@ pub the_run : (lines : List ScheduleLine) → AreInOrder lines → TheRun lines
 the_run lines order = record {
   trace = trace_is_one (run lines);
   events = after_events lines order;
+  cached = schedule_pages lines order;
   voids = voids_change_nothing lines order;
   budgets = budgets_passed (config_of lines) lines;
   carried = round_carries (config_of lines) (calm_left (config_of lines)) lines;

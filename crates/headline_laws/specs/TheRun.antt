@@ -10,6 +10,7 @@ use Rattle.promise_laws.specs.Moments.{HoldsAfterEvents}
 use Rattle.promise_laws.specs.OneTrace.{TraceIsOne}
 use Rattle.promise_laws.specs.Steady.{SteadyRoundsAreCalm, TogetherIsTold}
 use Rattle.promise_laws.specs.Voiding.{VoidLinesChangeNothing}
+use Rattle.prompt_laws.specs.of_whole_run_laws.of_rest_laws.Caching.{CachedPagesAreRight}
 use Rattle.row_laws.specs.Shown.{trace_of}
 use Rattle.tree_model.specs.Folds.{Trace}
 use Rattle.headline_laws.specs.Carried.{CalmRoundsCarry}
@@ -22,6 +23,8 @@ pub record TheRun (lines : List ScheduleLine) : Type 0 where
   -- more than the components of its path and six, or seven for a mail; and a delivery, unless of a report, sends at most one packet that
   -- serves a call, besides opens of mends
   pub events : HoldsAfterEvents (config_of lines) lines
+  -- each page that a site has in memory is that page of its version, by the content that the version's commit told
+  pub cached : CachedPagesAreRight (config_of lines) (run lines)
   -- a void line changes nothing
   pub voids : VoidLinesChangeNothing (config_of lines) lines
   -- a round ends by its budget only where more packets have been sent in the run

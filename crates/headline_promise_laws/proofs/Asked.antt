@@ -42,7 +42,7 @@ use Rattle.row_laws.proofs.Fitting.{schedule_fits}
 use Rattle.promises.specs.Past.{site_at}
 use Rattle.promises.specs.Rows.{is_there}
 use Rattle.promises.specs.Lines.{EachAsked, IsAsked, ascends, is_founded, past_at, starts_at, starts_by, was_polled}
-use Rattle.promises.specs.Stops.{IsCut}
+use Rattle.promises.specs.Stops.{IsCutWhereStopped}
 use Rattle.promises.specs.Traces.{past_of}
 use Rattle.past_laws.specs.Agreement.{Agrees, is_of_cluster, past}
 use Rattle.past_laws.specs.Along.{EachComesSo, IsNamed}
@@ -213,17 +213,12 @@ founded_so c named lines fit trace placed comes n e h = any_more (λ m. rows.sta
 -- Each record.
 
 -- a cut is the exact one
-abbrev pub CutRecord : Config → List ScheduleLine → ℕ → Trace → Record → Type 0
-CutRecord c lines n before (says.Stopped site cause.Fuse) = IsCut c lines (reverse before) n site false
-CutRecord c lines n before (says.Stopped site cause.Fault) = IsCut c lines (reverse before) n site true
-CutRecord c lines n before _ = Unit {0}
+abbrev pub CutIsExact : (ℕ → List ℕ) → Config → List ScheduleLine → Trace → Entry → Type 0
+CutIsExact wrote c lines before r = IsCutWhereStopped wrote c lines (reverse before) r.line r.what
 
-abbrev pub CutIsExact : Config → List ScheduleLine → Trace → Entry → Type 0
-CutIsExact c lines before r = CutRecord c lines r.line before r.what
-
-call_so : (c : Config) (lines : List ScheduleLine) (before : List Entry) (n site process : ℕ) (id : CallId) (words : Call) → CallLine lines n site process words → IsAsked c lines before n (says.Accept site process id words)
-call_so c lines before n site process id (call.Mend f) h = tt
-call_so c lines before n site process id words h = h.asked
+call_so : (wrote : ℕ → List ℕ) (c : Config) (lines : List ScheduleLine) (before : List Entry) (n site process : ℕ) (id : CallId) (words : Call) → CallLine lines n site process words → IsAsked wrote c lines before n (says.Accept site process id words)
+call_so wrote c lines before n site process id (call.Mend f) h = tt
+call_so wrote c lines before n site process id words h = h.asked
 
 pending_so : (l : ScheduleLine) → old.lists_packets l ≡ true → l ≡ Event line.Pending
 pending_so (Event line.Pending) h = refl
@@ -237,25 +232,25 @@ left_so : (a b d : Bool) → (b ≡ true → d ≡ true) → (a || b) ≡ true �
 left_so true b d f h = refl
 left_so false b d f h = f h
 
-asked_so : (c : Config) → IsNamed c → (lines : List ScheduleLine) → LinesFit c lines → (n : ℕ) (before : Trace) → EachRecord (IsPlaced lines) before → EachComesSo c before → (r : Record) → AskedRecord lines n before r → CutRecord c lines n before r → IsAsked c lines (reverse before) n r
-asked_so c named lines fit n before placed comes (says.Up site boot) h cut = h.asked
-asked_so c named lines fit n before placed comes (says.Stopped site cause.Asked) h cut = h.asked
-asked_so c named lines fit n before placed comes (says.Stopped site cause.Fuse) h cut = cut
-asked_so c named lines fit n before placed comes (says.Stopped site cause.Fault) h cut = cut
-asked_so c named lines fit n before placed comes (says.Leave site e) h cut = left_so (rows.makes_leave (line_at lines n) site) (rows.was_polled lines before n site) (was_polled c lines (reverse before) n site) (polled_so c named lines fit before placed comes n site) h.cause
-asked_so c named lines fit n before placed comes (says.Join site e members) h cut = founded_so c named lines fit before placed comes n e h.asked
-asked_so c named lines fit n before placed comes (says.Accept site process id words) h cut = call_so c lines (reverse before) n site process id words h
-asked_so c named lines fit n before placed comes (says.Packet number from to kind) h cut = pending_so (line_at lines n) h.listed
-asked_so c named lines fit n before placed comes says.Budget h cut = round_so (line_at lines n) h.round
-asked_so c named lines fit n before placed comes _ h cut = tt
+asked_so : (wrote : ℕ → List ℕ) (c : Config) → IsNamed c → (lines : List ScheduleLine) → LinesFit c lines → (n : ℕ) (before : Trace) → EachRecord (IsPlaced lines) before → EachComesSo c before → (r : Record) → AskedRecord lines n before r → IsCutWhereStopped wrote c lines (reverse before) n r → IsAsked wrote c lines (reverse before) n r
+asked_so wrote c named lines fit n before placed comes (says.Up site boot) h cut = h.asked
+asked_so wrote c named lines fit n before placed comes (says.Stopped site cause.Asked) h cut = h.asked
+asked_so wrote c named lines fit n before placed comes (says.Stopped site cause.Fuse) h cut = cut
+asked_so wrote c named lines fit n before placed comes (says.Stopped site cause.Fault) h cut = cut
+asked_so wrote c named lines fit n before placed comes (says.Leave site e) h cut = left_so (rows.makes_leave (line_at lines n) site) (rows.was_polled lines before n site) (was_polled c lines (reverse before) n site) (polled_so c named lines fit before placed comes n site) h.cause
+asked_so wrote c named lines fit n before placed comes (says.Join site e members) h cut = founded_so c named lines fit before placed comes n e h.asked
+asked_so wrote c named lines fit n before placed comes (says.Accept site process id words) h cut = call_so wrote c lines (reverse before) n site process id words h
+asked_so wrote c named lines fit n before placed comes (says.Packet number from to kind) h cut = pending_so (line_at lines n) h.listed
+asked_so wrote c named lines fit n before placed comes says.Budget h cut = round_so (line_at lines n) h.round
+asked_so wrote c named lines fit n before placed comes _ h cut = tt
 
-each_last : (c : Config) (lines : List ScheduleLine) (pre xs : List Entry) (r : Entry) → EachAsked c lines pre xs → IsAsked c lines (pre ++ xs) r.line r.what → EachAsked c lines pre (xs ++ r ∷ [])
-each_last c lines pre [] r h k = (subst (λ ys. IsAsked c lines ys r.line r.what) (append-nil pre) k, tt)
-each_last c lines pre (x ∷ xs) r h k = (h.0, each_last c lines (pre ++ x ∷ []) xs r h.1 (subst (λ ys. IsAsked c lines ys r.line r.what) (sym (append_assoc pre (x ∷ []) xs)) k))
+each_last : (wrote : ℕ → List ℕ) (c : Config) (lines : List ScheduleLine) (pre xs : List Entry) (r : Entry) → EachAsked wrote c lines pre xs → IsAsked wrote c lines (pre ++ xs) r.line r.what → EachAsked wrote c lines pre (xs ++ r ∷ [])
+each_last wrote c lines pre [] r h k = (subst (λ ys. IsAsked wrote c lines ys r.line r.what) (append-nil pre) k, tt)
+each_last wrote c lines pre (x ∷ xs) r h k = (h.0, each_last wrote c lines (pre ++ x ∷ []) xs r h.1 (subst (λ ys. IsAsked wrote c lines ys r.line r.what) (sym (append_assoc pre (x ∷ []) xs)) k))
 
-pub each_asked : (c : Config) → IsNamed c → (lines : List ScheduleLine) → LinesFit c lines → (trace : Trace) → EachRecord (IsPlaced lines) trace → EachRecord (IsAskedRow lines) trace → EachRecord (CutIsExact c lines) trace → EachComesSo c trace → EachAsked c lines [] (reverse trace)
-each_asked c named lines fit [] placed asked cuts comes = tt
-each_asked c named lines fit (r ∷ before) placed asked cuts comes = subst (EachAsked c lines []) (sym (reverse_more r before)) (each_last c lines [] (reverse before) r (each_asked c named lines fit before placed.1 asked.1 cuts.1 comes.1) (asked_so c named lines fit r.line before placed.1 comes.1 r.what asked.0 cuts.0))
+pub each_asked : (wrote : ℕ → List ℕ) (c : Config) → IsNamed c → (lines : List ScheduleLine) → LinesFit c lines → (trace : Trace) → EachRecord (IsPlaced lines) trace → EachRecord (IsAskedRow lines) trace → EachRecord (CutIsExact wrote c lines) trace → EachComesSo c trace → EachAsked wrote c lines [] (reverse trace)
+each_asked wrote c named lines fit [] placed asked cuts comes = tt
+each_asked wrote c named lines fit (r ∷ before) placed asked cuts comes = subst (EachAsked wrote c lines []) (sym (reverse_more r before)) (each_last wrote c lines [] (reverse before) r (each_asked wrote c named lines fit before placed.1 asked.1 cuts.1 comes.1) (asked_so wrote c named lines fit r.line before placed.1 comes.1 r.what asked.0 cuts.0))
 
 -- The lines ascend.
 
@@ -293,5 +288,5 @@ lines_ascend lines (r ∷ before) h = (let placed : (nat_le 1 r.line ≡ true) �
 pub run_ascends : (lines : List ScheduleLine) → ascends 1 (length lines) (reverse (trace_of (run lines))) ≡ true
 run_ascends lines = lines_ascend lines (trace_of (run lines)) (run_placed (config_of lines) lines)
 
-pub run_each_asked : (lines : List ScheduleLine) → AreInOrder lines → EachRecord (CutIsExact (config_of lines) lines) (trace_of (run lines)) → EachAsked (config_of lines) lines [] (reverse (trace_of (run lines)))
-run_each_asked lines order cuts = each_asked (config_of lines) (run_is_named lines order) lines (schedule_fits lines order) (trace_of (run lines)) (run_placed (config_of lines) lines) (run_asked (config_of lines) lines) cuts (run_comes_so lines order)
+pub run_each_asked : (wrote : ℕ → List ℕ) (lines : List ScheduleLine) → AreInOrder lines → EachRecord (CutIsExact wrote (config_of lines) lines) (trace_of (run lines)) → EachAsked wrote (config_of lines) lines [] (reverse (trace_of (run lines)))
+run_each_asked wrote lines order cuts = each_asked wrote (config_of lines) (run_is_named lines order) lines (schedule_fits lines order) (trace_of (run lines)) (run_placed (config_of lines) lines) (run_asked (config_of lines) lines) cuts (run_comes_so lines order)

@@ -150,6 +150,8 @@ packets =
     Packet 4000000000 16 1 packet.Pull ∷
     Packet 4000000000 16 1 packet.Page ∷
     Packet 4000000000 16 1 packet.Have ∷
+    Packet 4000000000 16 1 packet.Want ∷
+    Packet 4000000000 16 1 packet.Delta ∷
     []
 
 abbrev text_of_packets : List ℕ
@@ -178,6 +180,8 @@ text_of_packets =
     codes "80 packet 4000000000 16 1 pull\n" ++
     codes "80 packet 4000000000 16 1 page\n" ++
     codes "80 packet 4000000000 16 1 have\n" ++
+    codes "80 packet 4000000000 16 1 want\n" ++
+    codes "80 packet 4000000000 16 1 delta\n" ++
     []
 
 pub packets_are_printed : lines packets ≡ text_of_packets

@@ -98,7 +98,10 @@ fn clusters_and_refusals_are_copied(rt: HostRuntime) {
     holds(&rt, copy.mounts.len() == 1);
     let refused = Refusal::NoSpace { needed: 1, free: 0 };
     let copy = refused.copy().expect(&rt, "no memory");
-    holds(&rt, matches!(copy, Refusal::NoSpace { needed: 1, free: 0 }));
+    holds(
+        &rt,
+        matches!(&copy, Refusal::NoSpace { needed: 1, free: 0 }),
+    );
 }
 
 #[test]

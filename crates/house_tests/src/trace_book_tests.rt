@@ -30,6 +30,8 @@ fn packets_that_are_not_lost_are_printed(rt: HostRuntime) {
         (PacketKind::Pull, b"pull"),
         (PacketKind::Page, b"page"),
         (PacketKind::Have, b"have"),
+        (PacketKind::Want, b"want"),
+        (PacketKind::Delta, b"delta"),
     ] {
         let packet = Record::Packet {
             number: 4_000_000_000,

@@ -7,7 +7,7 @@ use Rattle.file_content.specs.Pages.{pages_of}
 use Rattle.pack_layout.specs.declared.half.Half.{Half}
 use Rattle.pack_layout.specs.Layout.{slot_at, page_at, slot_bytes, other_half}
 use Rattle.pack_layout.proofs.Halves.{half_most, other_twice}
-use Rattle.shadow_pages.specs.Working.{Working, page_at as shadow_page, count_below}
+use Rattle.new_contents.specs.of_shadow_pages.Working.{Working, page_at as shadow_page, count_below}
 use Rattle.gate_switch.specs.Switch.{Piece}
 use Rattle.gate_switch.specs.Switch.{IsStage, switched, closed, calls_of}
 use Rattle.inode_switch.specs.View.{is_open, Version, IsOldOrNew, Replaced}
@@ -28,8 +28,9 @@ use Rattle.inode_pack.specs.declared.pack_fault.PackFault.{PackFault}
 use Rattle.inode_pack.specs.declared.pack_fault.PackFault.TheVariants.{Disk, NoSpace}
 use Rattle.inode_pack.specs.Pack.{PackState, number_in, Shows}
 use Rattle.pack_slots.specs.Copies.{numbers_in, copy_of, ShowsCopy, AreCopies}
-use Rattle.inode_pack.specs.Committing.{Makes, MayBeLeft, HoldsPages, with_copy, is_changed, is_free, is_free_table, tables_over, blocks_over, new_version, next_half}
-use Rattle.inode_pack.specs.PagePieces.{piece_at, page_pieces, table_pieces, block_pieces, pieces_of}
+use Rattle.new_contents.specs.Changed.{is_changed, piece_at}
+use Rattle.inode_pack.specs.Committing.{Makes, MayBeLeft, HoldsPages, with_copy, is_free, is_free_table, tables_over, blocks_over, new_version, next_half}
+use Rattle.inode_pack.specs.PagePieces.{page_pieces, table_pieces, block_pieces, pieces_of}
 use Rattle.inode_pack.proofs.Setup.{Setup}
 use Rattle.inode_pack.proofs.Making.{pieces, may_replace, copy_says, changed_byte, gate_torn, long_pieces, number_below}
 use Rattle.inode_pack.proofs.NewContent.{version_made}

@@ -8,7 +8,7 @@ use Rattle.file_content.specs.Pages.{pages_of, tables_of}
 use Rattle.pack_layout.specs.declared.half.Half.{Half}
 use Rattle.pack_layout.specs.Layout.{slot_at, table_at, slot_bytes, half_number, other_half}
 use Rattle.pack_layout.proofs.Halves.{half_most, half_sum, other_twice, cases_half}
-use Rattle.shadow_pages.specs.Working.{Working}
+use Rattle.new_contents.specs.of_shadow_pages.Working.{Working}
 use Rattle.gate_switch.specs.Switch.{Piece}
 use Rattle.gate_switch.specs.Switch.{touches, written, closed, switched, TornGate, IsStage}
 use Rattle.inode_switch.specs.View.{is_open, turn}

@@ -7,7 +7,6 @@ pub mod TablePlacing
 pub mod TableStreaming
 pub mod Leaving
 pub mod Making
-pub mod Marked
 pub mod Mounted
 pub mod NewContent
 pub mod NewCopies
@@ -15,10 +14,9 @@ pub mod PageLists
 pub mod Passing
 pub mod Placing
 pub mod Planned
-pub mod PutPages
 pub mod Setup
 pub mod Streaming
 pub mod Taking
-pub mod Whole
 pub mod WrittenTables
-pub use Rattle.shadow_pages.proofs as of_shadow_pages
+pub use Rattle.new_contents.proofs.of_shadow_pages as of_shadow_pages
+pub use Rattle.new_contents.proofs as of_new_contents

@@ -15,7 +15,7 @@ use Rattle.pack_layout.specs.declared.half.Half.{Half}
 use Rattle.pack_layout.specs.declared.half.Half.TheVariants.{First}
 use Rattle.pack_layout.specs.Layout.{area_length, slot_at, tables_at, table_at, page_at, slot_bytes, table_bytes, numbers_under, NamePages, IsSlot, other_half}
 use Rattle.pack_layout.proofs.Halves.{half_most, cases_half}
-use Rattle.shadow_pages.specs.Working.{Working, page_at as shadow_page}
+use Rattle.new_contents.specs.of_shadow_pages.Working.{Working, page_at as shadow_page}
 use Rattle.gate_switch.specs.Switch.{Piece}
 use Rattle.gate_switch.specs.Switch.{touches, written}
 use Rattle.inode_switch.specs.Slots.{Holds, Says, HoldsTables}
@@ -28,7 +28,8 @@ use Rattle.pack_slots.proofs.Numbers.{first_numbers}
 use Rattle.pack_slots.specs.declared.inode_copy.InodeCopy.{InodeCopy}
 use Rattle.inode_pack.specs.Pack.{PackState, number_in, Shows}
 use Rattle.pack_slots.specs.Copies.{numbers_in, copy_of, named_pages, times, ShowsCopy, named_tables, ShowsTables}
-use Rattle.inode_pack.specs.Committing.{is_changed, tables_over, is_table_over, table_in, next_half, next_turn}
+use Rattle.new_contents.specs.Changed.{is_changed}
+use Rattle.inode_pack.specs.Committing.{tables_over, is_table_over, table_in, next_half, next_turn}
 use Rattle.inode_pack.specs.PagePieces.{page_pieces, table_pieces}
 use Rattle.gate_switch.proofs.Tearing.{put_inside, same_bytes, bytes_are}
 use Rattle.inode_pack.proofs.Placing.{is_outside, touches_none, spared_pages, long_written, within_pages, written_page}

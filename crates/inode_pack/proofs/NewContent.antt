@@ -5,8 +5,8 @@ use Rattle.std.proofs.lemmas.Bool.{lt-ltb}
 use Rattle.std.proofs.lemmas.List.{same_lists, get_or_default}
 use Rattle.locus_ids.specs.Sizes.{page_bytes}
 use Rattle.pack_layout.specs.Layout.{slot_at, page_at}
-use Rattle.shadow_pages.specs.Working.{Working, page_at as shadow_page, byte_in, byte_at, content}
-use Rattle.shadow_pages.proofs.Bytes.{length_below, below_at}
+use Rattle.new_contents.specs.of_shadow_pages.Working.{Working, page_at as shadow_page, byte_in, byte_at, content}
+use Rattle.new_contents.proofs.of_shadow_pages.Bytes.{length_below, below_at}
 use Rattle.inode_switch.specs.Slots.{Holds, field_bytes}
 use Rattle.inode_switch.specs.View.{Version, version, version_in, view}
 use Rattle.inode_switch.specs.Replace.{made_version, made_bytes}

@@ -5,14 +5,15 @@ use Rattle.std.specs.List.{flat_map}
 use Rattle.std.proofs.lemmas.Bool.{cases_eq, cases_Bool, eqb-true}
 use Rattle.std.proofs.lemmas.List.{get_or-set_same, get_or-set_other, get_or_default}
 use Rattle.locus_ids.specs.Sizes.{inodes_max, content_pages_max, content_tables_max, pack_pages, pack_tables}
-use Rattle.shadow_pages.proofs.Counts.{count_below_same}
+use Rattle.new_contents.proofs.of_shadow_pages.Counts.{count_below_same}
 use Rattle.file_content.specs.Pages.{pages_of, tables_of}
 use Rattle.pack_layout.specs.Layout.{NameApart, NamePages}
-use Rattle.shadow_pages.specs.Working.{Working, count_below}
+use Rattle.new_contents.specs.of_shadow_pages.Working.{Working, count_below}
 use Rattle.pack_slots.specs.declared.inode_copy.InodeCopy.{InodeCopy}
 use Rattle.inode_pack.specs.Pack.{PackState, number_in}
 use Rattle.pack_slots.specs.Copies.{numbers_in, copy_of, pages_in, tables_in, named_pages, named_tables, times, IsCopy, AreCopies, AreUses}
-use Rattle.inode_pack.specs.Committing.{is_changed, is_free, is_table_over, table_in, Takes, TakesPages}
+use Rattle.new_contents.specs.Changed.{is_changed}
+use Rattle.inode_pack.specs.Committing.{is_free, is_table_over, table_in, Takes, TakesPages}
 use Rattle.pack_slots.proofs.Finding.{own_slots}
 use Rattle.pack_slots.proofs.PageTimes.{times_take, times_own, times_other, named_here}
 use Rattle.pack_slots.proofs.NamedPages.{named_part, named-set, length-named_set, AreBelow}

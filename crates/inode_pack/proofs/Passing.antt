@@ -6,13 +6,14 @@ use Rattle.std.proofs.lemmas.List.{get_or-replicate}
 use Rattle.locus_ids.specs.Sizes.{content_pages_max}
 use Rattle.file_content.specs.Pages.{pages_of}
 use Rattle.pack_layout.specs.Layout.{NamePages, none}
-use Rattle.shadow_pages.specs.Working.{Working}
+use Rattle.new_contents.specs.of_shadow_pages.Working.{Working}
 use Rattle.pack_slots.specs.declared.inode_copy.InodeCopy.{InodeCopy}
 use Rattle.pack_slots.specs.Copies.{numbers_in}
 use Rattle.inode_pack.specs.Committing.{RestsOn, TakesPages}
-use Rattle.inode_pack.specs.Rows.{HasChanged, SameButFor}
+use Rattle.new_contents.specs.Changed.{HasChanged}
+use Rattle.inode_pack.specs.Rows.{SameButFor}
 use Rattle.inode_pack.proofs.Setup.{kept_page}
-use Rattle.inode_pack.proofs.Taking.{unchanged}
+use Rattle.new_contents.proofs.Counting.{unchanged}
 
 -- two contents one after the other have the same data pages but for the row of the changed ones, or for all those of a longer one
 pub same_but_for : (unused : ℕ → Bool) (copy : InodeCopy) (w : Working) (made : List ℕ) (first stop n m : ℕ) → NamePages (pages_of copy.slot.size) (numbers_in copy) → TakesPages unused (Some copy) w made → HasChanged first stop w

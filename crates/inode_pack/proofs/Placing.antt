@@ -6,11 +6,12 @@ use Rattle.std.proofs.lemmas.List.Elements.{All-append, All-nil, All-cons}
 use Rattle.locus_ids.specs.Sizes.{page_bytes, pack_pages}
 use Rattle.disk_model.specs.Images.{is_within}
 use Rattle.pack_layout.specs.Layout.{page_at}
-use Rattle.shadow_pages.specs.Working.{Working, page_at as shadow_page}
+use Rattle.new_contents.specs.of_shadow_pages.Working.{Working, page_at as shadow_page}
 use Rattle.gate_switch.specs.Switch.{Piece}
 use Rattle.gate_switch.specs.Switch.{touches, written, AreWithin}
 use Rattle.gate_switch.proofs.Pieces.{or_parts, put_outside, length-overwritten, written-append}
-use Rattle.inode_pack.specs.PagePieces.{piece_at, page_pieces, AreWhole}
+use Rattle.new_contents.specs.Changed.{piece_at}
+use Rattle.inode_pack.specs.PagePieces.{page_pieces, AreWhole}
 use Rattle.gate_switch.proofs.Tearing.{put_inside}
 
 pub is_outside : (at n k : ℕ) → (k < at) ⊎ (at + n ≤ k) → is_within at n k ≡ false

@@ -6,7 +6,7 @@ use Rattle.file_content.specs.Pages.{pages_of, tables_of}
 use Rattle.pack_layout.specs.declared.half.Half.{Half}
 use Rattle.pack_layout.specs.declared.slot.Slot.{Slot}
 use Rattle.pack_layout.specs.Layout.{numbers_of}
-use Rattle.shadow_pages.specs.Working.{Working}
+use Rattle.new_contents.specs.of_shadow_pages.Working.{Working}
 use Rattle.stored_versions.specs.declared.new_version.NewVersion.{NewVersion}
 use Rattle.pack_slots.specs.declared.inode_copy.InodeCopy.{InodeCopy}
 use Rattle.pack_slots.specs.Copies.{numbers_in, copy_of, AreCopies, AreUses}

@@ -8,12 +8,13 @@ use Rattle.locus_ids.specs.Sizes.{inodes_max, page_bytes, content_pages_max, slo
 use Rattle.pack_layout.specs.declared.slot.Slot.{Slot}
 use Rattle.file_content.specs.Pages.{pages_of, tables_of}
 use Rattle.pack_layout.specs.Layout.{IsSlot, NameApart, NamePages, none}
-use Rattle.shadow_pages.specs.Working.{Working, page_at as shadow_page}
+use Rattle.new_contents.specs.of_shadow_pages.Working.{Working, page_at as shadow_page}
 use Rattle.pack_slots.specs.declared.inode_copy.InodeCopy.{InodeCopy}
 use Rattle.stored_versions.specs.declared.new_version.NewVersion.{NewVersion}
 use Rattle.inode_pack.specs.Pack.{PackState, number_in}
 use Rattle.pack_slots.specs.Copies.{numbers_in, copy_of, pages_in, tables_in, named_pages, named_tables, times, IsCopy, AreCopies}
-use Rattle.inode_pack.specs.Committing.{RestsOn, size_of, is_changed, is_free, is_free_table, is_table_over, table_in, Takes, TakesPages, TakesTables, Makes, next_half, next_turn}
+use Rattle.new_contents.specs.Changed.{is_changed}
+use Rattle.inode_pack.specs.Committing.{RestsOn, size_of, is_free, is_free_table, is_table_over, table_in, Takes, TakesPages, TakesTables, Makes, next_half, next_turn}
 use Rattle.stored_versions.specs.Versions.{IsVersion}
 use Rattle.inode_pack.specs.PagePieces.{AreWhole}
 use Rattle.pack_slots.proofs.PageTimes.{named_here}

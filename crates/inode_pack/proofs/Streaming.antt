@@ -12,14 +12,13 @@ use Rattle.disk_model.specs.Moments.{TellsMany}
 use Rattle.disk_model.proofs.Tells.{tells_longer}
 use Rattle.file_content.specs.Pages.{pages_of}
 use Rattle.pack_layout.specs.Layout.{page_at}
-use Rattle.shadow_pages.specs.Working.{Working}
+use Rattle.new_contents.specs.of_shadow_pages.Working.{Working}
 use Rattle.gate_switch.specs.Switch.{Piece}
 use Rattle.gate_switch.specs.Switch.{AreWithin, touches, TornIn}
 use Rattle.gate_switch.proofs.Pieces.{or_parts}
-use Rattle.inode_pack.specs.Committing.{is_changed}
-use Rattle.inode_pack.specs.PagePieces.{piece_at, page_pieces}
-use Rattle.inode_pack.specs.Rows.{HasChanged}
-use Rattle.inode_pack.proofs.Taking.{unchanged}
+use Rattle.new_contents.specs.Changed.{is_changed, piece_at, HasChanged}
+use Rattle.inode_pack.specs.PagePieces.{page_pieces}
+use Rattle.new_contents.proofs.Counting.{unchanged}
 
 or_none : (a b : Bool) → a ≡ false → b ≡ false → (a || b) ≡ false
 or_none true b e f = absurd (true≢false e)
@@ -101,9 +100,6 @@ module _ (base : ℕ) (numbers : List ℕ) (w : Working) where
       (λ (lt : m < suc n). omega (arith, longer m n (omega arith), length-append (page_pieces base numbers w n) (piece_at (page_at base (get_or numbers n 0)) (get_or w.pages n None))))
       (λ (ge : suc n ≤ m). let e : m ≡ suc n = omega arith in let same = ap (λ (k : ℕ). length (page_pieces base numbers w k)) e in omega arith)
       (cases_lt m (suc n))
-
-pub alone_within : (x : Piece) (n : ℕ) → AreWithin (x ∷ []) n → x.at + length x.bytes ≤ n
-alone_within x n all = all 0 x (omega arith)
 
 one_fault : (e f : DiskFault) → e ≡ f
 one_fault Failed Failed = refl

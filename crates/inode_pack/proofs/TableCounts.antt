@@ -3,7 +3,7 @@ use Rattle.std.proofs.Common.{ℕ, suc, ◌*◌, ◌≤◌, List, [], ◌∷◌,
 use Rattle.std.specs.Prelude.{◌==◌, IfSome}
 use Rattle.locus_ids.specs.Sizes.{content_tables_max, pack_pages, pack_tables}
 use Rattle.file_content.specs.Pages.{pages_of, tables_of}
-use Rattle.shadow_pages.specs.Working.{count_below}
+use Rattle.new_contents.specs.of_shadow_pages.Working.{count_below}
 use Rattle.pack_slots.specs.declared.inode_copy.InodeCopy.{InodeCopy}
 use Rattle.pack_slots.specs.Copies.{numbers_in, pages_in, tables_in, named_pages, named_tables, times}
 use Rattle.pack_slots.specs.Losing.{AreSlots, IsSlotApart}

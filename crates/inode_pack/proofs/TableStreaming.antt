@@ -8,7 +8,7 @@ use Rattle.file_content.specs.Pages.{pages_from}
 use Rattle.gate_switch.specs.Switch.{Piece}
 use Rattle.gate_switch.specs.Switch.{AreWithin, TornIn}
 use Rattle.pack_slots.specs.declared.inode_copy.InodeCopy.{InodeCopy}
-use Rattle.inode_pack.specs.Marked.{is_marked}
+use Rattle.new_contents.specs.Marked.{is_marked}
 use Rattle.inode_pack.specs.PagePieces.{table_piece, table_pieces, marked_tables}
 use Rattle.inode_pack.proofs.Streaming.{torn_front, torn_back, within_front, within_back}
 

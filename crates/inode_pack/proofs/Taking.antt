@@ -5,12 +5,11 @@ use Rattle.std.proofs.lemmas.Bool.{cases_lt, true≢false}
 use Rattle.std.proofs.lemmas.List.{get_or-set_same, get_or-set_other, get_or_append_left, get_or-take}
 use Rattle.std.proofs.Math.Seq.{get_or-append_seam, set-append_seam}
 use Rattle.locus_ids.specs.Sizes.{page_bytes}
-use Rattle.file_content.specs.Pages.{pages_of}
-use Rattle.shadow_pages.specs.Working.{Working, count_below, page_at as shadow_page}
+use Rattle.new_contents.specs.of_shadow_pages.Working.{Working, count_below, page_at as shadow_page}
 use Rattle.inode_pack.specs.PagePieces.{AreWhole}
-use Rattle.inode_pack.specs.Committing.{is_changed, Takes}
-use Rattle.inode_pack.specs.Rows.{HasChanged}
-use Rattle.inode_pack.proofs.FreeCounts.{count_true, count_false, count_gap, count_passes}
+use Rattle.new_contents.specs.Changed.{is_changed}
+use Rattle.inode_pack.specs.Committing.{Takes}
+use Rattle.new_contents.proofs.Counting.{count_true, count_false, count_gap, count_passes}
 
 -- the first n blocks have their numbers, the others those from before, and every unused one below `from` is taken
 pub record TakesSoFar (most limit : ℕ) (unused : ℕ → Bool) (stood : ℕ → ℕ) (changed : ℕ → Bool) (n from : ℕ) (numbers : List ℕ) : Type 0 where
@@ -23,14 +22,6 @@ pub record TakesSoFar (most limit : ℕ) (unused : ℕ → Bool) (stood : ℕ �
   pub ascend : (i j : ℕ) → i < j → j < n → changed i ≡ true → changed j ≡ true → get_or numbers i 0 < get_or numbers j 0
   pub taken : (page : ℕ) → page < from → unused page ≡ true → (j : ℕ) × (j < n) × (changed j ≡ true) × (get_or numbers j 0 ≡ page)
   pub later : (i : ℕ) → n ≤ i → i < most → get_or numbers i 0 ≡ stood i
-
-not_true : (b : Bool) → (b ≡ true → ⊥) → b ≡ false
-not_true true never = absurd (never refl)
-not_true false never = refl
-
--- a page of the content outside the row of the changed ones isn't changed
-pub unchanged : (w : Working) (first stop i : ℕ) → HasChanged first stop w → i < pages_of w.size → ((first ≤ i) × (i < stop) → ⊥) → is_changed w i ≡ false
-unchanged w first stop i has inside out = not_true (is_changed w i) (λ yes. out (has i inside yes))
 
 -- pages that aren't changed are whole, as there is nothing of them
 pub whole_skip : (w : Working) (n m : ℕ) → AreWhole w n → ((i : ℕ) → n ≤ i → i < m → is_changed w i ≡ false) → AreWhole w m

@@ -9,9 +9,10 @@ use Rattle.std.proofs.lemmas.List.Folds.{list_any-append}
 use Rattle.locus_ids.specs.Sizes.{content_pages_max, slot_pages, table_pages, content_tables_max}
 use Rattle.file_content.specs.Pages.{pages_of, tables_of, pages_under, is_under, pages_from}
 use Rattle.pack_layout.specs.Layout.{none, numbers_under}
-use Rattle.shadow_pages.specs.Working.{Working}
+use Rattle.new_contents.specs.of_shadow_pages.Working.{Working}
 use Rattle.pack_slots.specs.declared.inode_copy.InodeCopy.{InodeCopy}
-use Rattle.inode_pack.specs.Committing.{is_changed, pages_before, changed_below, tables_over, is_table_over}
+use Rattle.new_contents.specs.Changed.{is_changed}
+use Rattle.inode_pack.specs.Committing.{pages_before, changed_below, tables_over, is_table_over}
 use Rattle.inode_pack.specs.PagePieces.{marked_tables}
 
 -- a number is among others

@@ -8,7 +8,8 @@ use Rattle.file_content.specs.Pages.{pages_of, tables_of, tables_written, is_tab
 use Rattle.pack_layout.specs.declared.half.Half.{Half}
 use Rattle.pack_layout.specs.declared.half.Half.TheVariants.{First}
 use Rattle.pack_layout.specs.Layout.{area_length, slot_at, page_at, none, other_half}
-use Rattle.shadow_pages.specs.Working.{Working, page_at as shadow_page, content, count_below}
+use Rattle.new_contents.specs.of_shadow_pages.Working.{Working, page_at as shadow_page, content}
+use Rattle.new_contents.specs.Changed.{is_changed, needed}
 use Rattle.inode_switch.specs.View.{Version, view, IsOldOrNew}
 use Rattle.inode_switch.specs.Slots.{field_bytes}
 use Rattle.pack_slots.specs.declared.inode_copy.InodeCopy.{InodeCopy}
@@ -28,14 +29,6 @@ size_of (Some copy) = copy.slot.size
 -- each byte that a shadow leaves unchanged is one of a content of so many bytes
 abbrev pub RestsOn : ℕ → Working → Type 0
 RestsOn size w = (k : ℕ) → k < w.size → shadow_page w.pages (k / page_bytes) ≡ None → k < size
-
--- page i of the shadow is changed
-abbrev pub is_changed : Working → ℕ → Bool
-is_changed w i = is_some (shadow_page w.pages i)
-
--- how many pages of its content are changed
-abbrev pub needed : Working → ℕ
-needed w = count_below (is_changed w) (pages_of w.size)
 
 -- no copy names the data page
 abbrev pub is_free : List (Option InodeCopy) → ℕ → Bool
@@ -126,13 +119,6 @@ abbrev pub new_version : ℕ → ℕ → NewVersion → Working → List ℕ →
 new_version base ino version w image = record {
   fields = field_bytes (record { turn = 0; kind = version.kind; ino = ino; set = version.set; size = w.size; stamp = version.stamp; vector = version.vector; pages = []; tables = [] });
   content = content (content_of (view image base ino)) w;
-}
-
--- the version that an adoption makes: it has just this content
-abbrev pub adopted_version : ℕ → NewVersion → List ℕ → Version
-adopted_version ino version bytes = record {
-  fields = field_bytes (record { turn = 0; kind = version.kind; ino = ino; set = version.set; size = length bytes; stamp = version.stamp; vector = version.vector; pages = []; tables = [] });
-  content = bytes;
 }
 
 -- each changed page of a content stands at its data page, with the zeros behind its end

@@ -1,16 +1,13 @@
 -- The bytes that a commit writes: its changed pages, each at its data page, its new tables, and the slot behind its gate.
-use Rattle.std.specs.Prelude.{◌≡◌, ℕ, zero, suc, ◌+◌, ◌<◌, List, [], ◌∷◌, ◌++◌, length, drop, filter, Bool, false, slice_index, slice_index_or, Option, None, Some}
+use Rattle.std.specs.Prelude.{◌≡◌, ℕ, zero, suc, ◌+◌, ◌<◌, List, [], ◌∷◌, ◌++◌, length, drop, filter, Bool, false, slice_index, slice_index_or, Some}
 use Rattle.locus_ids.specs.Sizes.{page_bytes, content_tables_max}
 use Rattle.file_content.specs.Pages.{pages_of, pages_from}
 use Rattle.pack_layout.specs.Layout.{slot_at, table_at, page_at, slot_bytes, table_bytes, numbers_under}
-use Rattle.shadow_pages.specs.Working.{Working, page_at as shadow_page}
+use Rattle.new_contents.specs.of_shadow_pages.Working.{Working, page_at as shadow_page}
+use Rattle.new_contents.specs.Changed.{piece_at}
 use Rattle.gate_switch.specs.Switch.{Piece}
 use Rattle.pack_slots.specs.declared.inode_copy.InodeCopy.{InodeCopy}
 use Rattle.pack_slots.specs.Copies.{numbers_in}
-
-abbrev pub piece_at : ℕ → Option (List ℕ) → List Piece
-piece_at at None = []
-piece_at at (Some page) = record { at = at; bytes = page } ∷ []
 
 -- the changed ones of the first n pages, ascending
 abbrev pub page_pieces : ℕ → List ℕ → Working → ℕ → List Piece

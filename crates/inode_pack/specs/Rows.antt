@@ -1,16 +1,9 @@
 -- Pages in a row, and the least data page that may be free: what keeps a commit from passing over all pages.
-use Rattle.std.specs.Prelude.{◌≡◌, ℕ, ◌<◌, ◌≤◌, true, List, replicate, slice_index, slice_index_or, Option, None, Some}
+use Rattle.std.specs.Prelude.{◌≡◌, ℕ, ◌<◌, ◌≤◌, List, replicate, slice_index, slice_index_or, Option, None, Some}
 use Rattle.locus_ids.specs.Sizes.{inodes_max, content_pages_max, pack_pages}
-use Rattle.file_content.specs.Pages.{pages_of}
 use Rattle.pack_layout.specs.Layout.{none}
-use Rattle.shadow_pages.specs.Working.{Working}
 use Rattle.pack_slots.specs.declared.inode_copy.InodeCopy.{InodeCopy}
 use Rattle.pack_slots.specs.Copies.{numbers_in}
-use Rattle.inode_pack.specs.Committing.{is_changed}
-
--- each changed page of a content is one of those from `first` up to `stop`
-abbrev pub HasChanged : ℕ → ℕ → Working → Type 0
-HasChanged first stop w = (i : ℕ) → i < pages_of w.size → is_changed w i ≡ true → (first ≤ i) × (i < stop)
 
 -- two contents have the same data pages but for those from `first` up to `stop`
 abbrev pub SameButFor : ℕ → ℕ → List ℕ → List ℕ → Type 0

@@ -10,23 +10,24 @@ ghost use Rattle.pack_slots.specs.Copies.{copy_of, numbers_in, named_pages, AreC
 ghost use Rattle.inode_pack.specs.Pack.{Stands};
 ghost use Rattle.inode_pack.specs.declared.pack_fault.PackFault.TheVariants.{NoSpace, NoMemory};
 ghost use Rattle.pack_slots.specs.declared.inode_copy.InodeCopy.{InodeCopy};
-ghost use Rattle.inode_pack.specs.Rows.{HasChanged, SameButFor};
+ghost use Rattle.new_contents.specs.Changed.{HasChanged, needed};
+ghost use Rattle.inode_pack.specs.Rows.{SameButFor};
 ghost use Rattle.inode_pack.specs.PagePieces.{AreWhole};
-ghost use Rattle.inode_pack.specs.Committing.{RestsOn, size_of, needed, blocks_over, is_free, is_free_table, is_table_over, Makes, Commits, HoldsPages, with_copy, new_version, adopted_version, MayBeLeft, commit_calls, commit_answer, IsEarly};
+ghost use Rattle.inode_pack.specs.Committing.{RestsOn, size_of, blocks_over, is_free, is_free_table, is_table_over, Makes, Commits, HoldsPages, with_copy, new_version, MayBeLeft, commit_calls, commit_answer, IsEarly};
 ghost use Rattle.stored_versions.specs.Versions.{IsVersion};
 ghost use Rattle.inode_pack.specs.Cutting.{IsCutCommit};
-ghost use Rattle.inode_pack.specs.Whole.{whole};
-ghost use Rattle.inode_pack.specs.Marked.{marked};
+ghost use Rattle.new_contents.specs.Laid.{working_of};
+ghost use Rattle.new_contents.specs.Marked.{marked};
 
-use crate::new_content::{MarkedContent, NewContent};
 use crate::pieces::CommitPieces;
-use crate::plan::{Made, Row, next_copy, page_count};
+use crate::plan::{Made, next_copy};
 use crate::usage::row_to_pass;
 use crate::{NewVersion, Pack, PackFault};
 use disk_model::Disk;
 use inode_switch::replace_inode;
+use locus_ids::Ino;
 use locus_ids::sizes::CONTENT_PAGES;
-use locus_ids::{Bytes, Ino};
+use new_contents::{LaidPages, MarkedContent, NewContent, Row, page_count};
 
 /// What a commit makes and writes.
 #[derive(Drop)]
@@ -39,47 +40,48 @@ struct Prepared {
 }
 
 impl Pack {
-    /// Adopts a version that was made elsewhere, with its whole content. All its pages are written, each to the least free data
-    /// page, and its page numbers that the slot has no room for to the least free tables; those of the version so far are free only
-    /// afterwards. `NoSpace` comes exactly where they are more than are free.
+    /// Adopts a version that was made elsewhere, of which some pages came, over the copy so far. These alone are written, each to the
+    /// least free data page; the others stay those that the inode has. `NoSpace` comes exactly where they are more than are free.
     /// After `Disk` the pack must be mounted again, and is wholly old or wholly new.
     pub fn adopt<D: Disk>(
         &mut self,
         disk: &mut D,
         ino: Ino,
         version: &NewVersion,
-        content: &Bytes,
+        came: &LaidPages<'_>,
     ) -> Result<(), PackFault>
         requires stands { Stands self.old (D.moment disk.old) }
-        requires version { IsVersion version.now (length content.now) }
+        requires version { IsVersion version.now came.now.size }
+        requires rests { RestsOn (size_of (copy_of self.old.copies ino)) (working_of came.now) }
 
         // At each moment a crash leaves the old view or the new one, in a sound pack, and nothing else changed.
         ensures any_moment { LeavesOnly (D.moment disk.old) (D.moment disk.new)
-            (MayBeLeft self.old ino (adopted_version ino version.now content.now) (D.moment disk.old).seen) }
+            (MayBeLeft self.old ino (new_version self.old.base ino version.now (working_of came.now) (D.moment disk.old).seen) (D.moment disk.old).seen) }
 
         // After it the pack has the new copy, and so has the disk, whatever comes.
-        ensures copies { OnOk result (Commits self.old ino version.now (whole content.now) self.new) }
+        ensures copies { OnOk result (Commits self.old ino version.now (working_of came.now) self.new) }
         ensures stands { OnOk result (Stands self.new (D.moment disk.new)) }
-        ensures replaced { OnOk result (Replaced self.old.base ino (adopted_version ino version.now content.now) (D.moment disk.old).seen (D.moment disk.new).seen) }
-        ensures pages { OnOk result (HoldsPages self.new ino (whole content.now) (D.moment disk.new).seen) }
+        ensures good { AreCopies self.new.copies }
+        ensures replaced { OnOk result (Replaced self.old.base ino (new_version self.old.base ino version.now (working_of came.now) (D.moment disk.old).seen) (D.moment disk.old).seen (D.moment disk.new).seen) }
+        ensures pages { OnOk result (HoldsPages self.new ino (working_of came.now) (D.moment disk.new).seen) }
 
         ensures kept { OnErr result (self.new ≡ self.old) }
-        ensures no_space { (pages free : ℕ) → (result ≡ Err (NoSpace pages free)) ↔ ((free < pages) × (pages ≡ pages_of (length content.now)) × (free + length (named_pages self.old.copies) ≡ pack_pages)) }
+        ensures no_space { (pages free : ℕ) → (result ≡ Err (NoSpace pages free)) ↔ ((free < pages) × (pages ≡ needed (working_of came.now)) × (free + length (named_pages self.old.copies) ≡ pack_pages)) }
 
         // Memory is taken for the page numbers that stand in tables alone.
-        ensures no_memory { result ≡ Err NoMemory → slot_pages < pages_of (length content.now) }
+        ensures no_memory { result ≡ Err NoMemory → slot_pages < pages_of came.now.size }
         ensures early { IfErr result (λ fault. IsEarly fault → disk.new ≡ disk.old) }
 
         // The disk fails only where its count rose, and where it tells how many calls pass, exactly where they are too few.
         ensures cause { HasCause (D.moment disk.old).faults (D.moment disk.new).faults (commit_answer result) }
-        ensures tells { TellsMany (commit_calls (blocks_over (copy_of self.old.copies ino) (whole content.now)) (copy_of self.old.copies ino) result) (D.moment disk.old).passing (D.moment disk.new).passing (commit_answer result) }
+        ensures tells { TellsMany (commit_calls (blocks_over (copy_of self.old.copies ino) (working_of came.now)) (copy_of self.old.copies ino) result) (D.moment disk.old).passing (D.moment disk.new).passing (commit_answer result) }
 
         // Where it tells so, a crash as it cuts off the call leaves just this.
         ensures how { (D.moment disk.new).how ≡ (D.moment disk.old).how }
         ensures cut { (passed : ℕ) → (D.moment disk.old).passing ≡ Exactly passed → OnErr (commit_answer result)
-            (IsCutCommit self.old ino (adopted_version ino version.now content.now) (blocks_over (copy_of self.old.copies ino) (whole content.now)) (D.moment disk.old).how passed (D.moment disk.old).seen (D.moment disk.new).left) }
+            (IsCutCommit self.old ino (new_version self.old.base ino version.now (working_of came.now) (D.moment disk.old).seen) (blocks_over (copy_of self.old.copies ino) (working_of came.now)) (D.moment disk.old).how passed (D.moment disk.old).seen (D.moment disk.new).left) }
     {
-        self.store(disk, ino, *version, content)
+        self.store(disk, ino, *version, came)
     }
 
     /// Commits a version of an inode whose content is this one. Only the marked pages are written, each to the least free data

@@ -2,19 +2,19 @@ ghost use Rattle.std.specs.Prelude.{◌≡◌, ◌≤◌, ◌<◌, ◌+◌, ◌=
 ghost use Rattle.locus_ids.specs.Sizes.{content_bytes_max, content_pages_max, slot_pages, pack_pages};
 ghost use Rattle.file_content.specs.Pages.{pages_of};
 ghost use Rattle.pack_layout.specs.Layout.{NamePages, none, numbers_of};
-ghost use Rattle.shadow_pages.specs.Working.{count_below};
+ghost use Rattle.new_contents.specs.of_shadow_pages.Working.{count_below};
 ghost use Rattle.pack_slots.specs.declared.inode_copy.InodeCopy.{InodeCopy};
 ghost use Rattle.pack_slots.specs.Copies.{numbers_in, pages_in, times};
 ghost use Rattle.pack_slots.specs.Losing.{IsSlotApart};
 ghost use Rattle.inode_pack.specs.PagePieces.{AreWhole};
 ghost use Rattle.inode_pack.specs.Rows.{SameButFor};
-ghost use Rattle.inode_pack.specs.Committing.{needed, TakesPages};
+ghost use Rattle.new_contents.specs.Changed.{needed};
+ghost use Rattle.inode_pack.specs.Committing.{TakesPages};
 
-use crate::new_content::NewContent;
 use crate::new_pages::{Numbers, take_pages};
-use crate::plan::Row;
 use crate::usage::{first_free, pages_named, pass_pages};
 use locus_ids::NoMemory;
+use new_contents::{NewContent, Row};
 use pack_slots::InodeCopy;
 use std::alloc::Global;
 use std::marker::Model;

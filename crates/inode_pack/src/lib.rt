@@ -5,7 +5,6 @@
 mod commit;
 mod data_pages;
 mod mount;
-mod new_content;
 mod new_pages;
 mod new_tables;
 mod next_ino;
@@ -16,6 +15,7 @@ mod pieces;
 mod plan;
 mod usage;
 
+pub use new_contents::LaidPages;
 pub use next_ino::Inos;
 pub use pack::Pack;
 pub use pack_fault::PackFault;

@@ -4,16 +4,15 @@ ghost use Rattle.std.specs.List.{list_any};
 ghost use Rattle.locus_ids.specs.Sizes.{content_bytes_max, content_pages_max, content_tables_max, pack_tables};
 ghost use Rattle.file_content.specs.Pages.{pages_of, pages_under, tables_of, is_under};
 ghost use Rattle.pack_layout.specs.Layout.{none, IsSlot};
-ghost use Rattle.shadow_pages.specs.Working.{count_below};
-ghost use Rattle.inode_pack.specs.Rows.{HasChanged};
+ghost use Rattle.new_contents.specs.of_shadow_pages.Working.{count_below};
+ghost use Rattle.new_contents.specs.Changed.{HasChanged};
 ghost use Rattle.pack_slots.specs.declared.inode_copy.InodeCopy.{InodeCopy};
 ghost use Rattle.pack_slots.specs.Losing.{AreSlots};
 ghost use Rattle.inode_pack.specs.Committing.{changed_below, is_free_table, is_table_over, table_in, Takes};
 
-use crate::new_content::NewContent;
-use crate::plan::{Row, page_count};
 use crate::usage::pages_named;
 use locus_ids::sizes::{CONTENT_TABLES, PACK_TABLES, SLOT_PAGES, TABLE_PAGES};
+use new_contents::{NewContent, Row, page_count};
 use pack_slots::{InodeCopy, used_tables};
 
 /// Which tables of a content are written.

@@ -5,7 +5,7 @@ use locus_ids::NoMemory;
 use thiserror::Error;
 
 /// Why a version isn't committed or adopted.
-#[derive(Clone, Copy, Debug, PartialEq, Eq, Error)]
+#[derive(Clone, Copy, Debug, Error)]
 pub enum PackFault {
     /// The pack must be mounted again: it has the old version or the new one.
     #[error("the disk failed")]

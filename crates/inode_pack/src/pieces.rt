@@ -4,20 +4,20 @@ ghost use Rattle.locus_ids.specs.Sizes.{content_bytes_max, content_pages_max, sl
 ghost use Rattle.disk_model.specs.Disk.{Goes, HasCause};
 ghost use Rattle.file_content.specs.Pages.{pages_of};
 ghost use Rattle.pack_layout.specs.Layout.{area_length, page_at};
-ghost use Rattle.shadow_pages.specs.Working.{page_at as shadow_page};
+ghost use Rattle.new_contents.specs.of_shadow_pages.Working.{page_at as shadow_page};
 ghost use Rattle.disk_model.specs.Moments.{TellsMany};
 ghost use Rattle.gate_switch.specs.Switch.{AreWithin, TornIn, written};
-ghost use Rattle.inode_pack.specs.PagePieces.{piece_at, page_pieces, marked_tables, table_piece, table_pieces, body_piece, pieces_of};
+ghost use Rattle.new_contents.specs.Changed.{piece_at, HasChanged};
+ghost use Rattle.inode_pack.specs.PagePieces.{page_pieces, marked_tables, table_piece, table_pieces, body_piece, pieces_of};
 ghost use Rattle.pack_slots.specs.Copies.{numbers_in};
-ghost use Rattle.inode_pack.specs.Rows.{HasChanged};
 
-use crate::new_content::NewContent;
 use crate::pages::page_number;
-use crate::plan::{Made, Row};
+use crate::plan::Made;
 use disk_model::{Disk, DiskFault};
 use gate_switch::PieceSource;
 use locus_ids::Ino;
 use locus_ids::sizes::{CONTENT_TABLES, SLOT_PAGES, TABLE_PAGES};
+use new_contents::{NewContent, Row};
 use pack_layout::{page_at, slot_at, table_at, write_fields, write_table};
 use pack_slots::InodeCopy;
 

@@ -6,33 +6,17 @@ ghost use Rattle.file_content.specs.Pages.{pages_of};
 ghost use Rattle.inode_pack.specs.PagePieces.{AreWhole};
 ghost use Rattle.pack_slots.specs.declared.inode_copy.InodeCopy.{InodeCopy};
 ghost use Rattle.pack_slots.specs.Copies.{copy_of, named_pages, numbers_in};
-ghost use Rattle.inode_pack.specs.Rows.{HasChanged};
-ghost use Rattle.inode_pack.specs.Committing.{needed, is_free, is_free_table, is_table_over, Makes, next_half, next_turn};
+ghost use Rattle.new_contents.specs.Changed.{HasChanged, needed};
+ghost use Rattle.inode_pack.specs.Committing.{is_free, is_free_table, is_table_over, Makes, next_half, next_turn};
 
-use crate::new_content::NewContent;
 use crate::new_tables::{Written, take_tables, written_tables};
 use crate::{NewVersion, Pack};
-use locus_ids::sizes::{CONTENT_TABLES, PAGE_BYTES, SLOT_PAGES};
+use locus_ids::sizes::{CONTENT_TABLES, SLOT_PAGES};
 use locus_ids::{Ino, NoMemory};
+use new_contents::{NewContent, Row, page_count};
 use pack_layout::{Half, Slot};
 use pack_slots::InodeCopy;
 use std::alloc::Global;
-
-/// Pages in a row: those from `first` up to `stop`.
-#[derive(Clone, Copy)]
-pub struct Row {
-    pub first: u16,
-    pub stop: u16,
-}
-
-/// The number of pages of a content.
-pub fn page_count(size: u32) -> u16
-    requires { size ≤ content_bytes_max }
-    ensures pages { result ≡ pages_of size }
-    ensures most { result ≤ content_pages_max }
-{
-    ((size + (PAGE_BYTES as u32 - 1)) / PAGE_BYTES as u32) as u16
-}
 
 /// In which of the inode's slots the new version stands.
 fn next_half(old: &Option<InodeCopy>) -> Half

@@ -10,8 +10,8 @@ ghost use Rattle.inode_pack.specs.Rows.{SameButFor, NoneBelow, numbers_so_far};
 ghost use Rattle.inode_pack.specs.Committing.{pages_before};
 
 use crate::pages::page_number;
-use crate::plan::{Row, page_count};
 use locus_ids::sizes::PACK_PAGES;
+use new_contents::{Row, page_count};
 use pack_slots::InodeCopy;
 
 /// A number is named once less, where it is a data page.

@@ -5,5 +5,5 @@
 mod turn;
 mod vectors;
 
-pub use turn::{OpTurn, turn_of};
+pub use turn::{OpTurn, is_next, turn_of};
 pub use vectors::next_vector;

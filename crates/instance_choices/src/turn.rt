@@ -40,7 +40,7 @@ pub fn turn_of(done: u32, n: u32, op: &Op) -> OpTurn
 }
 
 /// It is the number after the last one that was done.
-fn is_next(n: u32, done: u32) -> bool
+pub fn is_next(n: u32, done: u32) -> bool
     ensures value { result ≡ (n == done + 1) }
     ensures few { result ≡ true → done < 4294967295 }
 {

@@ -28,8 +28,8 @@ pub(crate) fn give_up(own: &[Serial], why: &Refusal, answers: &[Answer]) -> Resu
     };
     match answers {
         [] => Ok(Want::Close { inst: *inst }),
-        [Answer::Ended { stamp: _ }, answers @ ..] => give_up(own, why, answers),
-        [Answer::Refused { why: _ }, answers @ ..] => give_up(own, why, answers),
+        [Answer::Ended { .. }, answers @ ..] => give_up(own, why, answers),
+        [Answer::Refused { .. }, answers @ ..] => give_up(own, why, answers),
         _ => Ok(Want::Never),
     }
 }
@@ -44,7 +44,7 @@ pub(crate) fn close_all(own: &[Serial], reply: Reply, answers: &[Answer]) -> Res
     };
     match answers {
         [] => Ok(Want::Close { inst: *inst }),
-        [Answer::Ended { stamp: _ }, answers @ ..] => close_all(own, reply, answers),
+        [Answer::Ended { .. }, answers @ ..] => close_all(own, reply, answers),
         [Answer::Refused { why }, answers @ ..] => { refuse(*inst, own, &reply, why, answers) }
         _ => Ok(Want::Never),
     }

@@ -51,7 +51,7 @@ pub fn probes(
                 op: Op::Probe { name },
             })
         }
-        [Answer::Did { result: _ }, answers @ ..] => after_probe(alloc, dir, new, answers),
+        [Answer::Did { .. }, answers @ ..] => after_probe(alloc, dir, new, answers),
         [Answer::Refused { why }, answers @ ..] => give_up(&[dir], why, answers),
         _ => Ok(Want::Never),
     }
@@ -112,7 +112,7 @@ fn fills(
                 op: Op::Write { at: 0, bytes },
             })
         }
-        [Answer::Did { result: _ }, answers @ ..] => after_make(alloc, dir, new, made, answers),
+        [Answer::Did { .. }, answers @ ..] => after_make(alloc, dir, new, made, answers),
         [Answer::Refused { why }, answers @ ..] => give_up(&[made.inst, dir], why, answers),
         _ => Ok(Want::Never),
     }
@@ -130,9 +130,7 @@ fn after_make(
 {
     match answers {
         [] => Ok(Want::Close { inst: made.inst }),
-        [Answer::Ended { stamp: _ }, answers @ ..] => {
-            after_insert(alloc, dir, new, made.ino, answers)
-        }
+        [Answer::Ended { .. }, answers @ ..] => { after_insert(alloc, dir, new, made.ino, answers) }
         [Answer::Refused { why }, answers @ ..] => give_up(&[dir], why, answers),
         _ => Ok(Want::Never),
     }
@@ -158,7 +156,7 @@ fn after_insert(
             };
             Ok(Want::Do { inst: dir, op })
         }
-        [Answer::Did { result: _ }, answers @ ..] => {
+        [Answer::Did { .. }, answers @ ..] => {
             let reply = told(alloc, new, ino)?;
             close_all(&[dir], reply, answers)
         }

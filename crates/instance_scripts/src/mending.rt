@@ -38,7 +38,7 @@ fn brings(inst: Serial, file: FileId, kept: &[Stamp], answers: &[Answer]) -> Res
             file,
             what: What::Whole { stamp: *stamp },
         }),
-        [Answer::Brought, answers @ ..] => brings(inst, file, kept, answers),
+        [Answer::Brought { .. }, answers @ ..] => brings(inst, file, kept, answers),
         [Answer::Refused { why }, answers @ ..] => give_up(&[inst], why, answers),
         _ => Ok(Want::Never),
     }
@@ -50,7 +50,7 @@ fn after_mend(inst: Serial, answers: &[Answer]) -> Result<Want, NoMemory>
 {
     match answers {
         [] => Ok(Want::Do { inst, op: Op::Mend }),
-        [Answer::Did { result: _ }, answers @ ..] => close_wants(inst, answers),
+        [Answer::Did { .. }, answers @ ..] => close_wants(inst, answers),
         [Answer::Refused { why }, answers @ ..] => give_up(&[inst], why, answers),
         _ => Ok(Want::Never),
     }

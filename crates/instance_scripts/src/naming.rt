@@ -26,7 +26,7 @@ pub fn renames(
                 op: Op::Rename { component, name },
             })
         }
-        [Answer::Did { result: _ }, answers @ ..] => close_all(&[dir], Reply::Done, answers),
+        [Answer::Did { .. }, answers @ ..] => close_all(&[dir], Reply::Done, answers),
         [Answer::Refused { why }, answers @ ..] => give_up(&[dir], why, answers),
         _ => Ok(Want::Never),
     }

@@ -111,7 +111,7 @@ fn empties(
             inst: target,
             op: Op::Empty,
         }),
-        [Answer::Did { result: _ }, answers @ ..] => removes(alloc, entry, target, ino, answers),
+        [Answer::Did { .. }, answers @ ..] => removes(alloc, entry, target, ino, answers),
         [Answer::Refused { why }, answers @ ..] => give_up(&[entry.dir, target], why, answers),
         _ => Ok(Want::Never),
     }
@@ -135,7 +135,7 @@ fn removes(
                 op: Op::Remove { name, ino },
             })
         }
-        [Answer::Did { result: _ }, answers @ ..] => {
+        [Answer::Did { .. }, answers @ ..] => {
             close_all(&[entry.dir, target], Reply::Done, answers)
         }
         [Answer::Refused { why }, answers @ ..] => give_up(&[entry.dir, target], why, answers),

@@ -22,7 +22,8 @@ use Rattle.wire_messages.specs.declared.body.CloseAnswer.TheVariants as closing
 use Rattle.role_steps.specs.Own.{Every}
 use Rattle.role_steps.specs.Views.{Frame, Store, Told, Shown, Begins, Shuts, Reserves, DiskWrite, Outcome, quiet, sends, and_then, joined_to, first_written, serial_key}
 use Rattle.role_steps.specs.Storage.{StoreRequest, copy_of, content_of, instance_key, instance_of, own_ino, begun_instance, begins, with_instance, opens, opens_made, on_open_ss_of, on_open_ss, is_spent, instance_committed, commit_record, commits, next_stamp, next_vector, made_version, shut, shuts, shuts_again, closes_owing, closes, on_close_at, on_close_of, on_close, ends_at, on_closed_ok_of, on_closed_ok, free_pages}
-use Rattle.role_steps.specs.Operations.{act_record, acts, acts_committed, commits_owing, last_committed, commit_op, executes_effect, executes, op_again, by_number, on_op_at, on_op_of, on_op}
+use Rattle.role_steps.specs.Operations.{act_record, acts, acts_committed, commits_owing, last_committed, commit_op, executes_effect, executes, op_again, by_number, on_op_at, on_op_of, on_op, in_form, nothing_to_mend, on_read_held}
+use Rattle.role_steps.specs.of_dir_format.Entries.{nothing_seen}
 use Rattle.role_steps.specs.OperationEffects.{Mending, effect_of}
 use Rattle.role_steps.specs.declared.instances.Instance.{Instance}
 use Rattle.role_steps.specs.declared.instances.Stage.{Stage}
@@ -246,3 +247,11 @@ op_of_out past f m (Some i) n o seen s k h = op_at_out past f m i i.stage n o se
 
 pub on_op_out : (past : List Told) (f : Frame) (m : Mending) (inst : Serial) (n : ℕ) (o : Op) (seen : List ℕ) (s : Store) → AreRooted past f s → RootsOut past f (on_op f m inst n o seen s)
 on_op_out past f m inst n o seen s h = op_of_out past f m (instance_of s inst) n o seen s (row_found (Rooted past f.me f.epoch) instance_key (serial_key inst) s.instances h) h
+
+-- a held read is the operation that it stands for, but for the form of its answer
+form_out : (past : List Told) (f : Frame) (i : Option Instance) (o : Outcome Store) → RootsOut past f o → RootsOut past f (in_form i o)
+form_out past f None o h = h
+form_out past f (Some i) o h = record { view = h.view; owed = h.owed; here = h.here; disk = h.disk }
+
+pub on_read_held_out : (past : List Told) (f : Frame) (inst : Serial) (n at len : ℕ) (s : Store) → AreRooted past f s → RootsOut past f (on_read_held f inst n at len s)
+on_read_held_out past f inst n at len s h = form_out past f (instance_of s inst) (on_op f nothing_to_mend inst n (op.Read at len) nothing_seen s) (on_op_out past f nothing_to_mend inst n (op.Read at len) nothing_seen s h)

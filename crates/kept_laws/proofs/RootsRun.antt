@@ -34,7 +34,7 @@ use Rattle.make_laws.proofs.FreshRun.{run_fresh}
 use Rattle.vector_laws.specs.Facts.{onto}
 use Rattle.vector_laws.proofs.Facts.{onto_later, agree_before}
 use Rattle.kept_laws.specs.Roots.{RootRecord, RootTold, RootsFollow}
-use Rattle.kept_laws.proofs.Roots.{Rooted, RootedRecord, RootedTold, all_later, RootsOut, quiet_out, on_open_ss_out, on_op_out, on_close_out, on_closed_ok_out}
+use Rattle.kept_laws.proofs.Roots.{Rooted, RootedRecord, RootedTold, all_later, RootsOut, quiet_out, on_open_ss_out, on_op_out, on_close_out, on_closed_ok_out, on_read_held_out}
 
 -- ---- the facts, and what is owed ----
 
@@ -72,6 +72,7 @@ pack_of c w x (inr a) f = found_among (NumberedPacked c) x w.underway f.underway
 body_out : (c : Config) (past : List Told) (from to boot : ℕ) (e : InEpoch) (v : SiteView) (x : Body) → BodyPacked c from to x → Every (Rooted past to e.id) v.store.instances → RootsOut past (frame_in c to boot e) (takes_store (frame_in c to boot e) from x v)
 body_out c past from to boot e v (body.OpenSs inst file m set kind base vector parents) k h = on_open_ss_out past (frame_in c to boot e) (record { inst = inst; file = file; mode = m; set = set; kind = kind; base = base; vector = vector; parents = parents }) v.store k.1 h
 body_out c past from to boot e v (body.Op serial n o seen) k h = on_op_out past (frame_in c to boot e) (mending v (group_of (instance_of v.store (from_user from serial)))) (from_user from serial) n o seen v.store h
+body_out c past from to boot e v (body.ReadHeld serial n at len) k h = on_read_held_out past (frame_in c to boot e) (from_user from serial) n at len v.store h
 body_out c past from to boot e v (body.Close serial) k h = on_close_out past (frame_in c to boot e) (from_user from serial) v.store h
 body_out c past from to boot e v (body.ClosedOk inst) k h = on_closed_ok_out past (frame_in c to boot e) inst v.store h
 body_out c past from to boot e v _ k h = quiet_out past (frame_in c to boot e) v.store h

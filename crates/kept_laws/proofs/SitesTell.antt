@@ -23,10 +23,10 @@ use Rattle.role_steps.specs.Views.{Frame, Store, SiteView, Told, Shown, Promises
 use Rattle.role_steps.specs.Opens.{on_opened}
 use Rattle.role_steps.specs.Reports.{on_report, on_closed, on_have}
 use Rattle.role_steps.specs.Storage.{StoreRequest, copy_of, instance_of, own_ino, opens_made, opens, on_open_ss_of}
-use Rattle.role_steps.specs.Pulling.{on_notify, on_page}
-use Rattle.role_steps.specs.Using.{on_call, on_open_done, on_op_done, on_close_done, on_look_done, reply_record}
+use Rattle.role_steps.specs.Pulling.{on_notify, on_page, on_delta}
+use Rattle.role_steps.specs.Using.{on_call, on_open_done, on_op_done, on_close_done, on_look_done, reply_record, on_as_held}
 use Rattle.role_steps.specs.Epochs.{is_epoch_below, frame_in, leaves_of, leaves, promised_view, promises, reached, polls, round_id, begins_round, starts_merge, boots_where, merge_boot, part_boot, starts_part_of, starts_part, promise_packet, refuse_packet, on_poll, on_promise_of, on_refuse_of, joins, may_install, is_in, joined_packet, on_install, on_joined, passed_over, unanswered, chosen_set, chosen_members, decides_if, passes_over_of, passes_over}
-use Rattle.role_steps.specs.Adoption.{table_group, adopt_record, is_ready, is_above_own, adopts_pull, without_pull, adopts_first}
+use Rattle.role_steps.specs.Adoption.{table_group, adopt_record, is_ready, adopts_pull, without_pull, adopts_first, fits_own}
 use Rattle.role_steps.specs.Mends.{mending, kept_stamps, has_mend_in, wants_mend, row_file, starts_mend_of, starts_mend, starts_mends_in}
 use Rattle.role_steps.specs.declared.instances.Instance.{Instance}
 use Rattle.role_steps.specs.declared.pulls.Pull.{Pull}
@@ -40,8 +40,8 @@ use Rattle.the_run.specs.Steps.{from_user, group_of, at_table_of, is_opened_in, 
 use Rattle.the_run.proofs.Boots.{every_weaker}
 use Rattle.the_run.proofs.InsideSync.{Found, first_found}
 use Rattle.make_laws.proofs.Telling.{Idle, Aside, idle_aside, Storing, storing_aside}
-use Rattle.make_laws.proofs.RolesTell.{AllIdle, on_notify_idle, on_page_idle, on_call_idle, on_open_done_idle, on_op_done_idle, on_close_done_idle, on_look_done_idle}
-use Rattle.make_laws.proofs.StoresTell.{on_close_tells, on_closed_ok_tells, on_op_tells}
+use Rattle.make_laws.proofs.RolesTell.{AllIdle, on_notify_idle, on_page_idle, on_call_idle, on_open_done_idle, on_op_done_idle, on_close_done_idle, on_look_done_idle, on_as_held_idle, on_delta_idle}
+use Rattle.make_laws.proofs.StoresTell.{on_close_tells, on_closed_ok_tells, on_op_tells, on_read_held_tells}
 use Rattle.kept_laws.proofs.TablesTell.{OfTables, on_open_tells, on_opened_tells, on_look_tells, on_report_tells}
 
 -- ---- outcomes of a site ----
@@ -73,8 +73,8 @@ tells_then P each o p h g = every_append P o.told p.told h g
 first_tells : (P : Told → Type 0) → OfSites P → (f : Frame) (ps : List Pull) (v : SiteView) → SiteTells P (adopts_first f ps v)
 first_tells P each f [] v = tt
 first_tells P each f (p ∷ ps) v =
-    elim (is_ready v p) as (λ t. SiteTells P (elim t [ true ↦ elim (is_above_own p (copy_of v.store p.file)) [ true ↦ adopts_pull f p v | false ↦ adopts_first f ps (without_pull p v) ] | false ↦ adopts_first f ps v ])) [
-      | true ↦ elim (is_above_own p (copy_of v.store p.file)) as (λ t. SiteTells P (elim t [ true ↦ adopts_pull f p v | false ↦ adopts_first f ps (without_pull p v) ])) [
+    elim (is_ready v p) as (λ t. SiteTells P (elim t [ true ↦ elim (fits_own p (copy_of v.store p.file)) [ true ↦ adopts_pull f p v | false ↦ adopts_first f ps (without_pull p v) ] | false ↦ adopts_first f ps v ])) [
+      | true ↦ elim (fits_own p (copy_of v.store p.file)) as (λ t. SiteTells P (elim t [ true ↦ adopts_pull f p v | false ↦ adopts_first f ps (without_pull p v) ])) [
         | true ↦ (each.aside (Shown (adopt_record f p)) tt, tt)
         | false ↦ first_tells P each f ps (without_pull p v)
       ]
@@ -201,7 +201,9 @@ inside_tells P each f from (body.OpenSs inst file mode set kind base vector pare
 inside_tells P each f from (body.Opened inst answer) v h = table_part P each (on_opened f inst answer) (first_that (is_opened_in inst) v.tables) v (on_opened_tells P each.tables f inst answer)
 inside_tells P each f from (body.OpenDone serial answer) v h = users_tell P each (on_open_done f (kept_stamps v) serial answer v.users) (on_open_done_idle f (kept_stamps v) serial answer v.users)
 inside_tells P each f from (body.Op serial n o seen) v h = all_stored P each _ (on_op_tells f (mending v (group_of (instance_of v.store (from_user from serial)))) (from_user from serial) n o seen v.store)
+inside_tells P each f from (body.ReadHeld serial n at len) v h = all_stored P each _ (on_read_held_tells f (from_user from serial) n at len v.store)
 inside_tells P each f from (body.OpDone serial n result) v h = users_tell P each (on_op_done f serial n result v.users) (on_op_done_idle f serial n result v.users)
+inside_tells P each f from (body.AsHeld serial n len) v h = users_tell P each (on_as_held f serial n v.users) (on_as_held_idle f serial n v.users)
 inside_tells P each f from (body.Close serial) v h = all_stored P each _ (on_close_tells f (from_user from serial) v.store)
 inside_tells P each f from (body.Closed inst made) v h = closed_part P (on_closed f from inst made) (first_that (is_opened_in inst) v.tables) v (first_found (λ (t : SyncTable). Every P (on_closed f from inst made t).told) (is_opened_in inst) v.tables h)
 inside_tells P each f from (body.ClosedOk inst) v h = all_stored P each _ (on_closed_ok_tells f inst v.store)
@@ -210,10 +212,12 @@ inside_tells P each f from (body.Look call process request take file what) v h =
 inside_tells P each f from (body.LookSs us call process request take file what serve) v h = tt
 inside_tells P each f from (body.LookDone call request take answer) v h = users_tell P each (on_look_done f call request take answer v.users) (on_look_done_idle f call request take answer v.users)
 inside_tells P each f from (body.Notify file kind set size stamp vector holder) v h =
-    let p : Pull = record { file = file; kind = kind; set = set; size = size; stamp = stamp; vector = vector; holder = holder; content = [] } in
+    let p : Pull = record { file = file; kind = kind; set = set; size = size; stamp = stamp; vector = vector; holder = holder; base = None; wanted = None; content = [] } in
     all_idle P each (on_notify f from (copy_of v.store file) p v.pulls).told (on_notify_idle f from (copy_of v.store file) p v.pulls).1
 inside_tells P each f from (body.Pull file stamp page) v h = tt
+inside_tells P each f from (body.Want file wanted own) v h = tt
 inside_tells P each f from (body.Page file stamp page bytes) v h = all_idle P each (on_page f file stamp page bytes v.pulls).told (on_page_idle f file stamp page bytes v.pulls).1
+inside_tells P each f from (body.Delta file wanted pages) v h = all_idle P each (on_delta f (copy_of v.store file) file wanted pages v.pulls).told (on_delta_idle f (copy_of v.store file) file wanted pages v.pulls).1
 inside_tells P each f from (body.Have file stamp) v h = table_part P each (on_have from file stamp) (row table_group file.group v.tables) v (λ t. tt)
 inside_tells P each f from body.Poll v h = tt
 inside_tells P each f from (body.Promise reach) v h = tt
@@ -245,6 +249,7 @@ took P each c me links p (body.Install members) v h = whole_tells P each c me li
 took P each c me links p body.Joined v h = whole_tells P each c me links (takes c me links p body.Joined v) quiet (on_joined_tells P each p.from p.epoch v) tt
 took P each c me links p (body.Notify file kind set size stamp vector holder) v h = whole_tells P each c me links (takes_framed c me p v.epoch v) (adopts_in c me) (framed_tells P each c me p v.epoch v refl h) (adopts_tells P each c me (takes_framed c me p v.epoch v).view.epoch (takes_framed c me p v.epoch v).view)
 took P each c me links p (body.Page file stamp page bytes) v h = whole_tells P each c me links (takes_framed c me p v.epoch v) (adopts_in c me) (framed_tells P each c me p v.epoch v refl h) (adopts_tells P each c me (takes_framed c me p v.epoch v).view.epoch (takes_framed c me p v.epoch v).view)
+took P each c me links p (body.Delta file wanted pages) v h = whole_tells P each c me links (takes_framed c me p v.epoch v) (adopts_in c me) (framed_tells P each c me p v.epoch v refl h) (adopts_tells P each c me (takes_framed c me p v.epoch v).view.epoch (takes_framed c me p v.epoch v).view)
 took P each c me links p _ v h = whole_tells P each c me links (takes_framed c me p v.epoch v) quiet (framed_tells P each c me p v.epoch v refl h) tt
 
 -- what the packet of an event closes has it

@@ -16,11 +16,11 @@ use Rattle.role_steps.specs.Own.{Every}
 use Rattle.role_steps.specs.Tables.{row, without_row, first_that}
 use Rattle.role_steps.specs.Views.{Frame, SiteView, Told, Shown, Promises, Outcome, quiet, sends, tells, and_then}
 use Rattle.role_steps.specs.Reports.{on_have_of}
-use Rattle.role_steps.specs.Storage.{copy_of, with_copy}
+use Rattle.role_steps.specs.Storage.{copy_of}
 use Rattle.role_steps.specs.Using.{on_call, changed_records, reply_record}
 use Rattle.role_steps.specs.Versions.{is_below, file_row}
 use Rattle.role_steps.specs.Epochs.{is_epoch_below, frame_in, leaves_of, leaves, promises, promised_view, reached, poll_packet, polled_sites, polls, round_id, begins_round, boots_where, part_boot, starts_part_of, promise_packet, refuse_packet, on_poll, on_promise_of, on_refuse_of, is_in, on_joined}
-use Rattle.role_steps.specs.Adoption.{notes_own_at, copy_adopted, adopt_record, table_group, with_table, with_store, without_pull, is_ready, is_above_own, adopts_pull, adopts_first}
+use Rattle.role_steps.specs.Adoption.{notes_own_at, copy_adopted, adopt_record, table_group, with_table, without_pull, is_ready, is_above_own, adopts_pull, adopts_first, with_adopted, fits_own, content_under}
 use Rattle.role_steps.specs.Mends.{has_mend_in, wants_mend, starts_mend_of, starts_mend, starts_mends_in, row_file}
 use Rattle.role_steps.specs.declared.copies.FileCopy.{FileCopy}
 use Rattle.role_steps.specs.declared.pulls.Pull.{Pull}
@@ -49,6 +49,7 @@ use Rattle.kept_laws.proofs.StampStoreCovers.{sync_covers}
 use Rattle.kept_laws.proofs.StampCommitCovers.{put_copy}
 use Rattle.kept_laws.proofs.StampTableCloses.{have_table}
 use Rattle.kept_laws.proofs.StampSiteCovers.{SiteFine, SiteLawfully, plain_fine, quiet_fine, view_idle, view_alike, inside_of, users_part}
+use Rattle.role_steps.proofs.Fitting.{fits_above}
 
 -- the view of a site
 abbrev pub OfSite : Config → ℕ → List Told → SiteView → Type 0
@@ -88,8 +89,8 @@ noted_fine c me now p e (Some t) v here k h =
       inside = subst (InEpochCovers c now me (with_table u v)) (sym here) (record { joined = i.joined; instances = i.instances; tables = put_tables (Table now f) (Table now f) u v.tables i.rising q (λ w ne old. old) i.tables; rising = rising_put u v.tables i.rising });
     }
 
-pub adopts_pull_fine : (c : Config) (me : ℕ) (past : List Told) (p : Pull) (e : InEpoch) (v : SiteView) → v.epoch ≡ Some e → is_above_own p (copy_of v.store p.file) ≡ true → View c past me v → SiteLawfully c me past (adopts_pull (frame_in c me v.boot e) p v)
-adopts_pull_fine c me past p e v here above h l = record { view = noted_fine c me now p e (row table_group p.file.group v.tables) w here (row_found (Table now f) table_group p.file.group v.tables tables) view; sent = sync_covers now f p.file.group (body.Have p.file p.stamp) (λ to boot. tt); goes = (tt, tt); disk = (tt, new) }
+pub adopts_pull_fine : (c : Config) (me : ℕ) (past : List Told) (p : Pull) (e : InEpoch) (v : SiteView) → v.epoch ≡ Some e → fits_own p (copy_of v.store p.file) ≡ true → View c past me v → SiteLawfully c me past (adopts_pull (frame_in c me v.boot e) p v)
+adopts_pull_fine c me past p e v here fits h l = record { view = noted_fine c me now p e (row table_group p.file.group v.tables) w here (row_found (Table now f) table_group p.file.group v.tables tables) view; sent = sync_covers now f p.file.group (body.Have p.file p.stamp) (λ to boot. tt); goes = (tt, tt); disk = (tt, new) }
   where
     f : Frame
     f = frame_in c me v.boot e
@@ -101,13 +102,13 @@ adopts_pull_fine c me past p e v here above h l = record { view = noted_fine c m
     now = x ∷ past
 
     w : SiteView
-    w = without_pull p (with_store v (with_copy (copy_adopted p) v.store))
+    w = with_adopted p v
 
     i : Inside past f v
     i = inside_of c past me v e here h
 
-    new : NewCounts now me (copy_adopted p)
-    new = record { fits = l.fit.0; each = λ n m. adopted_counts past me p (copy_of v.store p.file) above (h.disk p.file l.fit.0) n (made_before x past me p.file n (λ g j q. q) m) }
+    new : NewCounts now me (copy_adopted p (content_under v p))
+    new = record { fits = l.fit.0; each = λ n m. adopted_counts past me p (copy_of v.store p.file) (fits_above p (copy_of v.store p.file) fits) (h.disk p.file l.fit.0) n (made_before x past me p.file n (λ g j q. q) m) }
 
     tables : Every (Table now f) v.tables
     tables = every_weaker (Table past f) (Table now f) v.tables (λ t q. table_after c me x past l tt f t (λ key file r g. r) q) i.tables
@@ -115,16 +116,16 @@ adopts_pull_fine c me past p e v here above h l = record { view = noted_fine c m
     view : View c now me w
     view = record {
       boot = h.boot;
-      disk = put_copy x past me (copy_adopted p) v.store.copies (λ g n m. absurd m) new h.disk;
+      disk = put_copy x past me (copy_adopted p (content_under v p)) v.store.copies (λ g n m. absurd m) new h.disk;
       inside = subst (InEpochCovers c now me w) (sym here) (record { joined = inr i.joined; instances = instances_after x past me e.id v.store.instances (λ g n m. m) i.instances; tables = tables; rising = i.rising });
     }
 
 adopts_first_fine : (c : Config) (me : ℕ) (past : List Told) (ps : List Pull) (e : InEpoch) (v : SiteView) → v.epoch ≡ Some e → View c past me v → SiteLawfully c me past (adopts_first (frame_in c me v.boot e) ps v)
 adopts_first_fine c me past [] e v here h l = quiet_fine c me past v h
 adopts_first_fine c me past (p ∷ ps) e v here h l =
-    elim (is_ready v p) as (λ t. SiteLawfully c me past (elim t [ true ↦ elim (is_above_own p (copy_of v.store p.file)) [ true ↦ adopts_pull (frame_in c me v.boot e) p v | false ↦ adopts_first (frame_in c me v.boot e) ps (without_pull p v) ] | false ↦ adopts_first (frame_in c me v.boot e) ps v ])) [
-      | true ↦ (elim (is_above_own p (copy_of v.store p.file)) as (λ t. is_above_own p (copy_of v.store p.file) ≡ t → SiteLawfully c me past (elim t [ true ↦ adopts_pull (frame_in c me v.boot e) p v | false ↦ adopts_first (frame_in c me v.boot e) ps (without_pull p v) ])) [
-        | true ↦ λ above. adopts_pull_fine c me past p e v here above h
+    elim (is_ready v p) as (λ t. SiteLawfully c me past (elim t [ true ↦ elim (fits_own p (copy_of v.store p.file)) [ true ↦ adopts_pull (frame_in c me v.boot e) p v | false ↦ adopts_first (frame_in c me v.boot e) ps (without_pull p v) ] | false ↦ adopts_first (frame_in c me v.boot e) ps v ])) [
+      | true ↦ (elim (fits_own p (copy_of v.store p.file)) as (λ t. fits_own p (copy_of v.store p.file) ≡ t → SiteLawfully c me past (elim t [ true ↦ adopts_pull (frame_in c me v.boot e) p v | false ↦ adopts_first (frame_in c me v.boot e) ps (without_pull p v) ])) [
+        | true ↦ λ fits. adopts_pull_fine c me past p e v here fits h
         | false ↦ λ above. adopts_first_fine c me past ps e (without_pull p v) here (view_alike c past me v (without_pull p v) refl refl refl refl refl h)
       ]) refl
       | false ↦ adopts_first_fine c me past ps e v here h

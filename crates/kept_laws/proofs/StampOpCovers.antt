@@ -13,9 +13,10 @@ use Rattle.file_effects.specs.Works.{counted, carried_out, operated, result_in, 
 use Rattle.file_effects.specs.declared.work.Work.{Work}
 use Rattle.role_steps.specs.Own.{Every}
 use Rattle.role_steps.specs.Tables.{row}
-use Rattle.role_steps.specs.Views.{Frame, Store, Told, Shown, quiet, sends, and_then, serial_key}
+use Rattle.role_steps.specs.Views.{Frame, Store, Told, Shown, quiet, sends, and_then, serial_key, Outcome}
 use Rattle.role_steps.specs.Storage.{instance_key, instance_of, free_pages, is_spent, commit_record, instance_committed, commits, next_stamp, next_vector, content_of, copy_of}
-use Rattle.role_steps.specs.Operations.{acts, act_record, acts_committed, commits_owing, last_committed, commit_op, executes_effect, executes, op_again, by_number, on_op_at, on_op_of, on_op}
+use Rattle.role_steps.specs.Operations.{acts, act_record, acts_committed, commits_owing, last_committed, commit_op, executes_effect, executes, op_again, by_number, on_op_at, on_op_of, on_op, in_form, nothing_to_mend, on_read_held}
+use Rattle.role_steps.specs.of_dir_format.Entries.{nothing_seen}
 use Rattle.role_steps.specs.OperationEffects.{Mending, effect_of}
 use Rattle.role_steps.specs.declared.instances.Instance.{Instance}
 use Rattle.role_steps.specs.declared.instances.Stage.{Stage}
@@ -26,10 +27,11 @@ use Rattle.make_laws.proofs.of_lock_laws.GrantTold.{latest_same}
 use Rattle.kept_laws.specs.StampLaws.{Laws}
 use Rattle.kept_laws.specs.StampCovering.{Bare, InWork, Runs, StageRuns, StageCloses}
 use Rattle.kept_laws.proofs.StampTold.{laws_before}
-use Rattle.kept_laws.proofs.StampFrames.{runs_after, closings_after, there_after, disk_after}
+use Rattle.kept_laws.proofs.StampFrames.{runs_after, closings_after, there_after, disk_after, bares}
 use Rattle.kept_laws.proofs.StampOutcomes.{then_fine}
 use Rattle.kept_laws.proofs.StampStoreCovers.{Stored, InStore, StoreFine, Knows, bare_fine, quiet_fine, put_instance, Lawfully, MayCommit, may_commit}
 use Rattle.kept_laws.proofs.StampCommitCovers.{commits_fine, committed_runs}
+use Rattle.role_steps.proofs.HeldReads.{held_read_sent}
 
 -- ---- an operation ----
 
@@ -150,3 +152,17 @@ op_of_fine c past f m inst (Some i) n o seen s e l granted k h = op_at_fine c pa
 
 pub on_op_fine : (c : Config) (past : List Told) (f : Frame) (m : Mending) (inst : Serial) (n : ℕ) (o : Op) (seen : List ℕ) (s : Store) → Laws c (onto (on_op f m inst n o seen s).told past) → IsGranted past f.epoch (serial_key inst) → Knows past f s → Stored past f s → StoreFine c f past (on_op f m inst n o seen s)
 on_op_fine c past f m inst n o seen s l granted k h = op_of_fine c past f m inst (instance_of s inst) n o seen s refl l granted k h
+
+-- a held read is the operation that it stands for, but for the form of its answer
+pub on_read_held_fine : (c : Config) (past : List Told) (f : Frame) (inst : Serial) (n at len : ℕ) (s : Store) → Laws c (onto (on_read_held f inst n at len s).told past) → IsGranted past f.epoch (serial_key inst) → Knows past f s → Stored past f s → StoreFine c f past (on_read_held f inst n at len s)
+on_read_held_fine c past f inst n at len s l granted k h = by_form (instance_of s inst) (held_read_sent Bare f (λ to serial m r. tt) (λ to serial m l. tt) inst n at len s) l
+  where
+    o : Outcome Store
+    o = on_op f nothing_to_mend inst n (op.Read at len) nothing_seen s
+
+    fine : Laws c (onto o.told past) → StoreFine c f past o
+    fine laws = on_op_fine c past f nothing_to_mend inst n (op.Read at len) nothing_seen s laws granted k h
+
+    by_form : (i : Option Instance) → Every Bare (in_form i o).sent → Laws c (onto (in_form i o).told past) → StoreFine c f past (in_form i o)
+    by_form None g laws = fine laws
+    by_form (Some i) g laws = let d : StoreFine c f past o = fine laws in record { view = d.view; sent = bares (onto o.told past) (in_form (Some i) o).sent g; goes = d.goes; disk = d.disk }

@@ -15,13 +15,13 @@ use Rattle.wire_messages.specs.declared.body.Granted.{Granted}
 use Rattle.role_steps.specs.Own.{Every}
 use Rattle.role_steps.specs.Views.{Frame, Store, Users, Told, Shown, DiskWrite, Outcome}
 use Rattle.role_steps.specs.Storage.{StoreRequest, on_open_ss, on_close, on_closed_ok}
-use Rattle.role_steps.specs.Operations.{on_op}
+use Rattle.role_steps.specs.Operations.{on_op, on_read_held}
 use Rattle.role_steps.specs.OperationEffects.{Mending}
-use Rattle.role_steps.specs.Using.{on_call, on_open_done, on_op_done, on_close_done, on_look_done}
+use Rattle.role_steps.specs.Using.{on_call, on_open_done, on_op_done, on_as_held, on_close_done, on_look_done}
 use Rattle.vector_laws.specs.of_law_walks.Kinds.{IsCallRecord, TellsCall, IsAct, TellsStore, IsVersion}
 use Rattle.vector_laws.specs.of_law_walks.Laws.{Law, frame_law, UsersKeep, StoresKeep, VersionsKeep, Part}
 use Rattle.vector_laws.proofs.of_law_walks.Premises.{frame_users, frame_stores}
-use Rattle.vector_laws.proofs.of_law_walks.RoleWalks.{on_call_walk, on_open_done_walk, on_op_done_walk, on_close_done_walk, on_look_done_walk, on_open_ss_walk, on_close_walk, on_closed_ok_walk, on_op_walk}
+use Rattle.vector_laws.proofs.of_law_walks.RoleWalks.{on_call_walk, on_open_done_walk, on_op_done_walk, on_as_held_walk, on_close_done_walk, on_look_done_walk, on_open_ss_walk, on_close_walk, on_closed_ok_walk, on_op_walk, on_read_held_walk}
 use Rattle.kept_laws.proofs.StampOutcomes.{Idle, IdleRecord}
 
 -- it tells of no release
@@ -72,6 +72,9 @@ on_open_done_idle f kept serial a u = idles (on_open_done f kept serial a u) (on
 pub on_op_done_idle : (f : Frame) (serial n : ℕ) (r : Result) (u : Users) → Idles (on_op_done f serial n r u)
 on_op_done_idle f serial n r u = idles (on_op_done f serial n r u) (on_op_done_walk idling f (users f) serial n r u)
 
+pub on_as_held_idle : (f : Frame) (serial n : ℕ) (u : Users) → Idles (on_as_held f serial n u)
+on_as_held_idle f serial n u = idles (on_as_held f serial n u) (on_as_held_walk idling f (users f) serial n u)
+
 pub on_close_done_idle : (f : Frame) (serial : ℕ) (a : CloseAnswer) (u : Users) → Idles (on_close_done f serial a u)
 on_close_done_idle f serial a u = idles (on_close_done f serial a u) (on_close_done_walk idling f (users f) serial a u)
 
@@ -118,3 +121,6 @@ on_closed_ok_lasts f inst s = lasts_of (on_closed_ok f inst s) (on_closed_ok_wal
 
 pub on_op_lasts : (f : Frame) (m : Mending) (inst : Serial) (n : ℕ) (o : Op) (seen : List ℕ) (s : Store) → StoreLasts (on_op f m inst n o seen s)
 on_op_lasts f m inst n o seen s = lasts_of (on_op f m inst n o seen s) (on_op_walk lasting f (stores f) versions m inst n o seen s)
+
+pub on_read_held_lasts : (f : Frame) (inst : Serial) (n at len : ℕ) (s : Store) → StoreLasts (on_read_held f inst n at len s)
+on_read_held_lasts f inst n at len s = lasts_of (on_read_held f inst n at len s) (on_read_held_walk lasting f (stores f) inst n at len s)

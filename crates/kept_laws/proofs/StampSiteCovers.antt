@@ -13,8 +13,8 @@ use Rattle.role_steps.specs.Views.{Frame, Store, Users, SiteView, Told, Shown, D
 use Rattle.role_steps.specs.Reports.{on_report, on_open, on_look, on_closed, on_have}
 use Rattle.role_steps.specs.Opens.{on_opened}
 use Rattle.role_steps.specs.Storage.{copy_of, instance_of}
-use Rattle.role_steps.specs.Pulling.{pull_of, on_notify, on_page}
-use Rattle.role_steps.specs.Using.{on_open_done, on_op_done, on_close_done, on_look_done}
+use Rattle.role_steps.specs.Pulling.{pull_of, on_notify, on_page, pages_in, on_delta}
+use Rattle.role_steps.specs.Using.{on_open_done, on_op_done, on_as_held, on_close_done, on_look_done}
 use Rattle.role_steps.specs.Epochs.{frame_in, with_users}
 use Rattle.role_steps.specs.Adoption.{table_group, with_table, with_store}
 use Rattle.role_steps.specs.Mends.{mending, kept_stamps}
@@ -29,20 +29,20 @@ use Rattle.vector_laws.proofs.of_run_laws.Telling.{on_report_talks, on_open_talk
 use Rattle.vector_laws.specs.Facts.{onto, BodyFact, ReportedFact, NotCommit, Factless, TableFact as Versions}
 use Rattle.vector_laws.proofs.SiteFacts.{talk_none}
 use Rattle.vector_laws.proofs.SyncFacts.{FoundAt, row_at}
-use Rattle.vector_laws.proofs.RolesSend.{on_pull_factless, on_notify_factless, on_page_factless, on_open_done_factless, on_op_done_factless, on_close_done_factless, on_look_done_factless}
+use Rattle.vector_laws.proofs.RolesSend.{on_pull_factless, on_want_factless, on_notify_factless, on_page_factless, on_delta_factless, on_open_done_factless, on_op_done_factless, on_as_held_factless, on_close_done_factless, on_look_done_factless}
 use Rattle.make_laws.specs.of_lock_laws.Facts.{BodyFact as LockBody}
 use Rattle.make_laws.specs.of_lock_laws.Joins.{WasJoined}
 use Rattle.make_laws.proofs.of_lock_laws.Facts.{onto_later}
 use Rattle.make_laws.proofs.of_lock_laws.GrantSites.{Rising, put_tables, rising_put}
-use Rattle.make_laws.proofs.of_lock_laws.StepFacts.{notify_silent, page_silent}
+use Rattle.make_laws.proofs.of_lock_laws.StepFacts.{notify_silent, page_silent, delta_silent}
 use Rattle.kept_laws.specs.StampLaws.{Laws}
 use Rattle.kept_laws.specs.StampCovering.{BodyCovers, Bare, Instances, DiskCounts, Table, Inside, InEpochCovers, View, Goes, AllGo, DiskGoes, Fine}
 use Rattle.kept_laws.proofs.StampFrames.{NotAt, not_commit, Elsewhere, instances_after, disk_after, table_after, fold, bares}
 use Rattle.kept_laws.proofs.StampOutcomes.{IdleRecord, Idle, idle_go, idle_not_at, factless_bare}
-use Rattle.kept_laws.proofs.StampRolesTell.{NoReleaseRecord, NoRelease, Idles, on_open_done_idle, on_op_done_idle, on_close_done_idle, on_look_done_idle, on_open_ss_lasts, on_close_lasts, on_closed_ok_lasts, on_op_lasts}
+use Rattle.kept_laws.proofs.StampRolesTell.{NoReleaseRecord, NoRelease, Idles, on_open_done_idle, on_op_done_idle, on_as_held_idle, on_close_done_idle, on_look_done_idle, on_open_ss_lasts, on_close_lasts, on_closed_ok_lasts, on_op_lasts, on_read_held_lasts}
 use Rattle.kept_laws.proofs.StampStoreCovers.{Stored, StoreFine, Knows, on_open_ss_fine}
 use Rattle.kept_laws.proofs.StampCommitCovers.{on_close_fine, on_closed_ok_fine}
-use Rattle.kept_laws.proofs.StampOpCovers.{on_op_fine}
+use Rattle.kept_laws.proofs.StampOpCovers.{on_op_fine, on_read_held_fine}
 use Rattle.kept_laws.proofs.StampKeptJoins.{OneVector}
 use Rattle.kept_laws.proofs.StampTableOpens.{OfGroup, TableFine, on_open_fine, on_look_fine, on_opened_fine}
 use Rattle.kept_laws.proofs.StampTableCovers.{on_report_fine}
@@ -247,7 +247,10 @@ inside_fine c me past from v e (body.Opened inst answer) k h l = with_part c me 
 inside_fine c me past from v e (body.OpenDone serial answer) k h l = users_part c me past v (on_open_done (frame_in c me v.boot e) (kept_stamps v) serial answer v.users) (on_open_done_idle (frame_in c me v.boot e) (kept_stamps v) serial answer v.users) (on_open_done_factless (frame_in c me v.boot e) (kept_stamps v) serial answer v.users) l h
 inside_fine c me past from v e (body.Op serial n o seen) k h l = store_part c me past v e _ k.here l (on_op_lasts (frame_in c me v.boot e) (mending v (group_of (instance_of v.store (from_user from serial)))) (from_user from serial) n o seen v.store).0 h
     (on_op_fine c past (frame_in c me v.boot e) (mending v (group_of (instance_of v.store (from_user from serial)))) (from_user from serial) n o seen v.store l k.lock.granted k.knows (stored_of c past me v e k.here h))
+inside_fine c me past from v e (body.ReadHeld serial n at len) k h l = store_part c me past v e _ k.here l (on_read_held_lasts (frame_in c me v.boot e) (from_user from serial) n at len v.store).0 h
+    (on_read_held_fine c past (frame_in c me v.boot e) (from_user from serial) n at len v.store l k.lock.granted k.knows (stored_of c past me v e k.here h))
 inside_fine c me past from v e (body.OpDone serial n result) k h l = users_part c me past v (on_op_done (frame_in c me v.boot e) serial n result v.users) (on_op_done_idle (frame_in c me v.boot e) serial n result v.users) (on_op_done_factless (frame_in c me v.boot e) serial n result v.users) l h
+inside_fine c me past from v e (body.AsHeld serial n len) k h l = users_part c me past v (on_as_held (frame_in c me v.boot e) serial n v.users) (on_as_held_idle (frame_in c me v.boot e) serial n v.users) (on_as_held_factless (frame_in c me v.boot e) serial n v.users) l h
 inside_fine c me past from v e (body.Close serial) k h l = store_part c me past v e _ k.here l (on_close_lasts (frame_in c me v.boot e) (from_user from serial) v.store).0 h (on_close_fine c past (frame_in c me v.boot e) (from_user from serial) v.store l k.lock.granted k.knows (stored_of c past me v e k.here h))
 inside_fine c me past from v e (body.Closed inst made) k h l = with_part c me past (on_closed (frame_in c me v.boot e) from inst made) v e (is_opened_in inst) k.here l k.tables h (on_closed_talks (frame_in c me v.boot e) from inst made)
     (λ t g m. on_closed_fine (frame_in c me v.boot e) past from inst made t m k.one (inside_of c past me v e k.here h).joined k.versions k.covers g.1 g.0)
@@ -260,9 +263,11 @@ inside_fine c me past from v e (body.LookDone call request take answer) k h l = 
 inside_fine c me past from v e (body.Notify file kind set size stamp vector holder) k h l = pulls_part c me past v (on_notify (frame_in c me v.boot e) from (copy_of v.store file) p v.pulls) (notify_silent (frame_in c me v.boot e) from (copy_of v.store file) p v.pulls) (on_notify_factless (frame_in c me v.boot e) from (copy_of v.store file) p v.pulls) l h
   where
     p : Pull
-    p = record { file = file; kind = kind; set = set; size = size; stamp = stamp; vector = vector; holder = holder; content = [] }
+    p = record { file = file; kind = kind; set = set; size = size; stamp = stamp; vector = vector; holder = holder; base = None; wanted = None; content = [] }
 inside_fine c me past from v e (body.Pull file stamp page) k h l = plain_fine c me past v _ refl refl refl refl refl tt refl (factless_bare _ (on_pull_factless (frame_in c me v.boot e) from file stamp page v.store)) l h
+inside_fine c me past from v e (body.Want file wanted own) k h l = plain_fine c me past v _ refl refl refl refl refl tt refl (factless_bare _ (on_want_factless (frame_in c me v.boot e) from file wanted own v.store)) l h
 inside_fine c me past from v e (body.Page file stamp page bytes) k h l = pulls_part c me past v (on_page (frame_in c me v.boot e) file stamp page bytes v.pulls) (page_silent (frame_in c me v.boot e) stamp page bytes (pull_of v.pulls file) v.pulls) (on_page_factless (frame_in c me v.boot e) file stamp page bytes v.pulls) l h
+inside_fine c me past from v e (body.Delta file wanted pages) k h l = pulls_part c me past v (on_delta (frame_in c me v.boot e) (copy_of v.store file) file wanted pages v.pulls) (delta_silent (frame_in c me v.boot e) (pages_in (copy_of v.store file)) wanted pages (pull_of v.pulls file) v.pulls) (on_delta_factless (frame_in c me v.boot e) (copy_of v.store file) file wanted pages v.pulls) l h
 inside_fine c me past from v e (body.Have file stamp) k h l = group_part c me past (on_have from file stamp) v e file.group k.here l k.tables h (on_have_talks from file stamp) (λ t q g m. on_have_fine (frame_in c me v.boot e) past from file stamp t g.0)
 inside_fine c me past from v e body.Poll k h l = quiet_fine c me past v h
 inside_fine c me past from v e (body.Promise reach) k h l = quiet_fine c me past v h

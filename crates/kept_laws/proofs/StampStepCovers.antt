@@ -17,7 +17,7 @@ use Rattle.role_steps.specs.Own.{Every}
 use Rattle.role_steps.specs.Views.{Frame, SiteView, Told, DiskWrite, Outcome, Event, Calls, Receives, Ticks, Parts, Merges, GivesUp, quiet, joined_to, first_written, boot_in}
 use Rattle.role_steps.specs.Reports.{sync_repeats}
 use Rattle.role_steps.specs.Storage.{copy_of, store_repeats}
-use Rattle.role_steps.specs.Pulling.{pull_of, pull_repeats}
+use Rattle.role_steps.specs.Pulling.{pull_of, pull_repeats, pages_in}
 use Rattle.role_steps.specs.Requests.{users_repeats}
 use Rattle.role_steps.specs.Using.{on_call}
 use Rattle.role_steps.specs.Epochs.{frame_in, leaves, poll_packet, starts_merge, boots_where, merge_boot, starts_part, all_reports, unanswered, install_packet, poll_repeats, install_repeats}
@@ -39,7 +39,7 @@ use Rattle.vector_laws.proofs.RolesSend.{users_repeats_factless, pull_repeats_fa
 use Rattle.vector_laws.proofs.SiteDisks.{ends_keeps}
 use Rattle.vector_laws.specs.HistoryCommits.{IsSite}
 use Rattle.make_laws.specs.of_lock_laws.Facts.{BodyFact as LockBody}
-use Rattle.make_laws.proofs.of_lock_laws.StepFacts.{notify_silent, page_silent, framed_notify}
+use Rattle.make_laws.proofs.of_lock_laws.StepFacts.{notify_silent, page_silent, framed_notify, delta_silent}
 use Rattle.kept_laws.specs.StampLaws.{Laws}
 use Rattle.kept_laws.specs.StampCovering.{Bare, PacketCovers, BodyCovers, Inside, View}
 use Rattle.kept_laws.proofs.StampTold.{laws_before}
@@ -178,12 +178,16 @@ received_fine K c me past links p (body.Install members) v q d k known ok h = un
 received_fine K c me past links p body.Joined v q d k known ok h = untried_fine (Now K me (takes c me links p body.Joined v).told) c me past links (takes c me links p body.Joined v) ok known.site known.synced (on_joined_fine c me past p.from p.epoch v h)
 received_fine K c me past links p (body.Notify file kind set size stamp vector holder) v q d k known ok h =
     let o : Outcome SiteView = takes_framed c me p v.epoch v in
-    let s : (o.told ≡ []) × (o.written ≡ None) = framed_notify c me p (body.Notify file kind set size stamp vector holder) v.epoch v q (λ f. notify_silent f p.from (copy_of v.store file) (record { file = file; kind = kind; set = set; size = size; stamp = stamp; vector = vector; holder = holder; content = [] }) v.pulls) in
+    let s : (o.told ≡ []) × (o.written ≡ None) = framed_notify c me p (body.Notify file kind set size stamp vector holder) v.epoch v q (λ f. notify_silent f p.from (copy_of v.store file) (record { file = file; kind = kind; set = set; size = size; stamp = stamp; vector = vector; holder = holder; base = None; wanted = None; content = [] }) v.pulls) in
     tried_fine (Now K me o.told) c me past links o s.0 s.1 ok known.site known.synced (framed_fine c me past p (body.Notify file kind set size stamp vector holder) v.epoch v q refl d refl k h)
 received_fine K c me past links p (body.Page file stamp page bytes) v q d k known ok h =
     let o : Outcome SiteView = takes_framed c me p v.epoch v in
     let s : (o.told ≡ []) × (o.written ≡ None) = framed_notify c me p (body.Page file stamp page bytes) v.epoch v q (λ f. page_silent f stamp page bytes (pull_of v.pulls file) v.pulls) in
     tried_fine (Now K me o.told) c me past links o s.0 s.1 ok known.site known.synced (framed_fine c me past p (body.Page file stamp page bytes) v.epoch v q refl d refl k h)
+received_fine K c me past links p (body.Delta file wanted pages) v q d k known ok h =
+    let o : Outcome SiteView = takes_framed c me p v.epoch v in
+    let s : (o.told ≡ []) × (o.written ≡ None) = framed_notify c me p (body.Delta file wanted pages) v.epoch v q (λ f. delta_silent f (pages_in (copy_of v.store file)) wanted pages (pull_of v.pulls file) v.pulls) in
+    tried_fine (Now K me o.told) c me past links o s.0 s.1 ok known.site known.synced (framed_fine c me past p (body.Delta file wanted pages) v.epoch v q refl d refl k h)
 received_fine K c me past links p (body.Report group copies) v q d k known ok h = inside_received K c me past links p (body.Report group copies) v q d refl k known ok h
 received_fine K c me past links p (body.ReportOk group) v q d k known ok h = inside_received K c me past links p (body.ReportOk group) v q d refl k known ok h
 received_fine K c me past links p (body.Open serial call process request file how) v q d k known ok h = inside_received K c me past links p (body.Open serial call process request file how) v q d refl k known ok h
@@ -191,7 +195,9 @@ received_fine K c me past links p (body.OpenSs inst file mode set kind base vect
 received_fine K c me past links p (body.Opened inst answer) v q d k known ok h = inside_received K c me past links p (body.Opened inst answer) v q d refl k known ok h
 received_fine K c me past links p (body.OpenDone serial answer) v q d k known ok h = inside_received K c me past links p (body.OpenDone serial answer) v q d refl k known ok h
 received_fine K c me past links p (body.Op serial n o seen) v q d k known ok h = inside_received K c me past links p (body.Op serial n o seen) v q d refl k known ok h
+received_fine K c me past links p (body.ReadHeld serial n at len) v q d k known ok h = inside_received K c me past links p (body.ReadHeld serial n at len) v q d refl k known ok h
 received_fine K c me past links p (body.OpDone serial n result) v q d k known ok h = inside_received K c me past links p (body.OpDone serial n result) v q d refl k known ok h
+received_fine K c me past links p (body.AsHeld serial n len) v q d k known ok h = inside_received K c me past links p (body.AsHeld serial n len) v q d refl k known ok h
 received_fine K c me past links p (body.Close serial) v q d k known ok h = inside_received K c me past links p (body.Close serial) v q d refl k known ok h
 received_fine K c me past links p (body.Closed inst made) v q d k known ok h = inside_received K c me past links p (body.Closed inst made) v q d refl k known ok h
 received_fine K c me past links p (body.ClosedOk inst) v q d k known ok h = inside_received K c me past links p (body.ClosedOk inst) v q d refl k known ok h
@@ -200,6 +206,7 @@ received_fine K c me past links p (body.Look call process request take file what
 received_fine K c me past links p (body.LookSs us call process request take file what serve) v q d k known ok h = inside_received K c me past links p (body.LookSs us call process request take file what serve) v q d refl k known ok h
 received_fine K c me past links p (body.LookDone call request take answer) v q d k known ok h = inside_received K c me past links p (body.LookDone call request take answer) v q d refl k known ok h
 received_fine K c me past links p (body.Pull file stamp page) v q d k known ok h = inside_received K c me past links p (body.Pull file stamp page) v q d refl k known ok h
+received_fine K c me past links p (body.Want file wanted own) v q d k known ok h = inside_received K c me past links p (body.Want file wanted own) v q d refl k known ok h
 received_fine K c me past links p (body.Have file stamp) v q d k known ok h = inside_received K c me past links p (body.Have file stamp) v q d refl k known ok h
 
 -- ---- a tick ----

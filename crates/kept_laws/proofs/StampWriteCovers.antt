@@ -19,9 +19,10 @@ use Rattle.role_steps.specs.Views.{Frame, Store, SiteView, Told, Shown, DiskWrit
 use Rattle.role_steps.specs.Opens.{on_opened}
 use Rattle.role_steps.specs.Reports.{on_report, on_closed, on_have}
 use Rattle.role_steps.specs.Storage.{copy_of, instance_of, is_spent, commits, next_stamp, next_vector, shuts, shuts_again, closes_owing, closes, on_close_at, on_close_of, on_close}
-use Rattle.role_steps.specs.Operations.{acts, acts_committed, commits_owing, last_committed, commit_op, executes_effect, executes, op_again, by_number, on_op_at, on_op_of, on_op}
+use Rattle.role_steps.specs.Operations.{acts, acts_committed, commits_owing, last_committed, commit_op, executes_effect, executes, op_again, by_number, on_op_at, on_op_of, on_op, in_form, nothing_to_mend, on_read_held}
+use Rattle.role_steps.specs.of_dir_format.Entries.{nothing_seen}
 use Rattle.role_steps.specs.OperationEffects.{Mending, effect_of}
-use Rattle.role_steps.specs.Pulling.{pull_of}
+use Rattle.role_steps.specs.Pulling.{pull_of, pages_in}
 use Rattle.role_steps.specs.Epochs.{frame_in}
 use Rattle.role_steps.specs.Adoption.{table_group}
 use Rattle.role_steps.specs.Mends.{mending, kept_stamps}
@@ -35,10 +36,10 @@ use Rattle.vector_laws.specs.of_run_laws.Words.{Talks}
 use Rattle.vector_laws.proofs.of_run_laws.Telling.{on_report_talks, on_open_talks, on_look_talks, on_opened_talks, on_closed_talks, on_have_talks}
 use Rattle.vector_laws.proofs.StoreDisks.{on_open_ss_keeps, on_closed_ok_keeps}
 use Rattle.make_laws.specs.of_lock_laws.Going.{IsGranted}
-use Rattle.make_laws.proofs.of_lock_laws.StepFacts.{notify_silent, page_silent}
+use Rattle.make_laws.proofs.of_lock_laws.StepFacts.{notify_silent, page_silent, delta_silent}
 use Rattle.kept_laws.specs.StampLaws.{Laws}
 use Rattle.kept_laws.specs.StampCovering.{View, DiskGoes}
-use Rattle.kept_laws.proofs.StampRolesTell.{on_open_done_idle, on_op_done_idle, on_close_done_idle, on_look_done_idle}
+use Rattle.kept_laws.proofs.StampRolesTell.{on_open_done_idle, on_op_done_idle, on_as_held_idle, on_close_done_idle, on_look_done_idle}
 use Rattle.kept_laws.proofs.StampStoreCovers.{Stored, Knows, MayCommit, may_commit}
 use Rattle.kept_laws.proofs.StampCommitCovers.{commits_fine}
 use Rattle.kept_laws.proofs.StampSiteCovers.{Comes, stored_of}
@@ -119,6 +120,15 @@ op_of_owes c past f m inst (Some i) n o seen s e granted k h = op_at_owes c past
 on_op_owes : (c : Config) (past : List Told) (f : Frame) (m : Mending) (inst : Serial) (n : ℕ) (o : Op) (seen : List ℕ) (s : Store) → IsGranted past f.epoch (serial_key inst) → Knows past f s → Stored past f s → DiskOwes c past f.me (on_op f m inst n o seen s).written
 on_op_owes c past f m inst n o seen s granted k h = op_of_owes c past f m inst (instance_of s inst) n o seen s refl granted k h
 
+-- a held read writes what the operation does that it stands for
+form_owes : (c : Config) (past : List Told) (me : ℕ) (i : Option Instance) (o : Outcome Store) → DiskOwes c past me o.written → DiskOwes c past me (in_form i o).written
+form_owes c past me None o h = h
+form_owes c past me (Some i) o h = h
+
+on_read_held_owes : (c : Config) (past : List Told) (f : Frame) (inst : Serial) (n at len : ℕ) (s : Store) → IsGranted past f.epoch (serial_key inst) → Knows past f s → Stored past f s → DiskOwes c past f.me (on_read_held f inst n at len s).written
+on_read_held_owes c past f inst n at len s granted k h =
+    form_owes c past f.me (instance_of s inst) (on_op f nothing_to_mend inst n (op.Read at len) nothing_seen s) (on_op_owes c past f nothing_to_mend inst n (op.Read at len) nothing_seen s granted k h)
+
 -- ---- closes ----
 
 closing_owes : (c : Config) (past : List Told) (f : Frame) (i : Instance) (s : Store) → i.work.owes ≡ true → MayCommit past f i → Stored past f s → DiskOwes c past f.me (closes_owing f i s).written
@@ -155,6 +165,7 @@ table_none g (Some t) v h = (h t).1
 
 inside_owes : (c : Config) (me : ℕ) (past : List Told) (from : ℕ) (v : SiteView) (e : InEpoch) (x : Body) → Comes c past me from v e x → View c past me v → DiskOwes c past me (takes_inside (frame_in c me v.boot e) from x v).written
 inside_owes c me past from v e (body.Op serial n o seen) k h = on_op_owes c past (frame_in c me v.boot e) (mending v (group_of (instance_of v.store (from_user from serial)))) (from_user from serial) n o seen v.store k.lock.granted k.knows (stored_of c past me v e k.here h)
+inside_owes c me past from v e (body.ReadHeld serial n at len) k h = on_read_held_owes c past (frame_in c me v.boot e) (from_user from serial) n at len v.store k.lock.granted k.knows (stored_of c past me v e k.here h)
 inside_owes c me past from v e (body.Close serial) k h = on_close_owes c past (frame_in c me v.boot e) (from_user from serial) v.store k.lock.granted k.knows (stored_of c past me v e k.here h)
 inside_owes c me past from v e (body.Report group copies) k h = none_owes c past me _ (table_none (on_report (frame_in c me v.boot e) from copies) (row table_group group v.tables) v (on_report_talks (frame_in c me v.boot e) from copies))
 inside_owes c me past from v e (body.ReportOk group) k h = tt
@@ -163,15 +174,18 @@ inside_owes c me past from v e (body.OpenSs inst file mode set kind base vector 
 inside_owes c me past from v e (body.Opened inst answer) k h = none_owes c past me _ (table_none (on_opened (frame_in c me v.boot e) inst answer) (first_that (is_opened_in inst) v.tables) v (on_opened_talks (frame_in c me v.boot e) inst answer))
 inside_owes c me past from v e (body.OpenDone serial answer) k h = none_owes c past me _ (on_open_done_idle (frame_in c me v.boot e) (kept_stamps v) serial answer v.users).1
 inside_owes c me past from v e (body.OpDone serial n result) k h = none_owes c past me _ (on_op_done_idle (frame_in c me v.boot e) serial n result v.users).1
+inside_owes c me past from v e (body.AsHeld serial n len) k h = none_owes c past me _ (on_as_held_idle (frame_in c me v.boot e) serial n v.users).1
 inside_owes c me past from v e (body.Closed inst made) k h = none_owes c past me _ (table_none (on_closed (frame_in c me v.boot e) from inst made) (first_that (is_opened_in inst) v.tables) v (on_closed_talks (frame_in c me v.boot e) from inst made))
 inside_owes c me past from v e (body.ClosedOk inst) k h = none_owes c past me _ (on_closed_ok_keeps (frame_in c me v.boot e) inst v.store).none
 inside_owes c me past from v e (body.CloseDone serial answer) k h = none_owes c past me _ (on_close_done_idle (frame_in c me v.boot e) serial answer v.users).1
 inside_owes c me past from v e (body.Look call process request take file what) k h = none_owes c past me _ (table_none _ (row table_group file.group v.tables) v (on_look_talks (frame_in c me v.boot e) from (record { call = call; process = process; request = request; take = take; file = file; what = what })))
 inside_owes c me past from v e (body.LookSs us call process request take file what serve) k h = tt
 inside_owes c me past from v e (body.LookDone call request take answer) k h = none_owes c past me _ (on_look_done_idle (frame_in c me v.boot e) call request take answer v.users).1
-inside_owes c me past from v e (body.Notify file kind set size stamp vector holder) k h = none_owes c past me _ (notify_silent (frame_in c me v.boot e) from (copy_of v.store file) (record { file = file; kind = kind; set = set; size = size; stamp = stamp; vector = vector; holder = holder; content = [] }) v.pulls).1
+inside_owes c me past from v e (body.Notify file kind set size stamp vector holder) k h = none_owes c past me _ (notify_silent (frame_in c me v.boot e) from (copy_of v.store file) (record { file = file; kind = kind; set = set; size = size; stamp = stamp; vector = vector; holder = holder; base = None; wanted = None; content = [] }) v.pulls).1
 inside_owes c me past from v e (body.Pull file stamp page) k h = tt
+inside_owes c me past from v e (body.Want file wanted own) k h = tt
 inside_owes c me past from v e (body.Page file stamp page bytes) k h = none_owes c past me _ (page_silent (frame_in c me v.boot e) stamp page bytes (pull_of v.pulls file) v.pulls).1
+inside_owes c me past from v e (body.Delta file wanted pages) k h = none_owes c past me _ (delta_silent (frame_in c me v.boot e) (pages_in (copy_of v.store file)) wanted pages (pull_of v.pulls file) v.pulls).1
 inside_owes c me past from v e (body.Have file stamp) k h = none_owes c past me _ (table_none (on_have from file stamp) (row table_group file.group v.tables) v (on_have_talks from file stamp))
 inside_owes c me past from v e body.Poll k h = tt
 inside_owes c me past from v e (body.Promise reach) k h = tt

@@ -11,16 +11,16 @@ use Rattle.wire_messages.specs.declared.body.Body.{Body}
 use Rattle.wire_messages.specs.declared.body.Body.TheVariants as body
 use Rattle.role_steps.specs.Views.{SiteView, Told, DiskWrite, Outcome, Event, Calls, Receives, Ticks, Parts, Merges, GivesUp, quiet, sends, and_then, first_written}
 use Rattle.role_steps.specs.Storage.{copy_of}
-use Rattle.role_steps.specs.Pulling.{pull_of}
+use Rattle.role_steps.specs.Pulling.{pull_of, pages_in}
 use Rattle.role_steps.specs.Epochs.{is_epoch_below, frame_in, leaves_of, leaves, promises, reached, round_id, begins_round, boots_where, merge_boot, starts_merge, part_boot, starts_part_of, starts_part, promise_packet, refuse_packet, on_poll, on_promise_of, on_refuse_of, joins, may_install, is_in, joined_packet, on_install}
-use Rattle.role_steps.specs.Adoption.{without_pull, is_ready, is_above_own, adopts_pull, adopts_first}
+use Rattle.role_steps.specs.Adoption.{without_pull, is_ready, adopts_pull, adopts_first, fits_own}
 use Rattle.role_steps.specs.declared.pulls.Pull.{Pull}
 use Rattle.role_steps.specs.declared.rounds.InEpoch.{InEpoch}
 use Rattle.role_steps.specs.declared.rounds.Round.{Round}
 use Rattle.the_run.specs.Steps.{is_dropped, takes_framed, takes, adopts_of, adopts_in, tries_at, ends_event, whole, takes_call, call_frame, epoch_id, step}
 use Rattle.vector_laws.specs.Facts.{onto}
 use Rattle.vector_laws.proofs.SiteDisks.{ends_keeps}
-use Rattle.make_laws.proofs.of_lock_laws.StepFacts.{notify_silent, page_silent, framed_notify}
+use Rattle.make_laws.proofs.of_lock_laws.StepFacts.{notify_silent, page_silent, framed_notify, delta_silent}
 use Rattle.kept_laws.specs.StampLaws.{Laws}
 use Rattle.kept_laws.specs.StampCovering.{View}
 use Rattle.kept_laws.proofs.StampTold.{laws_older}
@@ -76,8 +76,8 @@ install_none c me from from_boot id m v =
 adopts_first_owes : (c : Config) (me : ℕ) (past : List Told) (ps : List Pull) (e : InEpoch) (v : SiteView) → v.epoch ≡ Some e → (Laws c past → View c past me v) → DiskOwes c past me (adopts_first (frame_in c me v.boot e) ps v).written
 adopts_first_owes c me past [] e v here h = tt
 adopts_first_owes c me past (p ∷ ps) e v here h =
-    elim (is_ready v p) as (λ t. Owes (elim t [ true ↦ elim (is_above_own p (copy_of v.store p.file)) [ true ↦ adopts_pull (frame_in c me v.boot e) p v | false ↦ adopts_first (frame_in c me v.boot e) ps (without_pull p v) ] | false ↦ adopts_first (frame_in c me v.boot e) ps v ])) [
-      | true ↦ (elim (is_above_own p (copy_of v.store p.file)) as (λ t. is_above_own p (copy_of v.store p.file) ≡ t → Owes (elim t [ true ↦ adopts_pull (frame_in c me v.boot e) p v | false ↦ adopts_first (frame_in c me v.boot e) ps (without_pull p v) ])) [
+    elim (is_ready v p) as (λ t. Owes (elim t [ true ↦ elim (fits_own p (copy_of v.store p.file)) [ true ↦ adopts_pull (frame_in c me v.boot e) p v | false ↦ adopts_first (frame_in c me v.boot e) ps (without_pull p v) ] | false ↦ adopts_first (frame_in c me v.boot e) ps v ])) [
+      | true ↦ (elim (fits_own p (copy_of v.store p.file)) as (λ t. fits_own p (copy_of v.store p.file) ≡ t → Owes (elim t [ true ↦ adopts_pull (frame_in c me v.boot e) p v | false ↦ adopts_first (frame_in c me v.boot e) ps (without_pull p v) ])) [
         | true ↦ λ above l. (adopts_pull_fine c me past p e v here above (h (laws_older c _ past l)) l).disk
         | false ↦ λ above. adopts_first_owes c me past ps e (without_pull p v) here (λ l. view_alike c past me v (without_pull p v) refl refl refl refl refl (h l))
       ]) refl
@@ -112,12 +112,16 @@ received_owes c me past links p (body.Install members) v q d k h = untried_owes 
 received_owes c me past links p body.Joined v q d k h = untried_owes c me past links (takes c me links p body.Joined v) tt
 received_owes c me past links p (body.Notify file kind set size stamp vector holder) v q d k h =
     let o : Outcome SiteView = takes_framed c me p v.epoch v in
-    let s : (o.told ≡ []) × (o.written ≡ None) = framed_notify c me p (body.Notify file kind set size stamp vector holder) v.epoch v q (λ f. notify_silent f p.from (copy_of v.store file) (record { file = file; kind = kind; set = set; size = size; stamp = stamp; vector = vector; holder = holder; content = [] }) v.pulls) in
+    let s : (o.told ≡ []) × (o.written ≡ None) = framed_notify c me p (body.Notify file kind set size stamp vector holder) v.epoch v q (λ f. notify_silent f p.from (copy_of v.store file) (record { file = file; kind = kind; set = set; size = size; stamp = stamp; vector = vector; holder = holder; base = None; wanted = None; content = [] }) v.pulls) in
     tried_owes c me past links o s.0 s.1 (framed_fine c me past p (body.Notify file kind set size stamp vector holder) v.epoch v q refl d refl k h)
 received_owes c me past links p (body.Page file stamp page bytes) v q d k h =
     let o : Outcome SiteView = takes_framed c me p v.epoch v in
     let s : (o.told ≡ []) × (o.written ≡ None) = framed_notify c me p (body.Page file stamp page bytes) v.epoch v q (λ f. page_silent f stamp page bytes (pull_of v.pulls file) v.pulls) in
     tried_owes c me past links o s.0 s.1 (framed_fine c me past p (body.Page file stamp page bytes) v.epoch v q refl d refl k h)
+received_owes c me past links p (body.Delta file wanted pages) v q d k h =
+    let o : Outcome SiteView = takes_framed c me p v.epoch v in
+    let s : (o.told ≡ []) × (o.written ≡ None) = framed_notify c me p (body.Delta file wanted pages) v.epoch v q (λ f. delta_silent f (pages_in (copy_of v.store file)) wanted pages (pull_of v.pulls file) v.pulls) in
+    tried_owes c me past links o s.0 s.1 (framed_fine c me past p (body.Delta file wanted pages) v.epoch v q refl d refl k h)
 received_owes c me past links p (body.Report group copies) v q d k h = untried_owes c me past links (takes_framed c me p v.epoch v) (framed_owes c me past p (body.Report group copies) v.epoch v q refl d refl k h)
 received_owes c me past links p (body.ReportOk group) v q d k h = untried_owes c me past links (takes_framed c me p v.epoch v) (framed_owes c me past p (body.ReportOk group) v.epoch v q refl d refl k h)
 received_owes c me past links p (body.Open serial call process request file how) v q d k h = untried_owes c me past links (takes_framed c me p v.epoch v) (framed_owes c me past p (body.Open serial call process request file how) v.epoch v q refl d refl k h)
@@ -125,7 +129,9 @@ received_owes c me past links p (body.OpenSs inst file mode set kind base vector
 received_owes c me past links p (body.Opened inst answer) v q d k h = untried_owes c me past links (takes_framed c me p v.epoch v) (framed_owes c me past p (body.Opened inst answer) v.epoch v q refl d refl k h)
 received_owes c me past links p (body.OpenDone serial answer) v q d k h = untried_owes c me past links (takes_framed c me p v.epoch v) (framed_owes c me past p (body.OpenDone serial answer) v.epoch v q refl d refl k h)
 received_owes c me past links p (body.Op serial n o seen) v q d k h = untried_owes c me past links (takes_framed c me p v.epoch v) (framed_owes c me past p (body.Op serial n o seen) v.epoch v q refl d refl k h)
+received_owes c me past links p (body.ReadHeld serial n at len) v q d k h = untried_owes c me past links (takes_framed c me p v.epoch v) (framed_owes c me past p (body.ReadHeld serial n at len) v.epoch v q refl d refl k h)
 received_owes c me past links p (body.OpDone serial n result) v q d k h = untried_owes c me past links (takes_framed c me p v.epoch v) (framed_owes c me past p (body.OpDone serial n result) v.epoch v q refl d refl k h)
+received_owes c me past links p (body.AsHeld serial n len) v q d k h = untried_owes c me past links (takes_framed c me p v.epoch v) (framed_owes c me past p (body.AsHeld serial n len) v.epoch v q refl d refl k h)
 received_owes c me past links p (body.Close serial) v q d k h = untried_owes c me past links (takes_framed c me p v.epoch v) (framed_owes c me past p (body.Close serial) v.epoch v q refl d refl k h)
 received_owes c me past links p (body.Closed inst made) v q d k h = untried_owes c me past links (takes_framed c me p v.epoch v) (framed_owes c me past p (body.Closed inst made) v.epoch v q refl d refl k h)
 received_owes c me past links p (body.ClosedOk inst) v q d k h = untried_owes c me past links (takes_framed c me p v.epoch v) (framed_owes c me past p (body.ClosedOk inst) v.epoch v q refl d refl k h)
@@ -134,6 +140,7 @@ received_owes c me past links p (body.Look call process request take file what) 
 received_owes c me past links p (body.LookSs us call process request take file what serve) v q d k h = untried_owes c me past links (takes_framed c me p v.epoch v) (framed_owes c me past p (body.LookSs us call process request take file what serve) v.epoch v q refl d refl k h)
 received_owes c me past links p (body.LookDone call request take answer) v q d k h = untried_owes c me past links (takes_framed c me p v.epoch v) (framed_owes c me past p (body.LookDone call request take answer) v.epoch v q refl d refl k h)
 received_owes c me past links p (body.Pull file stamp page) v q d k h = untried_owes c me past links (takes_framed c me p v.epoch v) (framed_owes c me past p (body.Pull file stamp page) v.epoch v q refl d refl k h)
+received_owes c me past links p (body.Want file wanted own) v q d k h = untried_owes c me past links (takes_framed c me p v.epoch v) (framed_owes c me past p (body.Want file wanted own) v.epoch v q refl d refl k h)
 received_owes c me past links p (body.Have file stamp) v q d k h = untried_owes c me past links (takes_framed c me p v.epoch v) (framed_owes c me past p (body.Have file stamp) v.epoch v q refl d refl k h)
 
 pub step_owes : (c : Config) (me : ℕ) (past : List Told) (links : Links) (v : SiteView) (e : Event) → EventArrives past c me v e → View c past me v → DiskOwes c past me (step c me links v e).written

@@ -13,7 +13,6 @@ use Rattle.trace_book.specs.declared.operation.Op.{Op}
 use Rattle.trace_book.specs.declared.operation.Op.TheVariants as op
 use Rattle.trace_book.specs.declared.operation.Outcome.{Outcome as Result}
 use Rattle.trace_book.specs.declared.operation.Outcome.TheVariants as result
-use Rattle.the_run.specs.of_call_rules.Descriptors.{beginning}
 use Rattle.the_run.specs.of_call_rules.declared.answer.Answer.{Answer}
 use Rattle.the_run.specs.of_call_rules.declared.want.Want.{Want}
 use Rattle.the_run.specs.of_call_rules.declared.want.Want.TheVariants as want
@@ -32,12 +31,12 @@ use Rattle.the_run.specs.of_role_steps.Tables.{first_that}
 use Rattle.the_run.specs.of_role_steps.Views.{Frame, Store, Users, quiet, sends, and_then, packet, to_sync}
 use Rattle.the_run.specs.of_role_steps.Versions.{is_below}
 use Rattle.the_run.specs.of_role_steps.Looks.{LookRequest}
-use Rattle.the_run.specs.of_role_steps.Storage.{StoreRequest, copy_of, instance_of, is_open, opened_packets, own_ino, opens, opens_made, on_open_ss_of, on_open_ss, is_spent, commits, next_stamp, next_vector, shuts, shuts_again, closes_owing, closes, on_close_at, on_close_of, on_close, ends_at, on_closed_ok_of, on_closed_ok, on_look_ss, has_page, pulled_page, on_pull, closed_again, store_repeats}
-use Rattle.the_run.specs.of_role_steps.Operations.{acts, acts_committed, commits_owing, last_committed, commit_op, executes_effect, executes, op_again, by_number, on_op_at, on_op_of, on_op}
+use Rattle.the_run.specs.of_role_steps.Storage.{StoreRequest, copy_of, instance_of, is_open, opened_packets, own_ino, opens, opens_made, on_open_ss_of, on_open_ss, is_spent, commits, next_stamp, next_vector, shuts, shuts_again, closes_owing, closes, on_close_at, on_close_of, on_close, ends_at, on_closed_ok_of, on_closed_ok, on_look_ss, has_page, pulled_page, on_pull, wanted_delta, on_want, closed_again, store_repeats}
+use Rattle.the_run.specs.of_role_steps.Operations.{acts, acts_committed, commits_owing, last_committed, commit_op, executes_effect, executes, op_again, by_number, on_op_at, on_op_of, on_op, on_read_held}
 use Rattle.the_run.specs.of_role_steps.OperationEffects.{Mending, effect_of}
-use Rattle.the_run.specs.of_role_steps.Pulling.{pull_of, pull_packets, is_complete, goes_on as pulls_on, begins_pull, replaces_pull, on_notify, is_awaited, on_page_of, on_page, pull_repeats}
-use Rattle.the_run.specs.of_role_steps.Requests.{descriptors_of, request_packets, asks_op_of, asks_close_of, user_instance, users_repeats}
-use Rattle.the_run.specs.of_role_steps.Using.{accepted, frees, with_brought, content_answer, asks_want, next_want, goes_on, on_call, accept_record, takes_answer, with_answer, takes_open, on_open_done_of, on_open_done, on_op_done_of, on_op_done, on_close_done_of, on_close_done, looks_again, takes_look, on_look_done_of, on_look_done, asks_open_of, asks_op_number, asks_take}
+use Rattle.the_run.specs.of_role_steps.Pulling.{pull_of, pull_packets, is_complete, next_asked, goes_on as pulls_on, pull_over, begins_pull, replaces_pull, on_notify, pages_in, is_delta, on_delta_of, on_delta, is_awaited, on_page_of, on_page, pull_repeats}
+use Rattle.the_run.specs.of_role_steps.Requests.{request_packets, operation_body, asks_op_of, asks_close_of, user_instance, users_repeats}
+use Rattle.the_run.specs.of_role_steps.Using.{with_brought, content_answer, asks_want, next_want, goes_on, on_call, counted_call, accepted_call, accept_record, takes_answer, takes_copied, with_answer, takes_open, on_open_done_of, on_open_done, on_op_done_of, on_as_held_of, on_op_done, on_as_held, on_close_done_of, on_close_done, looks_again, takes_look, on_look_done_of, on_look_done, asks_open_of, asks_op_number, asks_held_number, asks_take}
 use Rattle.the_run.specs.of_role_steps.Using as using
 use Rattle.the_run.specs.of_role_steps.declared.copies.FileCopy.{FileCopy}
 use Rattle.the_run.specs.of_role_steps.declared.instances.Instance.{Instance}
@@ -49,9 +48,9 @@ use Rattle.the_run.specs.of_role_steps.declared.users.Asking.TheVariants as aski
 use Rattle.the_run.specs.of_role_steps.declared.users.WaitingCall.{WaitingCall}
 use Rattle.law_walks.proofs.SyncWalks.{sync_walk}
 use Rattle.the_run.specs.of_role_steps.declared.users.UserInstance.{UserInstance}
+use Rattle.the_run.proofs.of_role_steps.HeldReads.{held_read_so}
 use Rattle.the_run.proofs.of_role_steps.Sending.{every_cond, every_flat_map}
-use Rattle.law_walks.specs.Kinds.{IsStoreRequest, IsUserRequest}
-use Rattle.the_run.specs.of_role_steps.Using.{own_call}
+use Rattle.law_walks.specs.Kinds.{IsOfReader, IsStoreRequest, IsUserRequest, IsOfUser}
 use Rattle.law_walks.specs.Laws.{Law, ReadersKeep, StoresKeep, UsersKeep, VersionsKeep, Part}
 
 -- ---- requests ----
@@ -144,6 +143,13 @@ pulled_page_walk law f kinds from file stamp page back (Some x) = every_cond law
 pub on_pull_walk : (law : Law) (f : Frame) (kinds : ReadersKeep law f) (from : ℕ) (file : FileId) (stamp : Stamp) (page : ℕ) (back : (bytes : List ℕ) → law.sent (packet f from (body.Page file stamp page bytes))) (s : Store) → Part law (on_pull f from file stamp page s)
 on_pull_walk law f kinds from file stamp page back s = (pulled_page_walk law f kinds from file stamp page back (copy_of s file), tt, kinds.unwritten)
 
+wanted_delta_walk : (law : Law) (f : Frame) (kinds : ReadersKeep law f) (from : ℕ) (file : FileId) (wanted own : Stamp) (s : Store) (back : (pages : List ℕ) → law.sent (packet f from (body.Delta file wanted pages))) (o : Option FileCopy) → Every law.sent (wanted_delta f from file wanted own s o)
+wanted_delta_walk law f kinds from file wanted own s back None = tt
+wanted_delta_walk law f kinds from file wanted own s back (Some x) = every_cond law.sent (same_stamp x.stamp wanted) _ [] (back _, tt) tt
+
+pub on_want_walk : (law : Law) (f : Frame) (kinds : ReadersKeep law f) (from : ℕ) (file : FileId) (wanted own : Stamp) (back : (pages : List ℕ) → law.sent (packet f from (body.Delta file wanted pages))) (s : Store) → Part law (on_want f from file wanted own s)
+on_want_walk law f kinds from file wanted own back s = (wanted_delta_walk law f kinds from file wanted own s back (copy_of s file), tt, kinds.unwritten)
+
 closed_again_walk : (law : Law) (f : Frame) (kinds : StoresKeep law f) (i : Instance) (g : Stage) → Every law.sent (closed_again f i g)
 closed_again_walk law f kinds i stage.Running = tt
 closed_again_walk law f kinds i (stage.Closing made a) = asks_walk law f kinds i.file.group _ tt
@@ -223,22 +229,39 @@ on_op_of_walk law f kinds versions m (Some i) n o seen s = on_op_at_walk law f k
 pub on_op_walk : (law : Law) (f : Frame) (kinds : StoresKeep law f) (versions : VersionsKeep law) (m : Mending) (inst : Serial) (n : ℕ) (o : Op) (seen : List ℕ) (s : Store) → Part law (on_op f m inst n o seen s)
 on_op_walk law f kinds versions m inst n o seen s = on_op_of_walk law f kinds versions m (instance_of s inst) n o seen s
 
+pub on_read_held_walk : (law : Law) (f : Frame) (kinds : StoresKeep law f) (inst : Serial) (n at len : ℕ) (s : Store) → Part law (on_read_held f inst n at len s)
+on_read_held_walk law f kinds inst n at len s =
+    held_read_so law.sent law.told law.written f (record { full = λ to serial n r. kinds.sends to _ tt; held = λ to serial n len. kinds.sends to _ tt; told = λ i n o r. kinds.tells _ tt; unwritten = kinds.unwritten }) inst n at len s
+
 -- ---- pulls ----
 
-pull_walk : (law : Law) (f : Frame) (kinds : ReadersKeep law f) (p : Pull) → Every law.sent (pull_packets f p)
-pull_walk law f kinds p = every_cond law.sent (is_complete p) [] _ tt (kinds.sends _ _ tt, tt)
+asked_of_reader : (p : Pull) (base : Option Stamp) (wanted : Option (List ℕ)) → IsOfReader (next_asked p base wanted)
+asked_of_reader p None wanted = tt
+asked_of_reader p (Some own) None = tt
+asked_of_reader p (Some own) (Some pages) = tt
 
-begins_pull_walk : (law : Law) (f : Frame) (kinds : ReadersKeep law f) (p : Pull) (ps : List Pull) → Part law (begins_pull f p ps)
-begins_pull_walk law f kinds p ps =
-    elim (replaces_pull p (pull_of ps p.file)) as (λ b. Part law (elim b [ true ↦ pulls_on f p ps | false ↦ quiet ps ])) [ true ↦ (pull_walk law f kinds p, tt, kinds.unwritten) | false ↦ (tt, tt, kinds.unwritten) ]
+pull_walk : (law : Law) (f : Frame) (kinds : ReadersKeep law f) (p : Pull) → Every law.sent (pull_packets f p)
+pull_walk law f kinds p = every_cond law.sent (is_complete p) [] _ tt (kinds.sends _ _ (asked_of_reader p p.base p.wanted), tt)
+
+begins_pull_walk : (law : Law) (f : Frame) (kinds : ReadersKeep law f) (own : Option FileCopy) (p : Pull) (ps : List Pull) → Part law (begins_pull f own p ps)
+begins_pull_walk law f kinds own p ps =
+    elim (replaces_pull own p (pull_of ps p.file)) as (λ b. Part law (elim b [ true ↦ pulls_on f (pull_over own p) ps | false ↦ quiet ps ])) [ true ↦ (pull_walk law f kinds (pull_over own p), tt, kinds.unwritten) | false ↦ (tt, tt, kinds.unwritten) ]
 
 pub on_notify_walk : (law : Law) (f : Frame) (kinds : ReadersKeep law f) (from : ℕ) (o : Option FileCopy) (p : Pull) (back : law.sent (packet f from (body.Have p.file p.stamp))) (ps : List Pull) → Part law (on_notify f from o p ps)
-on_notify_walk law f kinds from None p back ps = begins_pull_walk law f kinds p ps
+on_notify_walk law f kinds from None p back ps = begins_pull_walk law f kinds None p ps
 on_notify_walk law f kinds from (Some own) p back ps =
-    elim (same_stamp own.stamp p.stamp) as (λ b. Part law (elim b [ true ↦ sends (packet f from (body.Have p.file p.stamp) ∷ []) ps | false ↦ elim (is_below own.vector p.vector) [ true ↦ begins_pull f p ps | false ↦ quiet ps ] ])) [
+    elim (same_stamp own.stamp p.stamp) as (λ b. Part law (elim b [ true ↦ sends (packet f from (body.Have p.file p.stamp) ∷ []) ps | false ↦ elim (is_below own.vector p.vector) [ true ↦ begins_pull f (Some own) p ps | false ↦ quiet ps ] ])) [
       | true ↦ ((back, tt), tt, kinds.unwritten)
-      | false ↦ elim (is_below own.vector p.vector) as (λ b. Part law (elim b [ true ↦ begins_pull f p ps | false ↦ quiet ps ])) [ true ↦ begins_pull_walk law f kinds p ps | false ↦ (tt, tt, kinds.unwritten) ]
+      | false ↦ elim (is_below own.vector p.vector) as (λ b. Part law (elim b [ true ↦ begins_pull f (Some own) p ps | false ↦ quiet ps ])) [ true ↦ begins_pull_walk law f kinds (Some own) p ps | false ↦ (tt, tt, kinds.unwritten) ]
     ]
+
+on_delta_of_walk : (law : Law) (f : Frame) (kinds : ReadersKeep law f) (own : ℕ) (stamp : Stamp) (pages : List ℕ) (o : Option Pull) (ps : List Pull) → Part law (on_delta_of f own stamp pages o ps)
+on_delta_of_walk law f kinds own stamp pages None ps = (tt, tt, kinds.unwritten)
+on_delta_of_walk law f kinds own stamp pages (Some p) ps =
+    elim (is_delta own p stamp pages) as (λ b. Part law (elim b [ true ↦ pulls_on f (record p { wanted = Some pages }) ps | false ↦ quiet ps ])) [ true ↦ (pull_walk law f kinds (record p { wanted = Some pages }), tt, kinds.unwritten) | false ↦ (tt, tt, kinds.unwritten) ]
+
+pub on_delta_walk : (law : Law) (f : Frame) (kinds : ReadersKeep law f) (own : Option FileCopy) (file : FileId) (stamp : Stamp) (pages : List ℕ) (ps : List Pull) → Part law (on_delta f own file stamp pages ps)
+on_delta_walk law f kinds own file stamp pages ps = on_delta_of_walk law f kinds (pages_in own) stamp pages (pull_of ps file) ps
 
 on_page_of_walk : (law : Law) (f : Frame) (kinds : ReadersKeep law f) (stamp : Stamp) (page : ℕ) (bytes : List ℕ) (o : Option Pull) (ps : List Pull) → Part law (on_page_of f stamp page bytes o ps)
 on_page_of_walk law f kinds stamp page bytes None ps = (tt, tt, kinds.unwritten)
@@ -253,10 +276,14 @@ pull_repeats_walk law f kinds ps = every_flat_map law.sent (pull_packets f) ps (
 
 -- ---- the using site ----
 
+operation_of_user : (copied : Option (List ℕ)) (serial n : ℕ) (o : Op) (seen : List ℕ) → IsOfUser (operation_body copied serial n o seen)
+operation_of_user (Some bytes) serial n (op.Read at len) seen = tt
+operation_of_user copied serial n o seen = tt
+
 request_walk : (law : Law) (f : Frame) (kinds : UsersKeep law f) (w : WaitingCall) (a : Asking) → Every law.sent (request_packets f w a)
 request_walk law f kinds w (asking.Look file what take) = user_asks_walk law f kinds file.group _ tt
 request_walk law f kinds w (asking.Open serial file how) = user_asks_walk law f kinds file.group _ tt
-request_walk law f kinds w (asking.Op serial ss number o seen) = (kinds.sends _ _ tt, tt)
+request_walk law f kinds w (asking.Op serial ss number o seen) = (kinds.sends _ _ (operation_of_user w.copied serial number o seen), tt)
 request_walk law f kinds w (asking.Close serial ss) = (kinds.sends _ _ tt, tt)
 
 pub users_repeats_walk : (law : Law) (f : Frame) (kinds : UsersKeep law f) (u : Users) → Every law.sent (users_repeats f u)
@@ -264,7 +291,7 @@ users_repeats_walk law f kinds u = every_flat_map law.sent (λ (w : WaitingCall)
 
 asks_op_walk : (law : Law) (f : Frame) (kinds : UsersKeep law f) (w : WaitingCall) (o : Op) (i : Option UserInstance) (u : Users) → Part law (asks_op_of f w o i u)
 asks_op_walk law f kinds w o None u = (tt, tt, kinds.unwritten)
-asks_op_walk law f kinds w o (Some i) u = ((kinds.sends _ _ tt, tt), tt, kinds.unwritten)
+asks_op_walk law f kinds w o (Some i) u = ((kinds.sends _ _ (operation_of_user w.copied _ _ o _), tt), tt, kinds.unwritten)
 
 asks_close_walk : (law : Law) (f : Frame) (kinds : UsersKeep law f) (w : WaitingCall) (i : Option UserInstance) (u : Users) → Part law (asks_close_of f w i u)
 asks_close_walk law f kinds w None u = (tt, tt, kinds.unwritten)
@@ -285,8 +312,8 @@ goes_on_walk law f kinds w u = asks_want_walk law f kinds w (next_want f w u) u
 
 pub on_call_walk : (law : Law) (f : Frame) (kinds : UsersKeep law f) (now : Option EpochId) (process : ℕ) (words : Call) (u : Users) → ((n : ℕ) → law.told (accept_record f.me f.boot process n words)) → Part law (on_call f now process words u)
 on_call_walk law f kinds now process words u accept =
-    let w : WaitingCall = accepted process (u.calls + 1) words (beginning (descriptors_of u process) now (own_call f.me f.boot (u.calls + 1)) words) in
-    let e : Part law (goes_on f w (frees process words (record u { calls = u.calls + 1 }))) = goes_on_walk law f kinds w (frees process words (record u { calls = u.calls + 1 })) in
+    let w : WaitingCall = accepted_call f now process words u in
+    let e : Part law (goes_on f w (counted_call f now process words u)) = goes_on_walk law f kinds w (counted_call f now process words u) in
     (e.0, (accept (u.calls + 1), e.1), e.2)
 
 takes_answer_walk : (law : Law) (f : Frame) (kinds : UsersKeep law f) (w : WaitingCall) (a : Answer) (u : Users) → Part law (takes_answer f w a u)
@@ -305,10 +332,21 @@ on_open_done_walk law f kinds kept serial a u = on_open_done_of_walk law f kinds
 
 on_op_done_of_walk : (law : Law) (f : Frame) (kinds : UsersKeep law f) (r : Result) (o : Option WaitingCall) (u : Users) → Part law (on_op_done_of f r o u)
 on_op_done_of_walk law f kinds r None u = (tt, tt, kinds.unwritten)
-on_op_done_of_walk law f kinds r (Some w) u = takes_answer_walk law f kinds w _ u
+on_op_done_of_walk law f kinds r (Some w) u = takes_answer_walk law f kinds w _ _
 
 pub on_op_done_walk : (law : Law) (f : Frame) (kinds : UsersKeep law f) (serial n : ℕ) (r : Result) (u : Users) → Part law (on_op_done f serial n r u)
 on_op_done_walk law f kinds serial n r u = on_op_done_of_walk law f kinds r (first_that (asks_op_number serial n r) u.waiting) u
+
+takes_copied_walk : (law : Law) (f : Frame) (kinds : UsersKeep law f) (w : WaitingCall) (copied : Option (List ℕ)) (u : Users) → Part law (takes_copied f w copied u)
+takes_copied_walk law f kinds w None u = (tt, tt, kinds.unwritten)
+takes_copied_walk law f kinds w (Some bytes) u = takes_answer_walk law f kinds w _ u
+
+on_as_held_of_walk : (law : Law) (f : Frame) (kinds : UsersKeep law f) (o : Option WaitingCall) (u : Users) → Part law (on_as_held_of f o u)
+on_as_held_of_walk law f kinds None u = (tt, tt, kinds.unwritten)
+on_as_held_of_walk law f kinds (Some w) u = takes_copied_walk law f kinds w w.copied u
+
+pub on_as_held_walk : (law : Law) (f : Frame) (kinds : UsersKeep law f) (serial n : ℕ) (u : Users) → Part law (on_as_held f serial n u)
+on_as_held_walk law f kinds serial n u = on_as_held_of_walk law f kinds (first_that (asks_held_number serial n) u.waiting) u
 
 on_close_done_of_walk : (law : Law) (f : Frame) (kinds : UsersKeep law f) (serial : ℕ) (a : CloseAnswer) (o : Option WaitingCall) (u : Users) → Part law (on_close_done_of f serial a o u)
 on_close_done_of_walk law f kinds serial a None u = (tt, tt, kinds.unwritten)

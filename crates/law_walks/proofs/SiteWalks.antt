@@ -11,11 +11,11 @@ use Rattle.the_run.specs.of_role_steps.Tables.{row, first_that}
 use Rattle.the_run.specs.of_role_steps.Views.{Frame, Store, Users, SiteView, Outcome, quiet, and_then, within}
 use Rattle.the_run.specs.of_role_steps.Reports.{on_have_of, on_report, on_closed, on_have, sync_repeats}
 use Rattle.the_run.specs.of_role_steps.Opens.{on_opened}
-use Rattle.the_run.specs.of_role_steps.Storage.{copy_of, instance_of, with_copy, store_repeats}
-use Rattle.the_run.specs.of_role_steps.Pulling.{pull_repeats}
+use Rattle.the_run.specs.of_role_steps.Storage.{copy_of, instance_of, with_version, store_repeats}
+use Rattle.the_run.specs.of_role_steps.Pulling.{wanted_pages, pull_repeats}
 use Rattle.the_run.specs.of_role_steps.Requests.{users_repeats}
 use Rattle.the_run.specs.of_role_steps.Epochs.{frame_in, with_users, report_packets, all_reports}
-use Rattle.the_run.specs.of_role_steps.Adoption.{notes_own_at, notes_own, copy_adopted, with_store, table_group, is_ready, is_above_own, adopts_pull, without_pull, adopts_first}
+use Rattle.the_run.specs.of_role_steps.Adoption.{notes_own_at, notes_own, with_store, table_group, is_ready, fits_own, content_under, adopts_pull, without_pull, adopts_first, with_adopted}
 use Rattle.the_run.specs.of_role_steps.Mends.{mending, kept_stamps, has_mend_in, wants_mend, starts_mend_of, starts_mend, starts_mends_in, row_file}
 use Rattle.the_run.specs.of_role_steps.Versions.{file_row}
 use Rattle.the_run.specs.of_role_steps.declared.pulls.Pull.{Pull}
@@ -27,7 +27,7 @@ use Rattle.the_run.proofs.InsideSync.{Found, every_row, row_found, first_found}
 use Rattle.the_run.proofs.of_role_steps.Sending.{every_append, every_flat_map}
 use Rattle.the_run.proofs.StepSends.{order_sent}
 use Rattle.law_walks.proofs.SyncWalks.{then_written, sync_repeats_walk, on_opened_walk, on_open_walk, on_look_walk, on_report_walk, on_closed_walk, have_ok, have_group, on_have_walk}
-use Rattle.law_walks.proofs.RoleWalks.{asks_walk, store_repeats_walk, pull_repeats_walk, users_repeats_walk, on_open_ss_walk, on_close_walk, on_closed_ok_walk, on_look_ss_walk, on_pull_walk, on_op_walk, on_notify_walk, on_page_walk, on_call_walk, on_open_done_walk, on_op_done_walk, on_close_done_walk, on_look_done_walk}
+use Rattle.law_walks.proofs.RoleWalks.{asks_walk, store_repeats_walk, pull_repeats_walk, users_repeats_walk, on_open_ss_walk, on_close_walk, on_closed_ok_walk, on_look_ss_walk, on_pull_walk, on_want_walk, on_op_walk, on_read_held_walk, on_notify_walk, on_delta_walk, on_page_walk, on_call_walk, on_open_done_walk, on_op_done_walk, on_as_held_walk, on_close_done_walk, on_look_done_walk}
 use Rattle.law_walks.specs.Laws.{Law, TablesKeep, StoresKeep, SiteKeeps, SiteAnswers, Part, KeptLooks, TablePart, Leaves, Stays}
 
 -- ---- outcomes ----
@@ -78,7 +78,7 @@ noted_leaves f p (Some t) v = record { boot = refl; round = refl; promised = ref
 
 adopts_pull_walk : (law : Law) (f : Frame) (kinds : SiteKeeps law f) (p : Pull) (v : SiteView) → Every law.table v.tables → Stays law v (adopts_pull f p v)
 adopts_pull_walk law f kinds p v ok =
-    let kept : SiteView = without_pull p (with_store v (with_copy (copy_adopted p) v.store)) in
+    let kept : SiteView = with_adopted p v in
     let noted : Leaves kept (notes_own f p kept) = noted_leaves f p (row table_group p.file.group v.tables) kept in
     record {
       leaves = record { boot = noted.boot; round = noted.round; promised = noted.promised; installed = noted.installed; installs = noted.installs; epoch = noted.epoch };
@@ -89,8 +89,8 @@ adopts_pull_walk law f kinds p v ok =
 adopts_first_walk : (law : Law) (f : Frame) (kinds : SiteKeeps law f) (ps : List Pull) (v : SiteView) → Every law.table v.tables → Stays law v (adopts_first f ps v)
 adopts_first_walk law f kinds [] v ok = quiet_walk law kinds.tables.unwritten v ok
 adopts_first_walk law f kinds (p ∷ ps) v ok =
-    elim (is_ready v p) as (λ t. Stays law v (elim t [ true ↦ elim (is_above_own p (copy_of v.store p.file)) [ true ↦ adopts_pull f p v | false ↦ adopts_first f ps (without_pull p v) ] | false ↦ adopts_first f ps v ])) [
-      | true ↦ elim (is_above_own p (copy_of v.store p.file)) as (λ t. Stays law v (elim t [ true ↦ adopts_pull f p v | false ↦ adopts_first f ps (without_pull p v) ])) [
+    elim (is_ready v p) as (λ t. Stays law v (elim t [ true ↦ elim (fits_own p (copy_of v.store p.file)) [ true ↦ adopts_pull f p v | false ↦ adopts_first f ps (without_pull p v) ] | false ↦ adopts_first f ps v ])) [
+      | true ↦ elim (fits_own p (copy_of v.store p.file)) as (λ t. Stays law v (elim t [ true ↦ adopts_pull f p v | false ↦ adopts_first f ps (without_pull p v) ])) [
         | true ↦ adopts_pull_walk law f kinds p v ok
         | false ↦ (let g : Stays law (without_pull p v) (adopts_first f ps (without_pull p v)) = adopts_first_walk law f kinds ps (without_pull p v) ok in record { leaves = left_on v (without_pull p v) _ (record { boot = refl; round = refl; promised = refl; installed = refl; installs = refl; epoch = refl }) g.leaves; tables = g.tables; part = g.part })
       ]
@@ -104,6 +104,7 @@ adopts_of_walk law c me (Some e) v none kinds ok = adopts_first_walk law (frame_
 pub tries_walk : (law : Law) (c : Config) (me : ℕ) (x : Body) (v : SiteView) → law.written None → ((e : InEpoch) → v.epoch ≡ Some e → SiteKeeps law (frame_in c me v.boot e)) → Every law.table v.tables → Stays law v (tries_at c me x v)
 tries_walk law c me (body.Notify file kind set size stamp vector holder) v none kinds ok = adopts_of_walk law c me v.epoch v none kinds ok
 tries_walk law c me (body.Page file stamp page bytes) v none kinds ok = adopts_of_walk law c me v.epoch v none kinds ok
+tries_walk law c me (body.Delta file wanted pages) v none kinds ok = adopts_of_walk law c me v.epoch v none kinds ok
 tries_walk law c me _ v none kinds ok = quiet_walk law none v ok
 
 starts_mend_of_walk : (law : Law) (f : Frame) (kinds : SiteKeeps law f) (t : SyncTable) (o : Option FileRow) (v : SiteView) → Every law.table v.tables → Stays law v (starts_mend_of f t o v)
@@ -142,7 +143,9 @@ inside_walk law f kinds from back (body.OpenSs inst file mode set kind base vect
 inside_walk law f kinds from back (body.Opened inst answer) v ok = table_walk law f kinds.tables (on_opened f inst answer) (first_that (is_opened_in inst) v.tables) v ok (first_found law.table (is_opened_in inst) v.tables ok) (λ t k. on_opened_walk law f kinds.tables inst answer t)
 inside_walk law f kinds from back (body.OpenDone serial answer) v ok = users_walk law v _ ok (on_open_done_walk law f kinds.users (kept_stamps v) serial answer v.users)
 inside_walk law f kinds from back (body.Op serial n o seen) v ok = store_walk law v _ ok (on_op_walk law f kinds.stores kinds.versions (mending v (group_of (instance_of v.store (from_user from serial)))) (from_user from serial) n o seen v.store)
+inside_walk law f kinds from back (body.ReadHeld serial n at len) v ok = store_walk law v _ ok (on_read_held_walk law f kinds.stores (from_user from serial) n at len v.store)
 inside_walk law f kinds from back (body.OpDone serial n result) v ok = users_walk law v _ ok (on_op_done_walk law f kinds.users serial n result v.users)
+inside_walk law f kinds from back (body.AsHeld serial n len) v ok = users_walk law v _ ok (on_as_held_walk law f kinds.users serial n v.users)
 inside_walk law f kinds from back (body.Close serial) v ok = store_walk law v _ ok (on_close_walk law f kinds.stores kinds.versions (from_user from serial) v.store)
 inside_walk law f kinds from back (body.Closed inst made) v ok = table_walk law f kinds.tables (on_closed f from inst made) (first_that (is_opened_in inst) v.tables) v ok (first_found law.table (is_opened_in inst) v.tables ok) (λ t k. on_closed_walk law f kinds.tables from back.tables inst made t)
 inside_walk law f kinds from back (body.ClosedOk inst) v ok = store_walk law v _ ok (on_closed_ok_walk law f kinds.stores inst v.store)
@@ -150,9 +153,11 @@ inside_walk law f kinds from back (body.CloseDone serial answer) v ok = users_wa
 inside_walk law f kinds from back (body.Look call process request take file what) v ok = group_walk law f kinds.tables _ file.group v ok (λ t k. on_look_walk law f kinds.tables from (record { call = call; process = process; request = request; take = take; file = file; what = what }) t)
 inside_walk law f kinds from back (body.LookSs us call process request take file what serve) v ok = store_walk law v _ ok (on_look_ss_walk law f kinds.stores.reads us (record { call = call; process = process; request = request; take = take; file = file; what = what }) serve v.store)
 inside_walk law f kinds from back (body.LookDone call request take answer) v ok = users_walk law v _ ok (on_look_done_walk law f kinds.users call request take answer v.users)
-inside_walk law f kinds from back (body.Notify file kind set size stamp vector holder) v ok = pulls_walk law v _ ok (on_notify_walk law f kinds.stores.reads from (copy_of v.store file) (record { file = file; kind = kind; set = set; size = size; stamp = stamp; vector = vector; holder = holder; content = [] }) (back.stores _ tt) v.pulls)
+inside_walk law f kinds from back (body.Notify file kind set size stamp vector holder) v ok = pulls_walk law v _ ok (on_notify_walk law f kinds.stores.reads from (copy_of v.store file) (record { file = file; kind = kind; set = set; size = size; stamp = stamp; vector = vector; holder = holder; base = None; wanted = None; content = [] }) (back.stores _ tt) v.pulls)
 inside_walk law f kinds from back (body.Pull file stamp page) v ok = store_walk law v _ ok (on_pull_walk law f kinds.stores.reads from file stamp page (λ bytes. back.stores _ tt) v.store)
 inside_walk law f kinds from back (body.Page file stamp page bytes) v ok = pulls_walk law v _ ok (on_page_walk law f kinds.stores.reads file stamp page bytes v.pulls)
+inside_walk law f kinds from back (body.Want file wanted own) v ok = store_walk law v _ ok (on_want_walk law f kinds.stores.reads from file wanted own (λ pages. back.stores _ tt) v.store)
+inside_walk law f kinds from back (body.Delta file wanted pages) v ok = pulls_walk law v _ ok (on_delta_walk law f kinds.stores.reads (copy_of v.store file) file wanted pages v.pulls)
 inside_walk law f kinds from back (body.Have file stamp) v ok = group_walk law f kinds.tables (on_have from file stamp) file.group v ok (λ t k. on_have_walk law f kinds.tables from file stamp t)
 inside_walk law f kinds from back body.Poll v ok = quiet_walk law kinds.tables.unwritten v ok
 inside_walk law f kinds from back (body.Promise reach) v ok = quiet_walk law kinds.tables.unwritten v ok

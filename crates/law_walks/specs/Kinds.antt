@@ -38,18 +38,21 @@ IsStoreRequest _ = ⊥
 -- a storage site sends it to the using site of an instance
 abbrev pub IsOfStore : Body → Type 0
 IsOfStore (body.OpDone serial n result) = Unit {0}
+IsOfStore (body.AsHeld serial n len) = Unit {0}
 IsOfStore (body.CloseDone serial answer) = Unit {0}
 IsOfStore _ = ⊥
 
--- a storage site answers a look with it, or asks a page of the holder of a version
+-- a storage site answers a look with it, or asks the holder of a version which pages to pull, or for one of them
 abbrev pub IsOfReader : Body → Type 0
 IsOfReader (body.LookDone call request take answer) = Unit {0}
 IsOfReader (body.Pull file stamp page) = Unit {0}
+IsOfReader (body.Want file wanted own) = Unit {0}
 IsOfReader _ = ⊥
 
 -- a storage site sends it back to the sender of the packet that it answers
 abbrev pub IsStoreAnswer : Body → Type 0
 IsStoreAnswer (body.Page file stamp page bytes) = Unit {0}
+IsStoreAnswer (body.Delta file wanted pages) = Unit {0}
 IsStoreAnswer (body.Have file stamp) = Unit {0}
 IsStoreAnswer _ = ⊥
 
@@ -62,6 +65,7 @@ IsUserRequest _ = ⊥
 -- a using site sends it to the storage site of an instance
 abbrev pub IsOfUser : Body → Type 0
 IsOfUser (body.Op serial n o seen) = Unit {0}
+IsOfUser (body.ReadHeld serial n at len) = Unit {0}
 IsOfUser (body.Close serial) = Unit {0}
 IsOfUser _ = ⊥
 

@@ -1,5 +1,5 @@
--- The disk of a site, by the lines that arm it and the records so far: how many calls were made since, which gates a stop
--- has left open two and two, and so which disk call stops the site. A call is a write or a sync.
+-- The disk of a site, by the lines that arm it and the records so far: how many calls were made since at least, and so which disk
+-- call may stop the site. A call is a write or a sync.
 use Rattle.std.specs.Prelude.{ℕ, ◌+◌, ◌-◌, ◌*◌, ◌==◌, Bool, true, false, not, ◌&&◌, ◌||◌, cond, List, [], ◌∷◌, length, take, drop, fold, Option, None, Some, nat_le}
 use Rattle.std.specs.Option.{is_some}
 use Rattle.locus_ids.specs.declared.config.Config.{Config}
@@ -13,11 +13,11 @@ use Rattle.disk_calls.specs.of_schedule_lines.declared.line.Leave.{Leave}
 use Rattle.disk_calls.specs.of_schedule_lines.declared.line.ScheduleLine.{ScheduleLine}
 use Rattle.disk_calls.specs.of_schedule_lines.declared.line.ScheduleLine.TheVariants.{Event}
 use Rattle.disk_calls.specs.of_schedule_lines.declared.line.Line.TheVariants as line
-use Rattle.disk_calls.specs.of_file_content.Pages.{pages_of, pages_from, ascending}
+use Rattle.disk_calls.specs.of_file_content.Pages.{pages_of, ascending}
 pub use Rattle.disk_calls.specs.Versions.{Writing, calls_of_writing}
 use Rattle.disk_calls.specs.Gates.{Cut, Stops as Stopping, Fails as Failing}
-use Rattle.disk_calls.specs.Versions.{writing, are_left_open}
-use Rattle.disk_calls.specs.Boots.{calls_of_boot, are_halves_open, are_slots_open}
+use Rattle.disk_calls.specs.Versions.{writing}
+use Rattle.disk_calls.specs.Boots.{calls_of_boot, are_halves_open}
 use Rattle.tree_model.specs.declared.instance.Instance.{Instance}
 use Rattle.tree_model.specs.Folds.{Trace, over, last_line}
 use Rattle.tree_model.specs.Epochs.{is_up}
@@ -39,21 +39,20 @@ abbrev pub is_fault : Arming → Bool
 is_fault (Stops calls leave) = false
 is_fault (Fails calls) = true
 
--- an armed disk: the calls since its line, and the commits and adoptions since
+-- an armed disk: the calls since its line, the least that there can have been, and the commits and adoptions since
 pub record Armed : Type 0 where
   pub arming : Arming
   pub used : ℕ
   pub made : ℕ
 
--- A disk: how it is armed; whether both halves of its label have an open gate; and whether both slots of a file have one.
--- Only a stop leaves two gates open, and a boot closes one of them, so there is one such file at most.
+-- A disk: how it is armed, and whether both halves of its label have an open gate. Only a stop within a boot leaves that, and a
+-- boot closes one of them.
 pub record Disk : Type 0 where
   pub armed : Option Armed
   pub halves : Bool
-  pub slots : Bool
 
 abbrev pub first_disk : Disk
-first_disk = record { armed = None; halves = false; slots = false }
+first_disk = record { armed = None; halves = false }
 
 abbrev pub newly_armed : Arming → Option Armed
 newly_armed a = Some (record { arming = a; used = 0; made = 0 })
@@ -75,16 +74,9 @@ cut_of (Fails calls) = Failing
 
 -- Versions on the disk.
 
--- once a version is on the disk where the disk let so many calls pass: both slots are open where the old gate wasn't closed
-abbrev pub slots_after : Arming → Writing → ℕ → Bool
-slots_after a w left = are_left_open w (cut_of a) left
-
 abbrev pub written_with : Writing → Disk → Option Armed → Disk
 written_with w d None = d
-written_with w d (Some a) = record d {
-  armed = Some (record a { used = a.used + calls_of_writing w; made = a.made + 1 });
-  slots = slots_after a.arming w (calls_of a.arming - a.used);
-}
+written_with w d (Some a) = record d { armed = Some (record a { used = a.used + calls_of_writing w; made = a.made + 1 }) }
 
 -- the disk after a version was written
 abbrev pub written : Writing → Disk → Disk
@@ -111,25 +103,22 @@ pages_changed (Some x) = ascending x.work.changed
 abbrev pub writing_commit : Config → Trace → FileId → ℕ → Writing
 writing_commit c before f site = writing_at c before f site (pages_now (committing c before f site)) (pages_changed (committing c before f site))
 
--- an adoption writes all pages of the version
+-- Which pages an adoption writes isn't told. It makes the calls of a version of which no page is written, or more.
 abbrev pub writing_adoption : Config → Trace → FileId → ℕ → Stamp → Writing
-writing_adoption c before f site stamp = writing_at c before f site (pages_held c before f (Some stamp)) (pages_from 0 (pages_held c before f (Some stamp)))
+writing_adoption c before f site stamp = writing_at c before f site (pages_held c before f (Some stamp)) []
 
 -- Boots.
 
+-- A boot makes two calls more where a stop within a version left both slots of a file open. Where such a stop was isn't counted.
 abbrev pub booted_with : Disk → Option Armed → Disk
-booted_with d None = record { armed = None; halves = false; slots = false }
-booted_with d (Some a) = record { armed = Some (record a { used = a.used + calls_of_boot d.halves d.slots }); halves = false; slots = false }
+booted_with d None = record { armed = None; halves = false }
+booted_with d (Some a) = record { armed = Some (record a { used = a.used + calls_of_boot d.halves false }); halves = false }
 
 -- a stopped site that stops was cut in its boot; any other stop changes no gate that an earlier record doesn't tell
 abbrev pub stopped_with : Bool → Disk → Option Armed → Disk
 stopped_with up d None = record d { armed = None }
 stopped_with true d (Some a) = record d { armed = None }
-stopped_with false d (Some a) = record {
-  armed = None;
-  halves = are_halves_open d.halves (cut_of a.arming) (calls_of a.arming - a.used);
-  slots = are_slots_open d.halves d.slots (cut_of a.arming) (calls_of a.arming - a.used);
-}
+stopped_with false d (Some a) = record { armed = None; halves = are_halves_open d.halves (cut_of a.arming) (calls_of a.arming - a.used) }
 
 -- The fold.
 

@@ -1,8 +1,10 @@
 ghost use Rattle.std.specs.Prelude.{◌≡◌};
 ghost use Rattle.line_text.specs.CallReader.{call_word};
 
+use crate::words::is_text;
+
 /// The first word of a call.
-#[derive(Clone, Copy, PartialEq, Eq)]
+#[derive(Clone, Copy)]
 pub(crate) enum CallWord {
     Create,
     MakeDir,
@@ -25,52 +27,52 @@ pub(crate) enum CallWord {
 pub(crate) fn find_call_word(word: &[u8]) -> Option<CallWord>
     ensures { result ≡ call_word word.now }
 {
-    if word == b"create".as_slice() {
+    if is_text(word, b"create") {
         return Some(CallWord::Create);
     }
-    if word == b"mkdir".as_slice() {
+    if is_text(word, b"mkdir") {
         return Some(CallWord::MakeDir);
     }
-    if word == b"unlink".as_slice() {
+    if is_text(word, b"unlink") {
         return Some(CallWord::Unlink);
     }
-    if word == b"rmdir".as_slice() {
+    if is_text(word, b"rmdir") {
         return Some(CallWord::RemoveDir);
     }
-    if word == b"rename".as_slice() {
+    if is_text(word, b"rename") {
         return Some(CallWord::Rename);
     }
-    if word == b"list".as_slice() {
+    if is_text(word, b"list") {
         return Some(CallWord::List);
     }
-    if word == b"stat".as_slice() {
+    if is_text(word, b"stat") {
         return Some(CallWord::Stat);
     }
-    if word == b"open".as_slice() {
+    if is_text(word, b"open") {
         return Some(CallWord::Open);
     }
-    if word == b"read".as_slice() {
+    if is_text(word, b"read") {
         return Some(CallWord::Read);
     }
-    if word == b"write".as_slice() {
+    if is_text(word, b"write") {
         return Some(CallWord::Write);
     }
-    if word == b"cut".as_slice() {
+    if is_text(word, b"cut") {
         return Some(CallWord::Cut);
     }
-    if word == b"commit".as_slice() {
+    if is_text(word, b"commit") {
         return Some(CallWord::Commit);
     }
-    if word == b"abort".as_slice() {
+    if is_text(word, b"abort") {
         return Some(CallWord::Abort);
     }
-    if word == b"close".as_slice() {
+    if is_text(word, b"close") {
         return Some(CallWord::Close);
     }
-    if word == b"mail".as_slice() {
+    if is_text(word, b"mail") {
         return Some(CallWord::Mail);
     }
-    if word == b"mails".as_slice() {
+    if is_text(word, b"mails") {
         return Some(CallWord::Mails);
     }
     None

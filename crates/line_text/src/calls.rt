@@ -11,7 +11,7 @@ use crate::call_word::{CallWord, find_call_word};
 use crate::hex_words::hex_bytes;
 use crate::numbers::{descriptor, number, short_number, site};
 use crate::site_lists::site_list;
-use crate::words::{copy_word, three_words, two_words};
+use crate::words::{copy_word, is_text, three_words, two_words};
 use locus_ids::NoMemory;
 use locus_ids::sizes::FILE_BYTES;
 use schedule_lines::Header;
@@ -136,13 +136,13 @@ fn open(alloc: Global, rest: &[u8], n: u8) -> Result<Option<Call>, NoMemory>
 fn mode_of(words: &[u8], n: u8) -> Option<OpenMode>
     ensures { result ≡ mode_in n words.now }
 {
-    if words == b"r".as_slice() {
+    if is_text(words, b"r") {
         return Some(OpenMode::Read);
     }
-    if words == b"w".as_slice() {
+    if is_text(words, b"w") {
         return Some(OpenMode::Write);
     }
-    if words == b"s".as_slice() {
+    if is_text(words, b"s") {
         return Some(OpenMode::Steady);
     }
     resolve_mode(words, n)
@@ -153,7 +153,7 @@ fn resolve_mode(words: &[u8], n: u8) -> Option<OpenMode>
     ensures { result ≡ resolve_mode n (two_words words.now) }
 {
     let (word, number) = two_words(words)?;
-    if word != b"x".as_slice() {
+    if !is_text(word, b"x") {
         return None;
     }
     let site = site(number, n)?;

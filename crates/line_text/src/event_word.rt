@@ -1,8 +1,10 @@
 ghost use Rattle.std.specs.Prelude.{◌≡◌};
 ghost use Rattle.line_text.specs.EventReader.{event_word};
 
+use crate::words::is_text;
+
 /// The first word of an event line.
-#[derive(Clone, Copy, PartialEq, Eq)]
+#[derive(Clone, Copy)]
 pub(crate) enum EventWord {
     Call,
     Deliver,
@@ -22,43 +24,43 @@ pub(crate) enum EventWord {
 pub(crate) fn find_event_word(word: &[u8]) -> Option<EventWord>
     ensures { result ≡ event_word word.now }
 {
-    if word == b"call".as_slice() {
+    if is_text(word, b"call") {
         return Some(EventWord::Call);
     }
-    if word == b"deliver".as_slice() {
+    if is_text(word, b"deliver") {
         return Some(EventWord::Deliver);
     }
-    if word == b"lose".as_slice() {
+    if is_text(word, b"lose") {
         return Some(EventWord::Lose);
     }
-    if word == b"tick".as_slice() {
+    if is_text(word, b"tick") {
         return Some(EventWord::Tick);
     }
-    if word == b"down".as_slice() {
+    if is_text(word, b"down") {
         return Some(EventWord::Down);
     }
-    if word == b"up".as_slice() {
+    if is_text(word, b"up") {
         return Some(EventWord::Up);
     }
-    if word == b"part".as_slice() {
+    if is_text(word, b"part") {
         return Some(EventWord::Part);
     }
-    if word == b"merge".as_slice() {
+    if is_text(word, b"merge") {
         return Some(EventWord::Merge);
     }
-    if word == b"giveup".as_slice() {
+    if is_text(word, b"giveup") {
         return Some(EventWord::GiveUp);
     }
-    if word == b"stop".as_slice() {
+    if is_text(word, b"stop") {
         return Some(EventWord::Stop);
     }
-    if word == b"fail".as_slice() {
+    if is_text(word, b"fail") {
         return Some(EventWord::Fail);
     }
-    if word == b"boot".as_slice() {
+    if is_text(word, b"boot") {
         return Some(EventWord::Boot);
     }
-    if word == b"settle".as_slice() {
+    if is_text(word, b"settle") {
         return Some(EventWord::Settle);
     }
     None

@@ -9,7 +9,7 @@ use crate::calls::call_of;
 use crate::event_word::{EventWord, find_event_word};
 use crate::hex_words::hex_byte;
 use crate::numbers::{number, site, small_number};
-use crate::words::{three_words, two_words};
+use crate::words::{is_text, three_words, two_words};
 use locus_ids::{NoMemory, SiteId};
 use schedule_lines::{Header, Leave, Line};
 use std::alloc::Global;
@@ -33,7 +33,7 @@ fn event_of(alloc: Global, line: &[u8], n: u8) -> Result<Option<Line>, NoMemory>
     ensures { IfOk result (λ o. o ≡ event_in n line.now) }
 {
     let Some((word, rest)) = two_words(line) else {
-        if line == b"pending".as_slice() {
+        if is_text(line, b"pending") {
             return Ok(Some(Line::Pending));
         }
         return Ok(None);
@@ -139,10 +139,10 @@ fn arm_stop(rest: &[u8], n: u8) -> Option<Line>
 fn leave_of(word: &[u8]) -> Option<Leave>
     ensures { result ≡ leave_in word.now }
 {
-    if word == b"old".as_slice() {
+    if is_text(word, b"old") {
         return Some(Leave::Old);
     }
-    if word == b"new".as_slice() {
+    if is_text(word, b"new") {
         return Some(Leave::New);
     }
     hex_byte(word).map(|byte| Leave::Byte { byte })

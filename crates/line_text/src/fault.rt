@@ -5,7 +5,7 @@ use locus_ids::NoMemory;
 use thiserror::Error;
 
 /// Why a line is not read.
-#[derive(Clone, Copy, Debug, PartialEq, Eq, Error)]
+#[derive(Clone, Copy, Debug, Error)]
 pub enum LineFault {
     /// No line that may stand here is spelled so.
     #[error("bad line")]

@@ -1,8 +1,10 @@
 ghost use Rattle.std.specs.Prelude.{◌≡◌};
 ghost use Rattle.line_text.specs.HeaderReader.{header_word};
 
+use crate::words::is_text;
+
 /// The first word of a header line.
-#[derive(Clone, Copy, PartialEq, Eq)]
+#[derive(Clone, Copy)]
 pub(crate) enum HeaderWord {
     Sites,
     Group,
@@ -12,13 +14,13 @@ pub(crate) enum HeaderWord {
 pub(crate) fn find_header_word(word: &[u8]) -> Option<HeaderWord>
     ensures { result ≡ header_word word.now }
 {
-    if word == b"sites".as_slice() {
+    if is_text(word, b"sites") {
         return Some(HeaderWord::Sites);
     }
-    if word == b"group".as_slice() {
+    if is_text(word, b"group") {
         return Some(HeaderWord::Group);
     }
-    if word == b"mount".as_slice() {
+    if is_text(word, b"mount") {
         return Some(HeaderWord::Mount);
     }
     None

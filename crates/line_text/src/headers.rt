@@ -14,7 +14,7 @@ use schedule_lines::{Header, HeaderLine};
 use std::alloc::Global;
 
 /// What a line is to the header.
-#[derive(Clone, Copy, PartialEq, Eq)]
+#[derive(Clone, Copy)]
 pub enum HeaderStep {
     /// A header line, which the header has taken.
     Taken,

@@ -26,4 +26,4 @@ pub use laws::lines_have_one_reading;
 pub use numbers::{number, small_number};
 pub use schedule_reader::{LineRead, ScheduleReader};
 pub use tree_lines::parse_tree_line;
-pub use words::{is_passed, split_at, two_words};
+pub use words::{is_passed, is_text, split_at, two_words};

@@ -1,6 +1,7 @@
 // The words of a line.
 ghost use Rattle.std.specs.Prelude.{◌≡◌, ◌∷◌, ◌++◌, IfOk, IfSome, IfNone};
 ghost use Rattle.std.specs.List.{list_all};
+ghost use Rattle.std.specs.Str.{bytes_eq};
 ghost use Rattle.schedule_lines.specs.Ranges.{is_word, is_word_byte};
 ghost use Rattle.schedule_lines.specs.Spelling.{is_passed};
 ghost use Rattle.line_text.specs.Words.{Lacks, split_at, three_words, two_words, word_in};
@@ -63,6 +64,13 @@ pub(crate) fn copy_word(alloc: Global, bytes: &[u8]) -> Result<Option<Bytes>, No
     }
     let word = Bytes::from_slice(alloc, bytes)?;
     Ok(Some(word))
+}
+
+/// The word is this text.
+pub fn is_text(word: &[u8], text: &[u8]) -> bool
+    ensures { result ≡ bytes_eq word.now text.now }
+{
+    word == text
 }
 
 fn is_word(bytes: &[u8]) -> bool

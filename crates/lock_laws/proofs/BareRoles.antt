@@ -12,7 +12,6 @@ use Rattle.trace_book.specs.declared.operation.Op.{Op}
 use Rattle.trace_book.specs.declared.operation.Op.TheVariants as op
 use Rattle.trace_book.specs.declared.operation.Outcome.{Outcome as Result}
 use Rattle.trace_book.specs.declared.operation.Outcome.TheVariants as result
-use Rattle.call_rules.specs.Descriptors.{beginning}
 use Rattle.call_rules.specs.declared.answer.Answer.{Answer}
 use Rattle.call_rules.specs.declared.want.Want.{Want}
 use Rattle.call_rules.specs.declared.want.Want.TheVariants as want
@@ -28,10 +27,11 @@ use Rattle.role_steps.specs.Own.{Every}
 use Rattle.role_steps.specs.Tables.{first_that}
 use Rattle.role_steps.specs.Views.{Frame, Store, Users, DiskWrite, Outcome, quiet, sends, and_then}
 use Rattle.role_steps.specs.Storage.{StoreRequest, own_ino, opens, opens_made, on_open_ss_of, on_open_ss, instance_of, is_spent, commits, next_stamp, next_vector, shuts, shuts_again, closes_owing, closes, on_close_at, on_close_of, on_close, ends_at, on_closed_ok_of, on_closed_ok}
-use Rattle.role_steps.specs.Operations.{acts, acts_committed, commits_owing, last_committed, commit_op, executes_effect, executes, op_again, by_number, on_op_at, on_op_of, on_op}
+use Rattle.role_steps.specs.of_dir_format.Entries.{nothing_seen}
+use Rattle.role_steps.specs.Operations.{acts, acts_committed, commits_owing, last_committed, commit_op, executes_effect, executes, op_again, by_number, on_op_at, on_op_of, on_op, in_form, nothing_to_mend, on_read_held}
 use Rattle.role_steps.specs.OperationEffects.{Mending, effect_of}
-use Rattle.role_steps.specs.Requests.{descriptors_of, asks_op_of, asks_close_of, user_instance}
-use Rattle.role_steps.specs.Using.{accepted, frees, with_brought, content_answer, asks_want, next_want, goes_on, on_call, takes_answer, with_answer, takes_open, on_open_done_of, on_open_done, on_op_done_of, on_op_done, on_close_done_of, on_close_done, looks_again, takes_look, on_look_done_of, on_look_done, asks_open_of, asks_op_number, asks_take, own_call}
+use Rattle.role_steps.specs.Requests.{asks_op_of, asks_close_of, user_instance}
+use Rattle.role_steps.specs.Using.{with_brought, content_answer, asks_want, next_want, goes_on, on_call, counted_call, accepted_call, takes_answer, takes_copied, with_answer, takes_open, on_open_done_of, on_open_done, on_op_done_of, on_as_held_of, on_op_done, on_as_held, on_close_done_of, on_close_done, looks_again, takes_look, on_look_done_of, on_look_done, asks_open_of, asks_op_number, asks_held_number, asks_take}
 use Rattle.role_steps.specs.Using as using
 use Rattle.role_steps.specs.declared.instances.Instance.{Instance}
 use Rattle.role_steps.specs.declared.instances.Stage.{Stage}
@@ -75,8 +75,8 @@ goes_bare f w u = want_bare f w (next_want f w u) u
 
 pub on_call_bare : (f : Frame) (now : Option EpochId) (process : ℕ) (words : Call) (u : Users) → Bares (on_call f now process words u)
 on_call_bare f now process words u =
-    let w : WaitingCall = accepted process (u.calls + 1) words (beginning (descriptors_of u process) now (own_call f.me f.boot (u.calls + 1)) words) in
-    let counted : Users = frees process words (record u { calls = u.calls + 1 }) in
+    let w : WaitingCall = accepted_call f now process words u in
+    let counted : Users = counted_call f now process words u in
     let k : Bares (goes_on f w counted) = goes_bare f w counted in
     ((tt, k.0), k.1)
 
@@ -93,10 +93,21 @@ on_open_done_bare f kept serial a u = open_done_bare f kept serial a (first_that
 
 op_done_bare : (f : Frame) (r : Result) (o : Option WaitingCall) (u : Users) → Bares (on_op_done_of f r o u)
 op_done_bare f r None u = (tt, refl)
-op_done_bare f r (Some w) u = takes_bare f w _ u
+op_done_bare f r (Some w) u = takes_bare f w _ _
 
 pub on_op_done_bare : (f : Frame) (serial n : ℕ) (r : Result) (u : Users) → Bares (on_op_done f serial n r u)
 on_op_done_bare f serial n r u = op_done_bare f r (first_that (asks_op_number serial n r) u.waiting) u
+
+copied_bare : (f : Frame) (w : WaitingCall) (copied : Option (List ℕ)) (u : Users) → Bares (takes_copied f w copied u)
+copied_bare f w None u = (tt, refl)
+copied_bare f w (Some bytes) u = takes_bare f w _ u
+
+as_held_of_bare : (f : Frame) (o : Option WaitingCall) (u : Users) → Bares (on_as_held_of f o u)
+as_held_of_bare f None u = (tt, refl)
+as_held_of_bare f (Some w) u = copied_bare f w w.copied u
+
+pub on_as_held_bare : (f : Frame) (serial n : ℕ) (u : Users) → Bares (on_as_held f serial n u)
+on_as_held_bare f serial n u = as_held_of_bare f (first_that (asks_held_number serial n) u.waiting) u
 
 close_done_bare : (f : Frame) (serial : ℕ) (a : CloseAnswer) (o : Option WaitingCall) (u : Users) → Bares (on_close_done_of f serial a o u)
 close_done_bare f serial a None u = (tt, refl)
@@ -237,3 +248,11 @@ op_of_bare f m (Some i) n o seen s = op_at_bare f m i i.stage n o seen s
 
 pub on_op_bare : (f : Frame) (m : Mending) (inst : Serial) (n : ℕ) (o : Op) (seen : List ℕ) (s : Store) → StoreBare (on_op f m inst n o seen s)
 on_op_bare f m inst n o seen s = op_of_bare f m (instance_of s inst) n o seen s
+
+-- a held read tells and writes what the operation does that it stands for
+form_bare : (i : Option Instance) (o : Outcome Store) → StoreBare o → StoreBare (in_form i o)
+form_bare None o h = h
+form_bare (Some i) o h = h
+
+pub on_read_held_bare : (f : Frame) (inst : Serial) (n at len : ℕ) (s : Store) → StoreBare (on_read_held f inst n at len s)
+on_read_held_bare f inst n at len s = form_bare (instance_of s inst) (on_op f nothing_to_mend inst n (op.Read at len) nothing_seen s) (on_op_bare f nothing_to_mend inst n (op.Read at len) nothing_seen s)

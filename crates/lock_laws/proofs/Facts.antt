@@ -78,6 +78,7 @@ body_later a b l from to e (body.OpenSs inst file mode set kind base vector pare
 body_later a b l from to e (body.Opened inst answer) h = opened_later a b l from e (serial_key inst) answer h
 body_later a b l from to e (body.OpenDone serial answer) h = done_later a b l e (serial_key (from_user to serial)) answer h
 body_later a b l from to e (body.Op serial n o seen) h = given_later a b l e (serial_key (from_user from serial)) to h
+body_later a b l from to e (body.ReadHeld serial n at len) h = given_later a b l e (serial_key (from_user from serial)) to h
 body_later a b l from to e (body.Close serial) h = given_later a b l e (serial_key (from_user from serial)) to h
 body_later a b l from to e (body.Closed inst made) h = l _ h
 body_later a b l from to e (body.ClosedOk inst) h = l _ h
@@ -91,6 +92,7 @@ no_fact past from to e (body.OpenSs inst file mode set kind base vector parents)
 no_fact past from to e (body.Opened inst answer) h = absurd h
 no_fact past from to e (body.OpenDone serial answer) h = absurd h
 no_fact past from to e (body.Op serial n o seen) h = absurd h
+no_fact past from to e (body.ReadHeld serial n at len) h = absurd h
 no_fact past from to e (body.Close serial) h = absurd h
 no_fact past from to e (body.Closed inst made) h = absurd h
 no_fact past from to e (body.ClosedOk inst) h = absurd h

@@ -13,11 +13,11 @@ use Rattle.role_steps.specs.Own.{Every}
 use Rattle.role_steps.specs.Tables.{row, without_row, first_that}
 use Rattle.role_steps.specs.Views.{Frame, SiteView, Told, Shown, Promises, Outcome, quiet, sends, tells, and_then}
 use Rattle.role_steps.specs.Reports.{new_table, on_have_of}
-use Rattle.role_steps.specs.Storage.{copy_of, with_copy, report_of}
+use Rattle.role_steps.specs.Storage.{copy_of, report_of}
 use Rattle.role_steps.specs.Using.{on_call}
 use Rattle.role_steps.specs.Versions.{file_row}
 use Rattle.role_steps.specs.Epochs.{is_epoch_below, frame_in, leaves_of, leaves, promises, promised_view, reached, poll_packet, polled_sites, polls, round_id, begins_round, boots_where, part_boot, starts_part_of, promise_packet, refuse_packet, on_poll, on_promise_of, on_refuse_of, report_packets, all_reports, joined_view, joins, may_install, is_in, joined_packet, on_install, on_joined, passed_over, unanswered, chosen_members, chosen_set, others_of, install_packet, installs_all, decides_if, passes_over_of, passes_over}
-use Rattle.role_steps.specs.Adoption.{notes_own_at, copy_adopted, adopt_record, table_group, with_store, without_pull, is_ready, is_above_own, adopts_pull, adopts_first}
+use Rattle.role_steps.specs.Adoption.{notes_own_at, adopt_record, table_group, without_pull, is_ready, adopts_pull, adopts_first, with_adopted, fits_own}
 use Rattle.role_steps.specs.Mends.{has_mend_in, wants_mend, starts_mend_of, starts_mend, starts_mends_in, row_file}
 use Rattle.role_steps.specs.declared.instances.Instance.{Instance}
 use Rattle.role_steps.specs.declared.pulls.Pull.{Pull}
@@ -57,7 +57,7 @@ adopts_pull_fact f past me p e v here h =
     let x : Told = Shown (adopt_record f p) in
     let now : List Told = x ∷ past in
     let later : Later past now = one_later x past in
-    let w : SiteView = without_pull p (with_store v (with_copy (copy_adopted p) v.store)) in
+    let w : SiteView = with_adopted p v in
     let i : Every (InstanceFact past me e.id) v.store.instances × Every (TableFact past e.id) v.tables = inside_of past me v e here h in
     let ts : Every (TableFact now e.id) v.tables = tables_later past now later e.id v.tables i.1 in
     let g : ViewFact now me w = record {
@@ -74,8 +74,8 @@ adopts_pull_fact f past me p e v here h =
 adopts_first_fact : (f : Frame) (past : List Told) (me : ℕ) (ps : List Pull) (e : InEpoch) (v : SiteView) → v.epoch ≡ Some e → ViewFact past me v → SiteFine me past (adopts_first f ps v)
 adopts_first_fact f past me [] e v here h = quiet_fact past me v h
 adopts_first_fact f past me (p ∷ ps) e v here h =
-    elim (is_ready v p) as (λ t. SiteFine me past (elim t [ true ↦ elim (is_above_own p (copy_of v.store p.file)) [ true ↦ adopts_pull f p v | false ↦ adopts_first f ps (without_pull p v) ] | false ↦ adopts_first f ps v ])) [
-      | true ↦ elim (is_above_own p (copy_of v.store p.file)) as (λ t. SiteFine me past (elim t [ true ↦ adopts_pull f p v | false ↦ adopts_first f ps (without_pull p v) ])) [
+    elim (is_ready v p) as (λ t. SiteFine me past (elim t [ true ↦ elim (fits_own p (copy_of v.store p.file)) [ true ↦ adopts_pull f p v | false ↦ adopts_first f ps (without_pull p v) ] | false ↦ adopts_first f ps v ])) [
+      | true ↦ elim (fits_own p (copy_of v.store p.file)) as (λ t. SiteFine me past (elim t [ true ↦ adopts_pull f p v | false ↦ adopts_first f ps (without_pull p v) ])) [
         | true ↦ adopts_pull_fact f past me p e v here h
         | false ↦ adopts_first_fact f past me ps e (without_pull p v) here (view_alike past me v (without_pull p v) refl refl refl refl h)
       ]

@@ -21,13 +21,13 @@ use Rattle.role_steps.specs.Tables.{row, without_row, first_that}
 use Rattle.role_steps.specs.Views.{Frame, Store, Users, SiteView, Event, Calls, Receives, Ticks, Parts, Merges, GivesUp, Told, Shown, Promises, DiskWrite, Outcome, quiet, sends, tells, and_then, joined_to, first_written, sync_site, pack_sites, all_groups}
 use Rattle.role_steps.specs.Reports.{new_table, on_have_of, on_report, on_open, on_look, on_closed, on_have}
 use Rattle.role_steps.specs.Opens.{on_opened}
-use Rattle.role_steps.specs.Storage.{copy_of, with_copy, instance_of}
+use Rattle.role_steps.specs.Storage.{copy_of, instance_of}
 use Rattle.role_steps.specs.Using.{on_call, reply_record}
 use Rattle.role_steps.specs.Versions.{file_row}
 use Rattle.role_steps.specs.Epochs.{is_epoch_below, frame_in, with_users, leaves_of, leaves, promises, promised_view, reached, polls, round_id, begins_round, boots_where, part_boot, starts_part_of, starts_part, merge_boot, starts_merge, promise_packet, refuse_packet, on_poll, on_promise_of, on_refuse_of, own_groups, is_sync_site, joins, may_install, is_in, joined_packet, on_install, on_joined, passed_over, unanswered, chosen_members, chosen_set, installs_all, decides_if, passes_over_of, passes_over}
-use Rattle.role_steps.specs.Adoption.{notes_own_at, copy_adopted, adopt_record, table_group, with_table, with_store, without_pull, is_ready, is_above_own, adopts_pull, adopts_first}
+use Rattle.role_steps.specs.Adoption.{notes_own_at, adopt_record, table_group, with_table, with_store, without_pull, is_ready, adopts_pull, adopts_first, with_adopted, fits_own}
 use Rattle.role_steps.specs.Mends.{mending, kept_stamps, has_mend_in, wants_mend, starts_mend_of, starts_mend, starts_mends_in, row_file}
-use Rattle.role_steps.specs.Pulling.{pull_of, on_notify, on_page}
+use Rattle.role_steps.specs.Pulling.{pull_of, on_notify, on_page, on_delta, pages_in}
 use Rattle.role_steps.specs.declared.pulls.Pull.{Pull}
 use Rattle.role_steps.specs.declared.rounds.InEpoch.{InEpoch}
 use Rattle.role_steps.specs.declared.rounds.Round.{Round}
@@ -46,11 +46,11 @@ use Rattle.lock_laws.specs.Locks.{IsOfAFile}
 use Rattle.lock_laws.specs.Grants.{WasGrantedAs}
 use Rattle.lock_laws.proofs.Facts.{AloofRecord, Aloof}
 use Rattle.lock_laws.proofs.GrantSites.{bares_by, put_tables, rising_put, ascending_filter, made_rising, groups_ascend, passing, is_synced, Orderly, SyncedBy, GrantsSynced, GrantsIn, SiteLock, SiteKeeps, orderly_before, synced_after, in_bare, alike, none_bare, plain_site, quiet_site, then_site, in_epoch, group_part, with_part}
-use Rattle.lock_laws.proofs.SiteFacts.{PullsAloof, notify_aloof, page_aloof}
-use Rattle.lock_laws.proofs.StepFacts.{SiteSilent, notify_silent, page_silent, framed_notify}
+use Rattle.lock_laws.proofs.SiteFacts.{PullsAloof, notify_aloof, delta_aloof, page_aloof}
+use Rattle.lock_laws.proofs.StepFacts.{SiteSilent, notify_silent, page_silent, delta_silent, framed_notify}
 use Rattle.lock_laws.proofs.GrantFacts.{on_opened_keeps, on_open_keeps, on_look_keeps, on_report_keeps, on_closed_keeps, have_lock, on_have_keeps}
 use Rattle.lock_laws.proofs.GrantTold.{Held, TableLock, BareRecord, Bare, bare_locked}
-use Rattle.lock_laws.proofs.BareRoles.{Bares, on_call_bare, on_open_done_bare, on_op_done_bare, on_close_done_bare, on_look_done_bare, StoreBare, on_open_ss_bare, on_close_bare, on_closed_ok_bare, on_op_bare}
+use Rattle.lock_laws.proofs.BareRoles.{Bares, on_call_bare, on_open_done_bare, on_op_done_bare, on_as_held_bare, on_close_done_bare, on_look_done_bare, StoreBare, on_open_ss_bare, on_close_bare, on_closed_ok_bare, on_op_bare, on_read_held_bare}
 
 -- ---- inside the epoch ----
 
@@ -79,7 +79,9 @@ inside_site c me boot past from v e (body.OpenSs inst file mode set kind base ve
 inside_site c me boot past from v e (body.Opened inst answer) here h = with_part c me past (on_opened (frame_in c me boot e) inst answer) v e (is_opened_in inst) here h (on_opened_talks (frame_in c me boot e) inst answer) (λ t k. on_opened_keeps c past me e.members (frame_in c me boot e) inst answer t k)
 inside_site c me boot past from v e (body.OpenDone serial answer) here h = user_site c me past v _ (on_open_done_bare (frame_in c me boot e) (kept_stamps v) serial answer v.users) h
 inside_site c me boot past from v e (body.Op serial n o seen) here h = store_site c me past v _ (on_op_bare (frame_in c me boot e) (mending v (group_of (instance_of v.store (from_user from serial)))) (from_user from serial) n o seen v.store) h
+inside_site c me boot past from v e (body.ReadHeld serial n at len) here h = store_site c me past v _ (on_read_held_bare (frame_in c me boot e) (from_user from serial) n at len v.store) h
 inside_site c me boot past from v e (body.OpDone serial n result) here h = user_site c me past v _ (on_op_done_bare (frame_in c me boot e) serial n result v.users) h
+inside_site c me boot past from v e (body.AsHeld serial n len) here h = user_site c me past v _ (on_as_held_bare (frame_in c me boot e) serial n v.users) h
 inside_site c me boot past from v e (body.Close serial) here h = store_site c me past v _ (on_close_bare (frame_in c me boot e) (from_user from serial) v.store) h
 inside_site c me boot past from v e (body.Closed inst made) here h = with_part c me past (on_closed (frame_in c me boot e) from inst made) v e (is_opened_in inst) here h (on_closed_talks (frame_in c me boot e) from inst made) (λ t k. on_closed_keeps c past me e.members (frame_in c me boot e) from inst made t k)
 inside_site c me boot past from v e (body.ClosedOk inst) here h = store_site c me past v _ (on_closed_ok_bare (frame_in c me boot e) inst v.store) h
@@ -88,14 +90,19 @@ inside_site c me boot past from v e (body.Look call process request take file wh
 inside_site c me boot past from v e (body.LookSs us call process request take file what serve) here h = plain_site c me past v _ refl refl tt tt h
 inside_site c me boot past from v e (body.LookDone call request take answer) here h = user_site c me past v _ (on_look_done_bare (frame_in c me boot e) call request take answer v.users) h
 inside_site c me boot past from v e (body.Notify file kind set size stamp vector holder) here h =
-    let p : Pull = record { file = file; kind = kind; set = set; size = size; stamp = stamp; vector = vector; holder = holder; content = [] } in
+    let p : Pull = record { file = file; kind = kind; set = set; size = size; stamp = stamp; vector = vector; holder = holder; base = None; wanted = None; content = [] } in
     let o : Outcome (List Pull) = on_notify (frame_in c me boot e) from (copy_of v.store file) p v.pulls in
     let s : PullsAloof o = notify_aloof (frame_in c me boot e) from (copy_of v.store file) p v.pulls in
     plain_site c me past v (record { view = with_pulls v o.view; sent = o.sent; told = o.told; written = o.written }) refl refl (pulls_bare o.told s.told) (none_bare o.written s.none) h
 inside_site c me boot past from v e (body.Pull file stamp page) here h = plain_site c me past v _ refl refl tt tt h
+inside_site c me boot past from v e (body.Want file wanted own) here h = plain_site c me past v _ refl refl tt tt h
 inside_site c me boot past from v e (body.Page file stamp page bytes) here h =
     let o : Outcome (List Pull) = on_page (frame_in c me boot e) file stamp page bytes v.pulls in
     let s : PullsAloof o = page_aloof (frame_in c me boot e) stamp page bytes (pull_of v.pulls file) v.pulls in
+    plain_site c me past v (record { view = with_pulls v o.view; sent = o.sent; told = o.told; written = o.written }) refl refl (pulls_bare o.told s.told) (none_bare o.written s.none) h
+inside_site c me boot past from v e (body.Delta file wanted pages) here h =
+    let o : Outcome (List Pull) = on_delta (frame_in c me boot e) (copy_of v.store file) file wanted pages v.pulls in
+    let s : PullsAloof o = delta_aloof (frame_in c me boot e) (pages_in (copy_of v.store file)) wanted pages (pull_of v.pulls file) v.pulls in
     plain_site c me past v (record { view = with_pulls v o.view; sent = o.sent; told = o.told; written = o.written }) refl refl (pulls_bare o.told s.told) (none_bare o.written s.none) h
 inside_site c me boot past from v e (body.Have file stamp) here h = group_part c me past (on_have from file stamp) v e file.group here h (on_have_talks from file stamp) (λ t q k. on_have_keeps c past me e.members (frame_in c me boot e) from file stamp t k)
 inside_site c me boot past from v e body.Poll here h = quiet_site c me past v h
@@ -115,15 +122,15 @@ noted_site c me now f p e (Some t) v here k q =
 adopts_pull_site : (c : Config) (me : ℕ) (past : List Told) (f : Frame) (p : Pull) (e : InEpoch) (v : SiteView) → v.epoch ≡ Some e → SiteLock c past me v → SiteKeeps c me past (adopts_pull f p v)
 adopts_pull_site c me past f p e v here h =
     let x : Told = Shown (adopt_record f p) in
-    let w : SiteView = without_pull p (with_store v (with_copy (copy_adopted p) v.store)) in
+    let w : SiteView = with_adopted p v in
     let q : GrantsIn c (x ∷ past) me v (Some e) = in_bare c (x ∷ []) past me v (Some e) (tt, tt) (in_epoch c past me v e here h) in
     record { view = noted_site c me (x ∷ past) f p e (row table_group p.file.group v.tables) w here (row_found (TableLock c (x ∷ past) me e.id e.members) table_group p.file.group v.tables q.1) q; by = (tt, tt); locked = (tt, tt); written = tt }
 
 adopts_first_site : (c : Config) (me : ℕ) (past : List Told) (f : Frame) (ps : List Pull) (e : InEpoch) (v : SiteView) → v.epoch ≡ Some e → SiteLock c past me v → SiteKeeps c me past (adopts_first f ps v)
 adopts_first_site c me past f [] e v here h = quiet_site c me past v h
 adopts_first_site c me past f (p ∷ ps) e v here h =
-    elim (is_ready v p) as (λ t. SiteKeeps c me past (elim t [ true ↦ elim (is_above_own p (copy_of v.store p.file)) [ true ↦ adopts_pull f p v | false ↦ adopts_first f ps (without_pull p v) ] | false ↦ adopts_first f ps v ])) [
-      | true ↦ elim (is_above_own p (copy_of v.store p.file)) as (λ t. SiteKeeps c me past (elim t [ true ↦ adopts_pull f p v | false ↦ adopts_first f ps (without_pull p v) ])) [
+    elim (is_ready v p) as (λ t. SiteKeeps c me past (elim t [ true ↦ elim (fits_own p (copy_of v.store p.file)) [ true ↦ adopts_pull f p v | false ↦ adopts_first f ps (without_pull p v) ] | false ↦ adopts_first f ps v ])) [
+      | true ↦ elim (fits_own p (copy_of v.store p.file)) as (λ t. SiteKeeps c me past (elim t [ true ↦ adopts_pull f p v | false ↦ adopts_first f ps (without_pull p v) ])) [
         | true ↦ adopts_pull_site c me past f p e v here h
         | false ↦ adopts_first_site c me past f ps e (without_pull p v) here (alike c past me v (without_pull p v) refl refl h)
       ]
@@ -325,8 +332,9 @@ received_site c me past links p (body.Promise reach) v q synced order h = untrie
 received_site c me past links p (body.Refuse promised) v q synced order h = untried_site c me past links _ synced order (on_refuse_site c me past links p.epoch promised v.round v h)
 received_site c me past links p (body.Install members) v q synced order h = untried_site c me past links _ synced order (on_install_site c me past p.from p.from_boot p.epoch members v synced (first_order (on_install c me p.from p.from_boot p.epoch members v).told (ends_event c me links (on_install c me p.from p.from_boot p.epoch members v).view).told past order) h)
 received_site c me past links p body.Joined v q synced order h = untried_site c me past links _ synced order (on_joined_site c me past p.from p.epoch v h)
-received_site c me past links p (body.Notify file kind set size stamp vector holder) v q synced order h = tried_site c me past links (takes_framed c me p v.epoch v) (framed_notify c me p (body.Notify file kind set size stamp vector holder) v.epoch v q (λ f. notify_silent f p.from (copy_of v.store file) (record { file = file; kind = kind; set = set; size = size; stamp = stamp; vector = vector; holder = holder; content = [] }) v.pulls)) synced order (framed_site c me past p v.epoch v refl h)
+received_site c me past links p (body.Notify file kind set size stamp vector holder) v q synced order h = tried_site c me past links (takes_framed c me p v.epoch v) (framed_notify c me p (body.Notify file kind set size stamp vector holder) v.epoch v q (λ f. notify_silent f p.from (copy_of v.store file) (record { file = file; kind = kind; set = set; size = size; stamp = stamp; vector = vector; holder = holder; base = None; wanted = None; content = [] }) v.pulls)) synced order (framed_site c me past p v.epoch v refl h)
 received_site c me past links p (body.Page file stamp page bytes) v q synced order h = tried_site c me past links (takes_framed c me p v.epoch v) (framed_notify c me p (body.Page file stamp page bytes) v.epoch v q (λ f. page_silent f stamp page bytes (pull_of v.pulls file) v.pulls)) synced order (framed_site c me past p v.epoch v refl h)
+received_site c me past links p (body.Delta file wanted pages) v q synced order h = tried_site c me past links (takes_framed c me p v.epoch v) (framed_notify c me p (body.Delta file wanted pages) v.epoch v q (λ f. delta_silent f (pages_in (copy_of v.store file)) wanted pages (pull_of v.pulls file) v.pulls)) synced order (framed_site c me past p v.epoch v refl h)
 received_site c me past links p _ v q synced order h = untried_site c me past links (takes_framed c me p v.epoch v) synced order (framed_site c me past p v.epoch v refl h)
 
 pub step_site : (c : Config) (me : ℕ) (past : List Told) (links : Links) (v : SiteView) (e : Event) → GrantsSynced c past → Orderly (onto (step c me links v e).told past) → SiteLock c past me v → SiteKeeps c me past (step c me links v e)

@@ -10,11 +10,11 @@ use Rattle.role_steps.specs.Tables.{row, first_that}
 use Rattle.role_steps.specs.Views.{Frame, Store, Users, SiteView, Told, DiskWrite, Outcome, quiet, sends, packet}
 use Rattle.role_steps.specs.Reports.{on_report, on_open, on_look, on_closed, on_have}
 use Rattle.role_steps.specs.Opens.{on_opened}
-use Rattle.role_steps.specs.Storage.{copy_of, instance_of, has_page, pulled_page}
-use Rattle.role_steps.specs.Pulling.{pull_of, goes_on, begins_pull, replaces_pull, is_complete, pull_packets, is_awaited, on_page_of, on_notify, on_page, pull_repeats}
+use Rattle.role_steps.specs.Storage.{copy_of, instance_of, has_page, pulled_page, wanted_delta}
+use Rattle.role_steps.specs.Pulling.{pull_of, goes_on, pull_over, begins_pull, replaces_pull, is_complete, next_asked, pull_packets, is_awaited, pages_in, is_delta, on_page_of, on_delta_of, on_notify, on_page, on_delta, pull_repeats}
 use Rattle.role_steps.specs.Versions.{is_below}
 use Rattle.commit_graph.specs.Versions.{same_stamp}
-use Rattle.role_steps.specs.Using.{on_open_done, on_op_done, on_close_done, on_look_done}
+use Rattle.role_steps.specs.Using.{on_open_done, on_op_done, on_as_held, on_close_done, on_look_done}
 use Rattle.role_steps.specs.Epochs.{frame_in, with_users}
 use Rattle.role_steps.specs.Adoption.{table_group, with_table, with_store}
 use Rattle.role_steps.specs.Mends.{mending, kept_stamps}
@@ -31,11 +31,11 @@ use Rattle.vector_laws.specs.of_run_laws.Words.{Talks}
 use Rattle.vector_laws.proofs.of_run_laws.Telling.{on_opened_talks, on_open_talks, on_look_talks, on_report_talks, on_closed_talks, on_have_talks}
 use Rattle.vector_laws.specs.Facts.{onto}
 use Rattle.vector_laws.proofs.SyncFacts.{FoundAt, row_at}
-use Rattle.lock_laws.specs.Facts.{BodyFact, PacketFact, Factless, UsersFact, InstanceFact, TableFact, InEpochFact, ViewFact, DiskFact, Fine}
+use Rattle.lock_laws.specs.Facts.{BodyFact, PacketFact, NoFact, Factless, UsersFact, InstanceFact, TableFact, InEpochFact, ViewFact, DiskFact, Fine}
 use Rattle.lock_laws.proofs.Facts.{Later, onto_later, factless, body_later, users_later, tables_later, inside_later, view_later, Aloof, aloof_go}
 use Rattle.lock_laws.proofs.SyncFacts.{TableFine, on_opened_fact, on_open_fact, on_look_fact, on_report_fact, on_closed_fact, on_have_fact}
-use Rattle.lock_laws.proofs.StoreFacts.{StoreFine, on_open_ss_fact, on_close_fact, on_closed_ok_fact, on_op_fact}
-use Rattle.lock_laws.proofs.UserFacts.{UsersKeep, on_open_done_keep, on_op_done_keep, on_close_done_keep, on_look_done_keep}
+use Rattle.lock_laws.proofs.StoreFacts.{StoreFine, on_open_ss_fact, on_close_fact, on_closed_ok_fact, on_op_fact, on_read_held_fact}
+use Rattle.lock_laws.proofs.UserFacts.{UsersKeep, on_open_done_keep, on_op_done_keep, on_as_held_keep, on_close_done_keep, on_look_done_keep}
 
 abbrev pub OfSite : ℕ → List Told → SiteView → Type 0
 OfSite me past v = ViewFact past me v
@@ -152,8 +152,13 @@ pub record PullsAloof (o : Outcome (List Pull)) : Type 0 where
   pub none : o.written ≡ None
   pub sent : Every Factless o.sent
 
+asked_bare : (p : Pull) (base : Option Stamp) (wanted : Option (List ℕ)) → NoFact (next_asked p base wanted)
+asked_bare p (Some own) None = tt
+asked_bare p (Some own) (Some pages) = tt
+asked_bare p None wanted = tt
+
 pull_aloof : (f : Frame) (p : Pull) → Every Factless (pull_packets f p)
-pull_aloof f p = every_cond Factless (is_complete p) [] _ tt (tt, tt)
+pull_aloof f p = every_cond Factless (is_complete p) [] _ tt (asked_bare p p.base p.wanted, tt)
 
 pub pull_repeats_aloof : (f : Frame) (ps : List Pull) → Every Factless (pull_repeats f ps)
 pull_repeats_aloof f ps = every_flat_map Factless (pull_packets f) ps (pull_aloof f)
@@ -161,16 +166,21 @@ pull_repeats_aloof f ps = every_flat_map Factless (pull_packets f) ps (pull_aloo
 quiet_aloof : (ps : List Pull) → PullsAloof (quiet ps)
 quiet_aloof ps = record { told = tt; none = refl; sent = tt }
 
-begins_aloof : (f : Frame) (p : Pull) (ps : List Pull) → PullsAloof (begins_pull f p ps)
-begins_aloof f p ps = elim (replaces_pull p (pull_of ps p.file)) as (λ b. PullsAloof (elim b [ true ↦ goes_on f p ps | false ↦ quiet ps ])) [ true ↦ record { told = tt; none = refl; sent = pull_aloof f p } | false ↦ quiet_aloof ps ]
+begins_aloof : (f : Frame) (own : Option FileCopy) (p : Pull) (ps : List Pull) → PullsAloof (begins_pull f own p ps)
+begins_aloof f own p ps = elim (replaces_pull own p (pull_of ps p.file)) as (λ b. PullsAloof (elim b [ true ↦ goes_on f (pull_over own p) ps | false ↦ quiet ps ])) [ true ↦ record { told = tt; none = refl; sent = pull_aloof f (pull_over own p) } | false ↦ quiet_aloof ps ]
 
 pub notify_aloof : (f : Frame) (from : ℕ) (o : Option FileCopy) (p : Pull) (ps : List Pull) → PullsAloof (on_notify f from o p ps)
-notify_aloof f from None p ps = begins_aloof f p ps
+notify_aloof f from None p ps = begins_aloof f None p ps
 notify_aloof f from (Some own) p ps =
-    elim (same_stamp own.stamp p.stamp) as (λ b. PullsAloof (elim b [ true ↦ sends (packet f from (body.Have p.file p.stamp) ∷ []) ps | false ↦ elim (is_below own.vector p.vector) [ true ↦ begins_pull f p ps | false ↦ quiet ps ] ])) [
+    elim (same_stamp own.stamp p.stamp) as (λ b. PullsAloof (elim b [ true ↦ sends (packet f from (body.Have p.file p.stamp) ∷ []) ps | false ↦ elim (is_below own.vector p.vector) [ true ↦ begins_pull f (Some own) p ps | false ↦ quiet ps ] ])) [
       | true ↦ record { told = tt; none = refl; sent = (tt, tt) }
-      | false ↦ elim (is_below own.vector p.vector) as (λ b. PullsAloof (elim b [ true ↦ begins_pull f p ps | false ↦ quiet ps ])) [ true ↦ begins_aloof f p ps | false ↦ quiet_aloof ps ]
+      | false ↦ elim (is_below own.vector p.vector) as (λ b. PullsAloof (elim b [ true ↦ begins_pull f (Some own) p ps | false ↦ quiet ps ])) [ true ↦ begins_aloof f (Some own) p ps | false ↦ quiet_aloof ps ]
     ]
+
+pub delta_aloof : (f : Frame) (own : ℕ) (stamp : Stamp) (pages : List ℕ) (o : Option Pull) (ps : List Pull) → PullsAloof (on_delta_of f own stamp pages o ps)
+delta_aloof f own stamp pages None ps = quiet_aloof ps
+delta_aloof f own stamp pages (Some p) ps =
+    elim (is_delta own p stamp pages) as (λ b. PullsAloof (elim b [ true ↦ goes_on f (record p { wanted = Some pages }) ps | false ↦ quiet ps ])) [ true ↦ record { told = tt; none = refl; sent = pull_aloof f (record p { wanted = Some pages }) } | false ↦ quiet_aloof ps ]
 
 pub page_aloof : (f : Frame) (stamp : Stamp) (page : ℕ) (bytes : List ℕ) (o : Option Pull) (ps : List Pull) → PullsAloof (on_page_of f stamp page bytes o ps)
 page_aloof f stamp page bytes None ps = quiet_aloof ps
@@ -180,6 +190,10 @@ page_aloof f stamp page bytes (Some p) ps =
 pulled_aloof : (f : Frame) (from : ℕ) (file : FileId) (stamp : Stamp) (page : ℕ) (o : Option FileCopy) → Every Factless (pulled_page f from file stamp page o)
 pulled_aloof f from file stamp page None = tt
 pulled_aloof f from file stamp page (Some x) = every_cond Factless (has_page stamp page x) _ [] (tt, tt) tt
+
+wanted_aloof : (f : Frame) (from : ℕ) (file : FileId) (wanted own : Stamp) (s : Store) (o : Option FileCopy) → Every Factless (wanted_delta f from file wanted own s o)
+wanted_aloof f from file wanted own s None = tt
+wanted_aloof f from file wanted own s (Some x) = every_cond Factless (same_stamp x.stamp wanted) _ [] (tt, tt) tt
 
 -- ---- packets inside the epoch ----
 
@@ -191,7 +205,9 @@ inside_fact c me boot past from v e (body.OpenSs inst file mode set kind base ve
 inside_fact c me boot past from v e (body.Opened inst answer) here k h = with_part past me (on_opened (frame_in c me boot e) inst answer) v e (is_opened_in inst) here h (on_opened_talks (frame_in c me boot e) inst answer) (λ t g. on_opened_fact past (frame_in c me boot e) from inst answer t k g)
 inside_fact c me boot past from v e (body.OpenDone serial answer) here k h = user_part past me (frame_in c me boot e) v e (on_open_done (frame_in c me boot e) (kept_stamps v) serial answer v.users) refl here h (on_open_done_keep past (frame_in c me boot e) e.id (kept_stamps v) serial answer v.users refl k (users_in past me v e here h))
 inside_fact c me boot past from v e (body.Op serial n o seen) here k h = store_part c me boot past v e _ here h (on_op_fact (frame_in c me boot e) past (mending v (group_of (instance_of v.store (from_user from serial)))) (from_user from serial) n o seen v.store k.granted (inside_of past me v e here h).0)
+inside_fact c me boot past from v e (body.ReadHeld serial n at len) here k h = store_part c me boot past v e _ here h (on_read_held_fact (frame_in c me boot e) past (from_user from serial) n at len v.store k.granted (inside_of past me v e here h).0)
 inside_fact c me boot past from v e (body.OpDone serial n result) here k h = user_part past me (frame_in c me boot e) v e (on_op_done (frame_in c me boot e) serial n result v.users) refl here h (on_op_done_keep past (frame_in c me boot e) (Some e.id) serial n result v.users refl (users_in past me v e here h))
+inside_fact c me boot past from v e (body.AsHeld serial n len) here k h = user_part past me (frame_in c me boot e) v e (on_as_held (frame_in c me boot e) serial n v.users) refl here h (on_as_held_keep past (frame_in c me boot e) (Some e.id) serial n v.users refl (users_in past me v e here h))
 inside_fact c me boot past from v e (body.Close serial) here k h = store_part c me boot past v e _ here h (on_close_fact (frame_in c me boot e) past (from_user from serial) v.store k.granted (inside_of past me v e here h).0)
 inside_fact c me boot past from v e (body.Closed inst made) here k h = with_part past me (on_closed (frame_in c me boot e) from inst made) v e (is_opened_in inst) here h (on_closed_talks (frame_in c me boot e) from inst made) (λ t g. on_closed_fact past (frame_in c me boot e) from inst made t k g)
 inside_fact c me boot past from v e (body.ClosedOk inst) here k h = store_part c me boot past v e _ here h (on_closed_ok_fact (frame_in c me boot e) past inst v.store k (inside_of past me v e here h).0)
@@ -200,14 +216,19 @@ inside_fact c me boot past from v e (body.Look call process request take file wh
 inside_fact c me boot past from v e (body.LookSs us call process request take file what serve) here k h = plain_fine past me v _ refl refl refl refl tt refl (tt, tt) h
 inside_fact c me boot past from v e (body.LookDone call request take answer) here k h = user_part past me (frame_in c me boot e) v e (on_look_done (frame_in c me boot e) call request take answer v.users) refl here h (on_look_done_keep past (frame_in c me boot e) (Some e.id) call request take answer v.users refl (users_in past me v e here h))
 inside_fact c me boot past from v e (body.Notify file kind set size stamp vector holder) here k h =
-    let p : Pull = record { file = file; kind = kind; set = set; size = size; stamp = stamp; vector = vector; holder = holder; content = [] } in
+    let p : Pull = record { file = file; kind = kind; set = set; size = size; stamp = stamp; vector = vector; holder = holder; base = None; wanted = None; content = [] } in
     let o : Outcome (List Pull) = on_notify (frame_in c me boot e) from (copy_of v.store file) p v.pulls in
     let s : PullsAloof o = notify_aloof (frame_in c me boot e) from (copy_of v.store file) p v.pulls in
     plain_fine past me v (record { view = with_pulls v o.view; sent = o.sent; told = o.told; written = o.written }) refl refl refl refl s.told s.none s.sent h
 inside_fact c me boot past from v e (body.Pull file stamp page) here k h = plain_fine past me v _ refl refl refl refl tt refl (pulled_aloof (frame_in c me boot e) from file stamp page (copy_of v.store file)) h
+inside_fact c me boot past from v e (body.Want file wanted own) here k h = plain_fine past me v _ refl refl refl refl tt refl (wanted_aloof (frame_in c me boot e) from file wanted own v.store (copy_of v.store file)) h
 inside_fact c me boot past from v e (body.Page file stamp page bytes) here k h =
     let o : Outcome (List Pull) = on_page (frame_in c me boot e) file stamp page bytes v.pulls in
     let s : PullsAloof o = page_aloof (frame_in c me boot e) stamp page bytes (pull_of v.pulls file) v.pulls in
+    plain_fine past me v (record { view = with_pulls v o.view; sent = o.sent; told = o.told; written = o.written }) refl refl refl refl s.told s.none s.sent h
+inside_fact c me boot past from v e (body.Delta file wanted pages) here k h =
+    let o : Outcome (List Pull) = on_delta (frame_in c me boot e) (copy_of v.store file) file wanted pages v.pulls in
+    let s : PullsAloof o = delta_aloof (frame_in c me boot e) (pages_in (copy_of v.store file)) wanted pages (pull_of v.pulls file) v.pulls in
     plain_fine past me v (record { view = with_pulls v o.view; sent = o.sent; told = o.told; written = o.written }) refl refl refl refl s.told s.none s.sent h
 inside_fact c me boot past from v e (body.Have file stamp) here k h = group_part past me (on_have from file stamp) v e file.group here h (on_have_talks from file stamp) (λ t q g. on_have_fact past (frame_in c me boot e) from file stamp t g)
 inside_fact c me boot past from v e body.Poll here k h = quiet_fact past me v h

@@ -18,7 +18,7 @@ use Rattle.role_steps.specs.Own.{Every}
 use Rattle.role_steps.specs.Views.{Frame, SiteView, Told, DiskWrite, Outcome, Event, Calls, Receives, Ticks, Parts, Merges, GivesUp, quiet, sends, joined_to, first_written, boot_in, packet}
 use Rattle.role_steps.specs.Reports.{sync_repeats}
 use Rattle.role_steps.specs.Storage.{copy_of, store_repeats}
-use Rattle.role_steps.specs.Pulling.{pull_of, goes_on, begins_pull, replaces_pull, on_notify, is_awaited, on_page_of, pull_repeats}
+use Rattle.role_steps.specs.Pulling.{pull_of, goes_on, pull_over, begins_pull, replaces_pull, on_notify, is_awaited, pages_in, is_delta, on_page_of, on_delta_of, pull_repeats}
 use Rattle.role_steps.specs.Requests.{users_repeats}
 use Rattle.role_steps.specs.Using.{on_call}
 use Rattle.role_steps.specs.Versions.{is_below}
@@ -106,16 +106,20 @@ forming_not p x q h = subst (λ (y : Body). nat_lt (kind_number y) 6 ≡ false) 
 abbrev pub Silent : Outcome (List Pull) → Type 0
 Silent o = (o.told ≡ []) × (o.written ≡ None)
 
-begins_silent : (f : Frame) (p : Pull) (ps : List Pull) → Silent (begins_pull f p ps)
-begins_silent f p ps = elim (replaces_pull p (pull_of ps p.file)) as (λ b. Silent (elim b [ true ↦ goes_on f p ps | false ↦ quiet ps ])) [ true ↦ (refl, refl) | false ↦ (refl, refl) ]
+begins_silent : (f : Frame) (own : Option FileCopy) (p : Pull) (ps : List Pull) → Silent (begins_pull f own p ps)
+begins_silent f own p ps = elim (replaces_pull own p (pull_of ps p.file)) as (λ b. Silent (elim b [ true ↦ goes_on f (pull_over own p) ps | false ↦ quiet ps ])) [ true ↦ (refl, refl) | false ↦ (refl, refl) ]
 
 pub notify_silent : (f : Frame) (from : ℕ) (o : Option FileCopy) (p : Pull) (ps : List Pull) → Silent (on_notify f from o p ps)
-notify_silent f from None p ps = begins_silent f p ps
+notify_silent f from None p ps = begins_silent f None p ps
 notify_silent f from (Some own) p ps =
-    elim (same_stamp own.stamp p.stamp) as (λ b. Silent (elim b [ true ↦ sends (packet f from (body.Have p.file p.stamp) ∷ []) ps | false ↦ elim (is_below own.vector p.vector) [ true ↦ begins_pull f p ps | false ↦ quiet ps ] ])) [
+    elim (same_stamp own.stamp p.stamp) as (λ b. Silent (elim b [ true ↦ sends (packet f from (body.Have p.file p.stamp) ∷ []) ps | false ↦ elim (is_below own.vector p.vector) [ true ↦ begins_pull f (Some own) p ps | false ↦ quiet ps ] ])) [
       | true ↦ (refl, refl)
-      | false ↦ elim (is_below own.vector p.vector) as (λ b. Silent (elim b [ true ↦ begins_pull f p ps | false ↦ quiet ps ])) [ true ↦ begins_silent f p ps | false ↦ (refl, refl) ]
+      | false ↦ elim (is_below own.vector p.vector) as (λ b. Silent (elim b [ true ↦ begins_pull f (Some own) p ps | false ↦ quiet ps ])) [ true ↦ begins_silent f (Some own) p ps | false ↦ (refl, refl) ]
     ]
+
+pub delta_silent : (f : Frame) (own : ℕ) (stamp : Stamp) (pages : List ℕ) (o : Option Pull) (ps : List Pull) → Silent (on_delta_of f own stamp pages o ps)
+delta_silent f own stamp pages None ps = (refl, refl)
+delta_silent f own stamp pages (Some p) ps = elim (is_delta own p stamp pages) as (λ b. Silent (elim b [ true ↦ goes_on f (record p { wanted = Some pages }) ps | false ↦ quiet ps ])) [ true ↦ (refl, refl) | false ↦ (refl, refl) ]
 
 pub page_silent : (f : Frame) (stamp : Stamp) (page : ℕ) (bytes : List ℕ) (o : Option Pull) (ps : List Pull) → Silent (on_page_of f stamp page bytes o ps)
 page_silent f stamp page bytes None ps = (refl, refl)
@@ -143,12 +147,16 @@ received_fact K c me past links p (body.Install members) v q d k before ok h = u
 received_fact K c me past links p body.Joined v q d k before ok h = untried_fact (Now K me (takes c me links p body.Joined v).told) c me past links (takes c me links p body.Joined v) ok (on_joined_fact me past p.from p.epoch v h)
 received_fact K c me past links p (body.Notify file kind set size stamp vector holder) v q d k before ok h =
     let o : Outcome SiteView = takes_framed c me p v.epoch v in
-    let s : SiteSilent o = framed_notify c me p (body.Notify file kind set size stamp vector holder) v.epoch v q (λ f. notify_silent f p.from (copy_of v.store file) (record { file = file; kind = kind; set = set; size = size; stamp = stamp; vector = vector; holder = holder; content = [] }) v.pulls) in
+    let s : SiteSilent o = framed_notify c me p (body.Notify file kind set size stamp vector holder) v.epoch v q (λ f. notify_silent f p.from (copy_of v.store file) (record { file = file; kind = kind; set = set; size = size; stamp = stamp; vector = vector; holder = holder; base = None; wanted = None; content = [] }) v.pulls) in
     tried_fact (Now K me o.told) c me past links o s.0 s.1 ok (framed_fact c me past p (body.Notify file kind set size stamp vector holder) v.epoch v q refl (λ e. framed_epoch p v e d (forming_not p (body.Notify file kind set size stamp vector holder) q refl)) k h)
 received_fact K c me past links p (body.Page file stamp page bytes) v q d k before ok h =
     let o : Outcome SiteView = takes_framed c me p v.epoch v in
     let s : SiteSilent o = framed_notify c me p (body.Page file stamp page bytes) v.epoch v q (λ f. page_silent f stamp page bytes (pull_of v.pulls file) v.pulls) in
     tried_fact (Now K me o.told) c me past links o s.0 s.1 ok (framed_fact c me past p (body.Page file stamp page bytes) v.epoch v q refl (λ e. framed_epoch p v e d (forming_not p (body.Page file stamp page bytes) q refl)) k h)
+received_fact K c me past links p (body.Delta file wanted pages) v q d k before ok h =
+    let o : Outcome SiteView = takes_framed c me p v.epoch v in
+    let s : SiteSilent o = framed_notify c me p (body.Delta file wanted pages) v.epoch v q (λ f. delta_silent f (pages_in (copy_of v.store file)) wanted pages (pull_of v.pulls file) v.pulls) in
+    tried_fact (Now K me o.told) c me past links o s.0 s.1 ok (framed_fact c me past p (body.Delta file wanted pages) v.epoch v q refl (λ e. framed_epoch p v e d (forming_not p (body.Delta file wanted pages) q refl)) k h)
 received_fact K c me past links p (body.Report group copies) v q d k before ok h = inside_received K c me past links p (body.Report group copies) v q d refl k ok h
 received_fact K c me past links p (body.ReportOk group) v q d k before ok h = inside_received K c me past links p (body.ReportOk group) v q d refl k ok h
 received_fact K c me past links p (body.Open serial call process request file how) v q d k before ok h = inside_received K c me past links p (body.Open serial call process request file how) v q d refl k ok h
@@ -156,7 +164,9 @@ received_fact K c me past links p (body.OpenSs inst file mode set kind base vect
 received_fact K c me past links p (body.Opened inst answer) v q d k before ok h = inside_received K c me past links p (body.Opened inst answer) v q d refl k ok h
 received_fact K c me past links p (body.OpenDone serial answer) v q d k before ok h = inside_received K c me past links p (body.OpenDone serial answer) v q d refl k ok h
 received_fact K c me past links p (body.Op serial n o seen) v q d k before ok h = inside_received K c me past links p (body.Op serial n o seen) v q d refl k ok h
+received_fact K c me past links p (body.ReadHeld serial n at len) v q d k before ok h = inside_received K c me past links p (body.ReadHeld serial n at len) v q d refl k ok h
 received_fact K c me past links p (body.OpDone serial n result) v q d k before ok h = inside_received K c me past links p (body.OpDone serial n result) v q d refl k ok h
+received_fact K c me past links p (body.AsHeld serial n len) v q d k before ok h = inside_received K c me past links p (body.AsHeld serial n len) v q d refl k ok h
 received_fact K c me past links p (body.Close serial) v q d k before ok h = inside_received K c me past links p (body.Close serial) v q d refl k ok h
 received_fact K c me past links p (body.Closed inst made) v q d k before ok h = inside_received K c me past links p (body.Closed inst made) v q d refl k ok h
 received_fact K c me past links p (body.ClosedOk inst) v q d k before ok h = inside_received K c me past links p (body.ClosedOk inst) v q d refl k ok h
@@ -165,6 +175,7 @@ received_fact K c me past links p (body.Look call process request take file what
 received_fact K c me past links p (body.LookSs us call process request take file what serve) v q d k before ok h = inside_received K c me past links p (body.LookSs us call process request take file what serve) v q d refl k ok h
 received_fact K c me past links p (body.LookDone call request take answer) v q d k before ok h = inside_received K c me past links p (body.LookDone call request take answer) v q d refl k ok h
 received_fact K c me past links p (body.Pull file stamp page) v q d k before ok h = inside_received K c me past links p (body.Pull file stamp page) v q d refl k ok h
+received_fact K c me past links p (body.Want file wanted own) v q d k before ok h = inside_received K c me past links p (body.Want file wanted own) v q d refl k ok h
 received_fact K c me past links p (body.Have file stamp) v q d k before ok h = inside_received K c me past links p (body.Have file stamp) v q d refl k ok h
 
 -- ---- a tick ----

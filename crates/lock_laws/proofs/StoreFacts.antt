@@ -23,7 +23,8 @@ use Rattle.wire_messages.specs.declared.body.CloseAnswer.TheVariants as closing
 use Rattle.role_steps.specs.Own.{Every}
 use Rattle.role_steps.specs.Views.{Frame, Store, Told, Shown, Begins, Shuts, Reserves, Outcome, quiet, sends, and_then, to_some, to_sync, sync_site, serial_key}
 use Rattle.role_steps.specs.Storage.{StoreRequest, copy_of, instance_key, instance_of, is_open, own_ino, begun_instance, begins, with_instance, opened_packets, opens, opens_made, on_open_ss_of, on_open_ss, is_spent, instance_committed, commit_record, commits, next_stamp, next_vector, made_version, shut, closed_packets, shuts, shuts_again, closes_owing, closes, on_close_at, on_close_of, on_close, ends_at, on_closed_ok_of, on_closed_ok, closed_again, store_repeats}
-use Rattle.role_steps.specs.Operations.{act_record, acts, acts_committed, commits_owing, last_committed, commit_op, executes_effect, executes, op_again, by_number, on_op_at, on_op_of, on_op}
+use Rattle.role_steps.specs.of_dir_format.Entries.{nothing_seen}
+use Rattle.role_steps.specs.Operations.{act_record, acts, acts_committed, commits_owing, last_committed, commit_op, executes_effect, executes, op_again, by_number, on_op_at, on_op_of, on_op, in_form, nothing_to_mend, on_read_held}
 use Rattle.role_steps.specs.OperationEffects.{Mending, effect_of}
 use Rattle.role_steps.specs.declared.instances.Instance.{Instance}
 use Rattle.role_steps.specs.declared.instances.Stage.{Stage}
@@ -34,6 +35,7 @@ use Rattle.vector_laws.proofs.SyncFacts.{FoundAt, row_at, every_flat, every_late
 use Rattle.lock_laws.specs.Going.{WasBegunAt, WasShutAt, WasReleased, WasStarted, IsGranted}
 use Rattle.lock_laws.specs.Facts.{BodyFact, PacketFact, StageFact, InstanceFact, Fine}
 use Rattle.lock_laws.proofs.Facts.{one_later, onto_later, granted_later, instance_later, instances_later, then_fine}
+use Rattle.role_steps.proofs.HeldReads.{held_read_sent}
 
 abbrev pub StoreFact : List Told → ℕ → EpochId → Store → Type 0
 StoreFact past me e s = Every (InstanceFact past me e) s.instances
@@ -265,6 +267,16 @@ on_op_of_fact f past m key (Some i) n o seen s g k h = on_op_at_fact f past m i 
 
 pub on_op_fact : (f : Frame) (past : List Told) (m : Mending) (inst : Serial) (n : ℕ) (o : Op) (seen : List ℕ) (s : Store) → IsGranted past f.epoch (serial_key inst) → InStore f past s → StoreFine f past (on_op f m inst n o seen s)
 on_op_fact f past m inst n o seen s g h = on_op_of_fact f past m (serial_key inst) (instance_of s inst) n o seen s g (instance_at f past inst s h) h
+
+-- a held read is the operation that it stands for, but for the form of its answer
+form_fact : (f : Frame) (past : List Told) (i : Option Instance) (o : Outcome Store) → Every (PacketFact (onto o.told past)) (in_form i o).sent → StoreFine f past o → StoreFine f past (in_form i o)
+form_fact f past None o g h = h
+form_fact f past (Some i) o g h = record { view = h.view; sent = g; goes = h.goes; disk = h.disk }
+
+pub on_read_held_fact : (f : Frame) (past : List Told) (inst : Serial) (n at len : ℕ) (s : Store) → IsGranted past f.epoch (serial_key inst) → InStore f past s → StoreFine f past (on_read_held f inst n at len s)
+on_read_held_fact f past inst n at len s k h =
+    let o : Outcome Store = on_op f nothing_to_mend inst n (op.Read at len) nothing_seen s in
+    form_fact f past (instance_of s inst) o (held_read_sent (PacketFact (onto o.told past)) f (λ to serial m r. tt) (λ to serial m l. tt) inst n at len s) (on_op_fact f past nothing_to_mend inst n (op.Read at len) nothing_seen s k h)
 
 -- ---- repeats ----
 

@@ -10,10 +10,10 @@ use Rattle.trace_book.specs.declared.call.Call.TheVariants as call
 use Rattle.trace_book.specs.declared.descriptor.Beginning.{Beginning}
 use Rattle.trace_book.specs.declared.descriptor.Beginning.TheVariants as begins
 use Rattle.trace_book.specs.declared.operation.Op.{Op}
+use Rattle.trace_book.specs.declared.operation.Op.TheVariants as op
 use Rattle.trace_book.specs.declared.operation.Outcome.{Outcome as Result}
 use Rattle.trace_book.specs.declared.reply.Reply.{Reply}
 use Rattle.trace_book.specs.declared.reply.Reply.TheVariants as reply
-use Rattle.call_rules.specs.Descriptors.{beginning}
 use Rattle.call_rules.specs.declared.answer.Answer.{Answer}
 use Rattle.call_rules.specs.declared.want.Want.{Want}
 use Rattle.call_rules.specs.declared.want.Want.TheVariants as want
@@ -26,9 +26,9 @@ use Rattle.wire_messages.specs.declared.body.Granted.{Granted}
 use Rattle.wire_messages.specs.declared.body.Granted.TheVariants as granted
 use Rattle.role_steps.specs.Own.{Every}
 use Rattle.role_steps.specs.Tables.{first_that}
-use Rattle.role_steps.specs.Views.{Frame, Users, Told, Outcome, quiet, tells, and_then, to_some, to_sync, sync_site, serial_key}
-use Rattle.role_steps.specs.Requests.{waiting_key, instance_serial, without_waiting, user_instance, with_user_instance, without_user_instance, descriptors_of, request_packets, asks, asks_open, next_request, asks_op_of, asks_close_of, seen_by, users_repeats}
-use Rattle.role_steps.specs.Using.{reply_record, is_hopeless, without_hope, after_reply, holds_again, replies, asks_want, next_want, goes_on, frees, accepted, accept_record, on_call, takes_record, with_answer, takes_answer, takes_open, on_open_done_of, on_open_done, on_op_done_of, on_op_done, on_close_done_of, on_close_done, looks_again, with_brought, content_answer, takes_look, on_look_done_of, on_look_done, asks_open_of, asks_op_number, asks_take, changed_records, users_leave, op_answer, close_answer, opened_answer, kept_for, mended_file, own_call}
+use Rattle.role_steps.specs.Views.{Frame, Users, Told, Outcome, quiet, tells, and_then, packet, to_some, to_sync, sync_site, serial_key}
+use Rattle.role_steps.specs.Requests.{waiting_key, instance_serial, without_waiting, user_instance, with_user_instance, without_user_instance, operation_body, request_packets, asks, asks_open, next_request, asks_op_of, asks_close_of, seen_by, users_repeats}
+use Rattle.role_steps.specs.Using.{reply_record, is_hopeless, without_hope, after_reply, holds_again, replies, asks_want, next_want, goes_on, frees, accept_record, on_call, counted_users, counted_call, accepted_call, takes_record, with_answer, takes_answer, takes_copied, takes_open, version_read, on_open_done_of, on_open_done, on_op_done_of, on_as_held_of, keeps_brought, on_op_done, on_as_held, on_close_done_of, on_close_done, looks_again, with_brought, content_answer, takes_look, on_look_done_of, on_look_done, asks_open_of, asks_op_number, asks_held_number, asks_take, changed_records, users_leave, op_answer, close_answer, opened_answer, kept_for, mended_file}
 use Rattle.role_steps.specs.Using as using
 use Rattle.role_steps.specs.declared.users.Asking.{Asking}
 use Rattle.role_steps.specs.declared.users.Asking.TheVariants as asking
@@ -40,6 +40,7 @@ use Rattle.vector_laws.proofs.of_the_run.InsideSync.{every_row, every_without, F
 use Rattle.vector_laws.proofs.SyncFacts.{every_flat}
 use Rattle.lock_laws.specs.Facts.{IsGiven, PacketFact, NoFact, DoneFact, GrantedIn, HeldFact, AskingFact, WaitingFact, UsersFact}
 use Rattle.lock_laws.proofs.Facts.{no_fact, Aloof}
+use Rattle.role_steps.proofs.Caching.{kept_only}
 
 -- ---- packets ----
 
@@ -59,10 +60,15 @@ some_fact past f b (Some to) h = (no_fact past f.me to f.epoch b h, tt)
 sync_fact : (past : List Told) (f : Frame) (group : ℕ) (b : Body) → NoFact b → Every (PacketFact past) (to_sync f group b)
 sync_fact past f group b h = some_fact past f b (sync_site f.config f.members group) h
 
+-- a read that asks for the number of its bytes alone is of the same instance
+operation_fact : (past : List Told) (f : Frame) (ss serial number : ℕ) (copied : Option (List ℕ)) (it : Op) (seen : List ℕ) → IsGiven past f.epoch (serial_key (from_user f.me serial)) ss → PacketFact past (packet f ss (operation_body copied serial number it seen))
+operation_fact past f ss serial number (Some bytes) (op.Read at len) seen h = h
+operation_fact past f ss serial number copied it seen h = h
+
 request_fact : (past : List Told) (f : Frame) (o : Option EpochId) (w : WaitingCall) (a : Asking) → IsFrameOf f o → AskingFact past f.me o a → Every (PacketFact past) (request_packets f w a)
 request_fact past f o w (asking.Look file what take) q h = sync_fact past f file.group _ tt
 request_fact past f o w (asking.Open serial file how) q h = sync_fact past f file.group _ tt
-request_fact past f o w (asking.Op serial ss number it seen) q h = (grant_in past f o (serial_key (from_user f.me serial)) ss q h, tt)
+request_fact past f o w (asking.Op serial ss number it seen) q h = (operation_fact past f ss serial number w.copied it seen (grant_in past f o (serial_key (from_user f.me serial)) ss q h), tt)
 request_fact past f o w (asking.Close serial ss) q h = (grant_in past f o (serial_key (from_user f.me serial)) ss q h, tt)
 
 pub users_repeats_fact : (past : List Told) (f : Frame) (o : Option EpochId) (u : Users) → IsFrameOf f o → UsersFact past f.me o u → Every (PacketFact past) (users_repeats f u)
@@ -149,9 +155,9 @@ frees_fact past s o process _ u h = h
 pub on_call_keep : (past : List Told) (f : Frame) (o : Option EpochId) (now : Option EpochId) (process : ℕ) (words : Call) (u : Users) → IsFrameOf f o → UsersFact past f.me o u → UsersKeep past f o (on_call f now process words u)
 on_call_keep past f o now process words u q h =
     let n : ℕ = u.calls + 1 in
-    let w : WaitingCall = accepted process n words (beginning (descriptors_of u process) now (own_call f.me f.boot n) words) in
-    let counted : Users = frees process words (record u { calls = n }) in
-    tells_keep past f o (accept_record f.me f.boot process n words) counted (goes_on f w) tt (goes_on_keep past f o w counted q (frees_fact past f.me o process words (record u { calls = n }) (record { instances = h.instances; waiting = h.waiting })))
+    let w : WaitingCall = accepted_call f now process words u in
+    let counted : Users = counted_call f now process words u in
+    tells_keep past f o (accept_record f.me f.boot process n words) counted (goes_on f w) tt (goes_on_keep past f o w counted q (frees_fact past f.me o process words (counted_users f now process words u) (record { instances = h.instances; waiting = h.waiting })))
 
 -- ---- answers ----
 
@@ -161,7 +167,7 @@ takes_answer_keep past f o w a u q h = tells_keep past f o (takes_record f w a) 
 -- what is granted is held
 takes_open_keep : (past : List Told) (f : Frame) (e : EpochId) (kept : FileId → List Stamp) (serial : ℕ) (w : WaitingCall) (a : Granted) (u : Users) → f.epoch ≡ e → DoneFact past e (serial_key (from_user f.me serial)) a → UsersFact past f.me (Some e) u → UsersKeep past f (Some e) (takes_open f kept serial w a u)
 takes_open_keep past f e kept serial w (granted.Open ss ino size stamp vector) u q k h =
-    let i : UserInstance = record { serial = serial; ss = ss; vector = vector; ops = 0 } in
+    let i : UserInstance = record { serial = serial; ss = ss; vector = vector; ops = 0; reads = version_read size stamp w.asking } in
     takes_answer_keep past f (Some e) w _ (with_user_instance i u) q (record { instances = every_row (HeldFact past f.me (Some e)) instance_serial i u.instances k h.instances; waiting = h.waiting })
 takes_open_keep past f e kept serial w (granted.No why) u q k h = takes_answer_keep past f (Some e) w _ u q h
 
@@ -174,10 +180,21 @@ on_open_done_keep past f e kept serial a u q k h = on_open_done_of_keep past f e
 
 on_op_done_of_keep : (past : List Told) (f : Frame) (o : Option EpochId) (r : Result) (w : Option WaitingCall) (u : Users) → IsFrameOf f o → UsersFact past f.me o u → UsersKeep past f o (on_op_done_of f r w u)
 on_op_done_of_keep past f o r None u q h = quiet_keep past f o u h
-on_op_done_of_keep past f o r (Some w) u q h = takes_answer_keep past f o w (op_answer r) u q h
+on_op_done_of_keep past f o r (Some w) u q h = takes_answer_keep past f o w (op_answer r) (keeps_brought w.asking r u) q (kept_only (UsersFact past f.me o) w.asking r u (λ pages. record { instances = h.instances; waiting = h.waiting }))
 
 pub on_op_done_keep : (past : List Told) (f : Frame) (o : Option EpochId) (serial n : ℕ) (r : Result) (u : Users) → IsFrameOf f o → UsersFact past f.me o u → UsersKeep past f o (on_op_done f serial n r u)
 on_op_done_keep past f o serial n r u q h = on_op_done_of_keep past f o r (first_that (asks_op_number serial n r) u.waiting) u q h
+
+copied_keep : (past : List Told) (f : Frame) (o : Option EpochId) (w : WaitingCall) (copied : Option (List ℕ)) (u : Users) → IsFrameOf f o → UsersFact past f.me o u → UsersKeep past f o (takes_copied f w copied u)
+copied_keep past f o w None u q h = quiet_keep past f o u h
+copied_keep past f o w (Some bytes) u q h = takes_answer_keep past f o w _ u q h
+
+on_as_held_of_keep : (past : List Told) (f : Frame) (o : Option EpochId) (w : Option WaitingCall) (u : Users) → IsFrameOf f o → UsersFact past f.me o u → UsersKeep past f o (on_as_held_of f w u)
+on_as_held_of_keep past f o None u q h = quiet_keep past f o u h
+on_as_held_of_keep past f o (Some w) u q h = copied_keep past f o w w.copied u q h
+
+pub on_as_held_keep : (past : List Told) (f : Frame) (o : Option EpochId) (serial n : ℕ) (u : Users) → IsFrameOf f o → UsersFact past f.me o u → UsersKeep past f o (on_as_held f serial n u)
+on_as_held_keep past f o serial n u q h = on_as_held_of_keep past f o (first_that (asks_held_number serial n) u.waiting) u q h
 
 on_close_done_of_keep : (past : List Told) (f : Frame) (o : Option EpochId) (serial : ℕ) (a : CloseAnswer) (w : Option WaitingCall) (u : Users) → IsFrameOf f o → UsersFact past f.me o u → UsersKeep past f o (on_close_done_of f serial a w u)
 on_close_done_of_keep past f o serial a None u q h = quiet_keep past f o u h

@@ -78,6 +78,7 @@ BodyFact past from to e (body.OpenSs inst file mode set kind base vector parents
 BodyFact past from to e (body.Opened inst answer) = OpenedFact past from e (serial_key inst) answer
 BodyFact past from to e (body.OpenDone serial answer) = DoneFact past e (serial_key (from_user to serial)) answer
 BodyFact past from to e (body.Op serial n o seen) = IsGiven past e (serial_key (from_user from serial)) to
+BodyFact past from to e (body.ReadHeld serial n at len) = IsGiven past e (serial_key (from_user from serial)) to
 BodyFact past from to e (body.Close serial) = IsGiven past e (serial_key (from_user from serial)) to
 BodyFact past from to e (body.Closed inst made) = WasShutAt past from e (serial_key inst)
 BodyFact past from to e (body.ClosedOk inst) = WasReleased past e (serial_key inst)
@@ -92,6 +93,7 @@ NoFact (body.OpenSs inst file mode set kind base vector parents) = ⊥
 NoFact (body.Opened inst answer) = ⊥
 NoFact (body.OpenDone serial answer) = ⊥
 NoFact (body.Op serial n o seen) = ⊥
+NoFact (body.ReadHeld serial n at len) = ⊥
 NoFact (body.Close serial) = ⊥
 NoFact (body.Closed inst made) = ⊥
 NoFact (body.ClosedOk inst) = ⊥

@@ -58,14 +58,14 @@ pub struct Serial {
 }
 
 /// A member of an epoch with its boot number.
-#[derive(Clone, Copy, PartialEq, Eq)]
+#[derive(Clone, Copy)]
 pub struct Member {
     pub site: u8,
     pub boot: u32,
 }
 
 /// A version that a group starts with.
-#[derive(Clone, Copy, PartialEq, Eq)]
+#[derive(Clone, Copy)]
 pub struct Brought {
     pub ino: u16,
     pub stamp: Stamp,

@@ -3,7 +3,7 @@ ghost use Rattle.std.specs.Prelude.{◌≡◌, IfOk};
 use crate::{Bytes, EpochId, NoMemory, Stamp};
 
 /// Why a call is refused.
-#[derive(Clone, Drop)]
+#[derive(Clone)]
 pub enum Refusal {
     /// An open instance of this process of this site excludes the open.
     Busy { site: u8, process: u8 },
@@ -47,6 +47,38 @@ pub enum Refusal {
     Spent,
     /// The file to resolve has no conflict.
     NoConflict,
+}
+
+// Taken apart in one place: where a refusal is dropped, the prover sees one call, and not one for each name that it may hold.
+impl Drop for Refusal {
+    fn drop(self) {
+        match self {
+            Refusal::Busy {
+                site: _,
+                process: _,
+            }
+            | Refusal::Absent { name: _ }
+            | Refusal::NotDir { name: _ }
+            | Refusal::IsDir
+            | Refusal::Exists { ino: _ }
+            | Refusal::NotEmpty { name: _ }
+            | Refusal::Conflict { a: _, b: _ }
+            | Refusal::Ambiguous { a: _, b: _ }
+            | Refusal::NoStorage
+            | Refusal::NoPartition
+            | Refusal::Changed { epoch: _ }
+            | Refusal::BadDescriptor
+            | Refusal::Stale { epoch: _ }
+            | Refusal::TooLong
+            | Refusal::NoSpace { needed: _, free: _ }
+            | Refusal::NoInode
+            | Refusal::BadName
+            | Refusal::ReadOnly
+            | Refusal::NoDescriptor
+            | Refusal::Spent
+            | Refusal::NoConflict => {}
+        }
+    }
 }
 
 impl Refusal {

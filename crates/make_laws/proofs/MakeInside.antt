@@ -1,5 +1,5 @@
 -- Inside an epoch: the tables of a site know no file that is being made.
-use Rattle.std.proofs.Common.{◌≡◌, ℕ, List, [], ◌∷◌, Option, Some, refl, sym, subst, inl, inr}
+use Rattle.std.proofs.Common.{◌≡◌, ℕ, List, [], ◌∷◌, Option, Some, None, refl, sym, subst, inl, inr}
 use Rattle.locus_ids.specs.declared.ids.EpochId.{EpochId}
 use Rattle.locus_ids.specs.declared.config.Config.{Config}
 use Rattle.wire_messages.specs.declared.body.Body.{Body}
@@ -13,7 +13,7 @@ use Rattle.role_steps.specs.Storage.{copy_of, instance_of}
 use Rattle.role_steps.specs.Epochs.{frame_in, with_users}
 use Rattle.role_steps.specs.Adoption.{with_store}
 use Rattle.role_steps.specs.Mends.{mending, kept_stamps}
-use Rattle.role_steps.specs.Pulling.{on_notify, on_page}
+use Rattle.role_steps.specs.Pulling.{on_notify, on_page, on_delta}
 use Rattle.role_steps.specs.declared.pulls.Pull.{Pull}
 use Rattle.role_steps.specs.declared.rounds.InEpoch.{InEpoch}
 use Rattle.role_steps.specs.declared.synchronizing.SyncTable.{SyncTable}
@@ -24,15 +24,15 @@ use Rattle.wire_messages.specs.declared.body.ReportedCopy.{ReportedCopy}
 use Rattle.role_steps.specs.Views.{Begins, Reserves, members_of, serial_key}
 use Rattle.role_steps.specs.Opens.{open_key}
 use Rattle.role_steps.specs.Storage.{StoreRequest, on_open_ss, on_close, on_closed_ok}
-use Rattle.role_steps.specs.Operations.{on_op}
-use Rattle.role_steps.specs.Using.{on_open_done, on_op_done, on_close_done, on_look_done}
+use Rattle.role_steps.specs.Operations.{on_op, on_read_held}
+use Rattle.role_steps.specs.Using.{on_open_done, on_op_done, on_close_done, on_look_done, on_as_held}
 use Rattle.role_steps.specs.declared.synchronizing.OpenRow.{OpenRow}
 use Rattle.the_run.specs.Kept.{Among}
 use Rattle.pack_laws.specs.of_vector_laws.Facts.{ReportedFact}
 use Rattle.make_laws.specs.Tables.{Ordered}
 use Rattle.make_laws.proofs.Telling.{idle_aside, storing_aside}
-use Rattle.make_laws.proofs.RolesTell.{AllIdle, on_notify_idle, on_page_idle, on_open_done_idle, on_op_done_idle, on_close_done_idle, on_look_done_idle}
-use Rattle.make_laws.proofs.StoresTell.{StoreTells, on_close_tells, on_closed_ok_tells, on_op_tells}
+use Rattle.make_laws.proofs.RolesTell.{AllIdle, on_notify_idle, on_page_idle, on_open_done_idle, on_op_done_idle, on_close_done_idle, on_look_done_idle, on_delta_idle, on_as_held_idle}
+use Rattle.make_laws.proofs.StoresTell.{StoreTells, on_close_tells, on_closed_ok_tells, on_op_tells, on_read_held_tells}
 use Rattle.make_laws.proofs.Opening.{made_file, OpenTold, open_told}
 use Rattle.make_laws.proofs.TableTold.{ordered_before, all_fresh, IsForeign, not_tabular}
 use Rattle.make_laws.proofs.TableOpens.{AllPlain, on_opened_keeps}
@@ -103,7 +103,9 @@ inside_site c me boot past from v e (body.OpenSs inst file mode set kind base ve
 inside_site c me boot past from v e (body.Opened inst answer) here k law h = with_part c me past (λ (t : SyncTable). Unit {0}) (on_opened (frame_in c me boot e) inst answer) v e (is_opened_in inst) here (always v.tables) h (λ t z y. on_opened_keeps c past me e.members (frame_in c me boot e) inst answer t y)
 inside_site c me boot past from v e (body.OpenDone serial answer) here k law h = user_site c me past v (on_open_done (frame_in c me boot e) (kept_stamps v) serial answer v.users) (on_open_done_idle (frame_in c me boot e) (kept_stamps v) serial answer v.users) h
 inside_site c me boot past from v e (body.Op serial n o seen) here k law h = store_site c me past v (on_op (frame_in c me boot e) (mending v (group_of (instance_of v.store (from_user from serial)))) (from_user from serial) n o seen v.store) (on_op_tells (frame_in c me boot e) (mending v (group_of (instance_of v.store (from_user from serial)))) (from_user from serial) n o seen v.store) h
+inside_site c me boot past from v e (body.ReadHeld serial n at len) here k law h = store_site c me past v (on_read_held (frame_in c me boot e) (from_user from serial) n at len v.store) (on_read_held_tells (frame_in c me boot e) (from_user from serial) n at len v.store) h
 inside_site c me boot past from v e (body.OpDone serial n result) here k law h = user_site c me past v (on_op_done (frame_in c me boot e) serial n result v.users) (on_op_done_idle (frame_in c me boot e) serial n result v.users) h
+inside_site c me boot past from v e (body.AsHeld serial n len) here k law h = user_site c me past v (on_as_held (frame_in c me boot e) serial n v.users) (on_as_held_idle (frame_in c me boot e) serial n v.users) h
 inside_site c me boot past from v e (body.Close serial) here k law h = store_site c me past v (on_close (frame_in c me boot e) (from_user from serial) v.store) (on_close_tells (frame_in c me boot e) (from_user from serial) v.store) h
 inside_site c me boot past from v e (body.Closed inst made) here k law h = with_part c me past (TableClosed past e.id (serial_key inst) made) (on_closed (frame_in c me boot e) from inst made) v e (is_opened_in inst) here k h (λ t z y. on_closed_keeps c past me e.members (frame_in c me boot e) from inst made t (ordered_before (takes_inside (frame_in c me boot e) from (body.Closed inst made) v).told past law) z y)
 inside_site c me boot past from v e (body.ClosedOk inst) here k law h = store_site c me past v (on_closed_ok (frame_in c me boot e) inst v.store) (on_closed_ok_tells (frame_in c me boot e) inst v.store) h
@@ -112,13 +114,17 @@ inside_site c me boot past from v e (body.Look call process request take file wh
 inside_site c me boot past from v e (body.LookSs us call process request take file what serve) here k law h = plain_site c me past v _ refl refl tt h
 inside_site c me boot past from v e (body.LookDone call request take answer) here k law h = user_site c me past v (on_look_done (frame_in c me boot e) call request take answer v.users) (on_look_done_idle (frame_in c me boot e) call request take answer v.users) h
 inside_site c me boot past from v e (body.Notify file kind set size stamp vector holder) here k law h =
-    let p : Pull = record { file = file; kind = kind; set = set; size = size; stamp = stamp; vector = vector; holder = holder; content = [] } in
+    let p : Pull = record { file = file; kind = kind; set = set; size = size; stamp = stamp; vector = vector; holder = holder; base = None; wanted = None; content = [] } in
     let o : Outcome (List Pull) = on_notify (frame_in c me boot e) from (copy_of v.store file) p v.pulls in
     plain_site c me past v (record { view = with_pulls v o.view; sent = o.sent; told = o.told; written = o.written }) refl refl (idle_aside o.told (on_notify_idle (frame_in c me boot e) from (copy_of v.store file) p v.pulls).1) h
 inside_site c me boot past from v e (body.Pull file stamp page) here k law h = plain_site c me past v _ refl refl tt h
+inside_site c me boot past from v e (body.Want file wanted own) here k law h = plain_site c me past v _ refl refl tt h
 inside_site c me boot past from v e (body.Page file stamp page bytes) here k law h =
     let o : Outcome (List Pull) = on_page (frame_in c me boot e) file stamp page bytes v.pulls in
     plain_site c me past v (record { view = with_pulls v o.view; sent = o.sent; told = o.told; written = o.written }) refl refl (idle_aside o.told (on_page_idle (frame_in c me boot e) file stamp page bytes v.pulls).1) h
+inside_site c me boot past from v e (body.Delta file wanted pages) here k law h =
+    let o : Outcome (List Pull) = on_delta (frame_in c me boot e) (copy_of v.store file) file wanted pages v.pulls in
+    plain_site c me past v (record { view = with_pulls v o.view; sent = o.sent; told = o.told; written = o.written }) refl refl (idle_aside o.told (on_delta_idle (frame_in c me boot e) (copy_of v.store file) file wanted pages v.pulls).1) h
 inside_site c me boot past from v e (body.Have file stamp) here k law h = group_part c me past (on_have from file stamp) v e file.group here h (λ t q y. on_have_keeps c past me e.members (frame_in c me boot e) from file stamp t y)
 inside_site c me boot past from v e body.Poll here k law h = quiet_site c me past v h
 inside_site c me boot past from v e (body.Promise reach) here k law h = quiet_site c me past v h

@@ -19,13 +19,13 @@ use Rattle.role_steps.specs.Own.{Every}
 use Rattle.role_steps.specs.Tables.{row, without_row, first_that}
 use Rattle.role_steps.specs.Views.{Frame, SiteView, Event, Calls, Receives, Ticks, Parts, Merges, GivesUp, Told, Shown, Promises, DiskWrite, Outcome, quiet, sends, tells, and_then, joined_to, first_written, sync_site, pack_sites, all_groups}
 use Rattle.role_steps.specs.Reports.{new_table, on_have_of}
-use Rattle.role_steps.specs.Storage.{copy_of, with_copy}
+use Rattle.role_steps.specs.Storage.{copy_of}
 use Rattle.role_steps.specs.Using.{on_call, reply_record}
 use Rattle.role_steps.specs.Versions.{file_row}
 use Rattle.role_steps.specs.Epochs.{is_epoch_below, frame_in, leaves_of, leaves, promises, promised_view, reached, polls, round_id, begins_round, boots_where, part_boot, starts_part_of, starts_part, merge_boot, starts_merge, promise_packet, refuse_packet, on_poll, on_promise_of, on_refuse_of, own_groups, is_sync_site, joins, may_install, is_in, joined_packet, on_install, on_joined, passed_over, unanswered, chosen_members, chosen_set, installs_all, decides_if, passes_over_of, passes_over}
-use Rattle.role_steps.specs.Adoption.{notes_own_at, copy_adopted, adopt_record, table_group, with_table, with_store, without_pull, is_ready, is_above_own, adopts_pull, adopts_first}
+use Rattle.role_steps.specs.Adoption.{notes_own_at, adopt_record, table_group, with_table, without_pull, is_ready, adopts_pull, adopts_first, with_adopted, fits_own}
 use Rattle.role_steps.specs.Mends.{has_mend_in, wants_mend, starts_mend_of, starts_mend, starts_mends_in, row_file}
-use Rattle.role_steps.specs.Pulling.{pull_of}
+use Rattle.role_steps.specs.Pulling.{pull_of, pages_in}
 use Rattle.role_steps.specs.declared.pulls.Pull.{Pull}
 use Rattle.role_steps.specs.declared.rounds.InEpoch.{InEpoch}
 use Rattle.role_steps.specs.declared.rounds.Round.{Round}
@@ -38,7 +38,7 @@ use Rattle.the_run.proofs.InsideSync.{Found, row_found}
 use Rattle.pack_laws.specs.of_vector_laws.Facts.{onto}
 use Rattle.pack_laws.proofs.of_vector_laws.Facts.{onto_append}
 use Rattle.pack_laws.specs.of_lock_laws.Joins.{WasJoined}
-use Rattle.pack_laws.proofs.of_lock_laws.StepFacts.{SiteSilent, notify_silent, page_silent, framed_notify}
+use Rattle.pack_laws.proofs.of_lock_laws.StepFacts.{SiteSilent, notify_silent, page_silent, delta_silent, framed_notify}
 use Rattle.pack_laws.specs.of_vector_laws.Written.{WasTold}
 use Rattle.pack_laws.specs.of_lock_laws.Going.{WasStarted}
 use Rattle.pack_laws.proofs.of_lock_laws.GrantSites.{put_tables, rising_put, ascending_filter, made_rising, groups_ascend, passing, is_synced, SyncedBy}
@@ -61,15 +61,15 @@ noted_site c me now f p e (Some t) v here k q =
 adopts_pull_site : (c : Config) (me : ℕ) (past : List Told) (f : Frame) (p : Pull) (e : InEpoch) (v : SiteView) → v.epoch ≡ Some e → SiteMade c past me v → SiteKeeps c me past (adopts_pull f p v)
 adopts_pull_site c me past f p e v here h =
     let x : Told = Shown (adopt_record f p) in
-    let w : SiteView = without_pull p (with_store v (with_copy (copy_adopted p) v.store)) in
+    let w : SiteView = with_adopted p v in
     let q : MadeIn c (x ∷ past) me v (Some e) = in_aside c (x ∷ []) past me v (Some e) (tt, tt) (in_epoch c past me v e here h) in
     record { view = noted_site c me (x ∷ past) f p e (row table_group p.file.group v.tables) w here (row_found (TableMade c (x ∷ past) me e.id e.members) table_group p.file.group v.tables q.1) q; by = ((λ i g y. absurd y), tt); plain = (tt, tt) }
 
 adopts_first_site : (c : Config) (me : ℕ) (past : List Told) (f : Frame) (ps : List Pull) (e : InEpoch) (v : SiteView) → v.epoch ≡ Some e → SiteMade c past me v → SiteKeeps c me past (adopts_first f ps v)
 adopts_first_site c me past f [] e v here h = quiet_site c me past v h
 adopts_first_site c me past f (p ∷ ps) e v here h =
-    elim (is_ready v p) as (λ t. SiteKeeps c me past (elim t [ true ↦ elim (is_above_own p (copy_of v.store p.file)) [ true ↦ adopts_pull f p v | false ↦ adopts_first f ps (without_pull p v) ] | false ↦ adopts_first f ps v ])) [
-      | true ↦ elim (is_above_own p (copy_of v.store p.file)) as (λ t. SiteKeeps c me past (elim t [ true ↦ adopts_pull f p v | false ↦ adopts_first f ps (without_pull p v) ])) [
+    elim (is_ready v p) as (λ t. SiteKeeps c me past (elim t [ true ↦ elim (fits_own p (copy_of v.store p.file)) [ true ↦ adopts_pull f p v | false ↦ adopts_first f ps (without_pull p v) ] | false ↦ adopts_first f ps v ])) [
+      | true ↦ elim (fits_own p (copy_of v.store p.file)) as (λ t. SiteKeeps c me past (elim t [ true ↦ adopts_pull f p v | false ↦ adopts_first f ps (without_pull p v) ])) [
         | true ↦ adopts_pull_site c me past f p e v here h
         | false ↦ adopts_first_site c me past f ps e (without_pull p v) here (alike c past me v (without_pull p v) refl refl h)
       ]
@@ -296,8 +296,9 @@ received_site c me past links p (body.Promise reach) v q k synced order h = untr
 received_site c me past links p (body.Refuse promised) v q k synced order h = untried_site c me past links _ synced order (on_refuse_site c me past links p.epoch promised v.round v h)
 received_site c me past links p (body.Install members) v q k synced order h = untried_site c me past links _ synced order (on_install_site c me past p.from p.from_boot p.epoch members v synced (first_order (on_install c me p.from p.from_boot p.epoch members v).told (ends_event c me links (on_install c me p.from p.from_boot p.epoch members v).view).told past order) h)
 received_site c me past links p body.Joined v q k synced order h = untried_site c me past links _ synced order (on_joined_site c me past p.from p.epoch v h)
-received_site c me past links p (body.Notify file kind set size stamp vector holder) v q k synced order h = tried_framed c me past links p v k (framed_notify c me p (body.Notify file kind set size stamp vector holder) v.epoch v q (λ f. notify_silent f p.from (copy_of v.store file) (record { file = file; kind = kind; set = set; size = size; stamp = stamp; vector = vector; holder = holder; content = [] }) v.pulls)) synced order h
+received_site c me past links p (body.Notify file kind set size stamp vector holder) v q k synced order h = tried_framed c me past links p v k (framed_notify c me p (body.Notify file kind set size stamp vector holder) v.epoch v q (λ f. notify_silent f p.from (copy_of v.store file) (record { file = file; kind = kind; set = set; size = size; stamp = stamp; vector = vector; holder = holder; base = None; wanted = None; content = [] }) v.pulls)) synced order h
 received_site c me past links p (body.Page file stamp page bytes) v q k synced order h = tried_framed c me past links p v k (framed_notify c me p (body.Page file stamp page bytes) v.epoch v q (λ f. page_silent f stamp page bytes (pull_of v.pulls file) v.pulls)) synced order h
+received_site c me past links p (body.Delta file wanted pages) v q k synced order h = tried_framed c me past links p v k (framed_notify c me p (body.Delta file wanted pages) v.epoch v q (λ f. delta_silent f (pages_in (copy_of v.store file)) wanted pages (pull_of v.pulls file) v.pulls)) synced order h
 received_site c me past links p _ v q k synced order h = untried_framed c me past links p v k synced order h
 
 abbrev pub EventBrings : Config → List Told → SiteView → Event → Type 0

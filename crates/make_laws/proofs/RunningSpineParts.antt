@@ -18,12 +18,12 @@ use Rattle.role_steps.specs.Tables.{row, without_row, first_that}
 use Rattle.role_steps.specs.Views.{Frame, Store, Users, SiteView, Told, Shown, Begins, Shuts, Reserves, Promises, Outcome, quiet, sends, tells, and_then}
 use Rattle.role_steps.specs.Reports.{on_report, on_open, on_look, on_closed, on_have}
 use Rattle.role_steps.specs.Opens.{on_opened}
-use Rattle.role_steps.specs.Storage.{copy_of, with_copy, instance_of, on_open_ss, on_close, on_closed_ok}
-use Rattle.role_steps.specs.Operations.{on_op}
-use Rattle.role_steps.specs.Pulling.{pull_of, on_notify, on_page}
-use Rattle.role_steps.specs.Using.{on_call, on_open_done, on_op_done, on_close_done, on_look_done}
+use Rattle.role_steps.specs.Storage.{copy_of, instance_of, on_open_ss, on_close, on_closed_ok}
+use Rattle.role_steps.specs.Operations.{on_op, on_read_held}
+use Rattle.role_steps.specs.Pulling.{pull_of, on_notify, on_page, pages_in, on_delta}
+use Rattle.role_steps.specs.Using.{on_call, on_open_done, on_op_done, on_close_done, on_look_done, on_as_held}
 use Rattle.role_steps.specs.Epochs.{is_epoch_below, frame_in, with_users, leaves_of, leaves, promises, promised_view, reached, polls, round_id, begins_round, boots_where, part_boot, starts_part_of, promise_packet, refuse_packet, on_poll, on_promise_of, on_refuse_of, joins, may_install, is_in, joined_packet, on_install, on_joined, passed_over, unanswered, chosen_members, chosen_set, installs_all, decides_if, passes_over_of, passes_over}
-use Rattle.role_steps.specs.Adoption.{notes_own_at, copy_adopted, table_group, with_store, without_pull, is_ready, is_above_own, adopts_pull, adopts_first}
+use Rattle.role_steps.specs.Adoption.{notes_own_at, table_group, with_store, without_pull, is_ready, adopts_pull, adopts_first, with_adopted, fits_own}
 use Rattle.role_steps.specs.Mends.{mending, kept_stamps, has_mend_in, wants_mend, starts_mend_of, starts_mend, starts_mends_in, row_file}
 use Rattle.role_steps.specs.declared.pulls.Pull.{Pull}
 use Rattle.role_steps.specs.declared.rounds.InEpoch.{InEpoch}
@@ -39,8 +39,8 @@ use Rattle.pack_laws.specs.of_vector_laws.Facts.{onto}
 use Rattle.pack_laws.proofs.of_vector_laws.SiteDisks.{starts_mends_keeps, mends_of_keeps}
 use Rattle.pack_laws.specs.of_lock_laws.Joins.{WasJoined, JoinsAreOnce}
 use Rattle.pack_laws.proofs.of_lock_laws.Facts.{onto_later}
-use Rattle.pack_laws.proofs.of_lock_laws.StepFacts.{notify_silent, page_silent}
-use Rattle.make_laws.proofs.RunningUsersTell.{OfUsers, Tells, on_call_tells, on_open_done_tells, on_op_done_tells, on_close_done_tells, on_look_done_tells, users_leave_tells}
+use Rattle.pack_laws.proofs.of_lock_laws.StepFacts.{notify_silent, page_silent, delta_silent}
+use Rattle.make_laws.proofs.RunningUsersTell.{OfUsers, Tells, on_call_tells, on_open_done_tells, on_op_done_tells, on_close_done_tells, on_look_done_tells, users_leave_tells, on_as_held_tells}
 use Rattle.make_laws.proofs.RunningTablesTell.{OfTables, on_report_tells, on_open_tells, on_opened_tells, on_closed_tells, on_look_tells}
 use Rattle.make_laws.proofs.RunningSpine.{Facts, Owed, Free, IsStoreOf, Mine, JoinedTold, StoresJoined, Spine, InSite, SiteFact, AllOwed, DiskOwed, Keeps, alike, none_free, plain_keeps, quiet_keeps, then_keeps, in_epoch, free_owed, free_mine, free_joins}
 
@@ -62,6 +62,7 @@ free_tables = record {
 abbrev pub takes_store : Frame → ℕ → Body → SiteView → Outcome Store
 takes_store f from (body.OpenSs inst file mode set kind base vector parents) v = on_open_ss f (record { inst = inst; file = file; mode = mode; set = set; kind = kind; base = base; vector = vector; parents = parents }) v.store
 takes_store f from (body.Op serial n o seen) v = on_op f (mending v (group_of (instance_of v.store (from_user from serial)))) (from_user from serial) n o seen v.store
+takes_store f from (body.ReadHeld serial n at len) v = on_read_held f (from_user from serial) n at len v.store
 takes_store f from (body.Close serial) v = on_close f (from_user from serial) v.store
 takes_store f from (body.ClosedOk inst) v = on_closed_ok f inst v.store
 takes_store f from _ v = quiet v.store
@@ -138,7 +139,9 @@ inside_keeps F G s c me boot past from v e (body.OpenSs inst file mode set kind 
 inside_keeps F G s c me boot past from v e (body.Opened inst answer) here k h = table_part F G s me past (on_opened (frame_in c me boot e) inst answer) (first_that (is_opened_in inst) v.tables) v (on_opened_tells Free free_tables (frame_in c me boot e) inst answer) (λ t. (on_opened_talks (frame_in c me boot e) inst answer t).1) (λ order. h)
 inside_keeps F G s c me boot past from v e (body.OpenDone serial answer) here k h = user_part F G s me past v (on_open_done (frame_in c me boot e) (kept_stamps v) serial answer v.users) (on_open_done_tells Free free_users (frame_in c me boot e) (kept_stamps v) serial answer v.users) (λ order. h)
 inside_keeps F G s c me boot past from v e (body.Op serial n o seen) here k h = store_part F G me past v e (takes_store (frame_in c me boot e) from (body.Op serial n o seen) v) here h k
+inside_keeps F G s c me boot past from v e (body.ReadHeld serial n at len) here k h = store_part F G me past v e (takes_store (frame_in c me boot e) from (body.ReadHeld serial n at len) v) here h k
 inside_keeps F G s c me boot past from v e (body.OpDone serial n result) here k h = user_part F G s me past v (on_op_done (frame_in c me boot e) serial n result v.users) (on_op_done_tells Free free_users (frame_in c me boot e) serial n result v.users) (λ order. h)
+inside_keeps F G s c me boot past from v e (body.AsHeld serial n len) here k h = user_part F G s me past v (on_as_held (frame_in c me boot e) serial n v.users) (on_as_held_tells Free free_users (frame_in c me boot e) serial n v.users) (λ order. h)
 inside_keeps F G s c me boot past from v e (body.Close serial) here k h = store_part F G me past v e (takes_store (frame_in c me boot e) from (body.Close serial) v) here h k
 inside_keeps F G s c me boot past from v e (body.Closed inst made) here k h = table_part F G s me past (on_closed (frame_in c me boot e) from inst made) (first_that (is_opened_in inst) v.tables) v (on_closed_tells Free free_tables (frame_in c me boot e) from inst made) (λ t. (on_closed_talks (frame_in c me boot e) from inst made t).1) (λ order. h)
 inside_keeps F G s c me boot past from v e (body.ClosedOk inst) here k h = store_part F G me past v e (takes_store (frame_in c me boot e) from (body.ClosedOk inst) v) here h k
@@ -147,14 +150,19 @@ inside_keeps F G s c me boot past from v e (body.Look call process request take 
 inside_keeps F G s c me boot past from v e (body.LookSs us call process request take file what serve) here k h = plain_keeps F G s me past v _ refl refl tt tt (λ order. h)
 inside_keeps F G s c me boot past from v e (body.LookDone call request take answer) here k h = user_part F G s me past v (on_look_done (frame_in c me boot e) call request take answer v.users) (on_look_done_tells Free free_users (frame_in c me boot e) call request take answer v.users) (λ order. h)
 inside_keeps F G s c me boot past from v e (body.Notify file kind set size stamp vector holder) here k h =
-    let p : Pull = record { file = file; kind = kind; set = set; size = size; stamp = stamp; vector = vector; holder = holder; content = [] } in
+    let p : Pull = record { file = file; kind = kind; set = set; size = size; stamp = stamp; vector = vector; holder = holder; base = None; wanted = None; content = [] } in
     let o : Outcome (List Pull) = on_notify (frame_in c me boot e) from (copy_of v.store file) p v.pulls in
     let q : _ × _ = notify_silent (frame_in c me boot e) from (copy_of v.store file) p v.pulls in
     plain_keeps F G s me past v (record { view = with_pulls v o.view; sent = o.sent; told = o.told; written = o.written }) refl refl (silent_free o.told q.0) (none_free o.written q.1) (λ order. h)
 inside_keeps F G s c me boot past from v e (body.Pull file stamp page) here k h = plain_keeps F G s me past v _ refl refl tt tt (λ order. h)
+inside_keeps F G s c me boot past from v e (body.Want file wanted own) here k h = plain_keeps F G s me past v _ refl refl tt tt (λ order. h)
 inside_keeps F G s c me boot past from v e (body.Page file stamp page bytes) here k h =
     let o : Outcome (List Pull) = on_page (frame_in c me boot e) file stamp page bytes v.pulls in
     let q : _ × _ = page_silent (frame_in c me boot e) stamp page bytes (pull_of v.pulls file) v.pulls in
+    plain_keeps F G s me past v (record { view = with_pulls v o.view; sent = o.sent; told = o.told; written = o.written }) refl refl (silent_free o.told q.0) (none_free o.written q.1) (λ order. h)
+inside_keeps F G s c me boot past from v e (body.Delta file wanted pages) here k h =
+    let o : Outcome (List Pull) = on_delta (frame_in c me boot e) (copy_of v.store file) file wanted pages v.pulls in
+    let q : _ × _ = delta_silent (frame_in c me boot e) (pages_in (copy_of v.store file)) wanted pages (pull_of v.pulls file) v.pulls in
     plain_keeps F G s me past v (record { view = with_pulls v o.view; sent = o.sent; told = o.told; written = o.written }) refl refl (silent_free o.told q.0) (none_free o.written q.1) (λ order. h)
 inside_keeps F G s c me boot past from v e (body.Have file stamp) here k h = table_part F G s me past (on_have from file stamp) (row table_group file.group v.tables) v (λ t. tt) (λ t. refl) (λ order. h)
 inside_keeps F G s c me boot past from v e body.Poll here k h = quiet_keeps F G me past v (λ order. h)
@@ -171,15 +179,15 @@ noted_instances f p (Some t) v = (refl, refl)
 
 adopts_pull_part : (F : Facts) (G : Owed) → Spine F G → (me : ℕ) (past : List Told) (f : Frame) (p : Pull) (v : SiteView) → SiteFact F past me v → Keeps F G me past (adopts_pull f p v)
 adopts_pull_part F G s me past f p v h =
-    let w : SiteView = without_pull p (with_store v (with_copy (copy_adopted p) v.store)) in
+    let w : SiteView = with_adopted p v in
     let k : _ × _ = noted_instances f p (row table_group p.file.group v.tables) w in
     plain_keeps F G s me past v (adopts_pull f p v) k.0 k.1 (tt, tt) tt h
 
 adopts_first_part : (F : Facts) (G : Owed) → Spine F G → (me : ℕ) (past : List Told) (f : Frame) (ps : List Pull) (v : SiteView) → SiteFact F past me v → Keeps F G me past (adopts_first f ps v)
 adopts_first_part F G s me past f [] v h = quiet_keeps F G me past v h
 adopts_first_part F G s me past f (p ∷ ps) v h =
-    elim (is_ready v p) as (λ t. Keeps F G me past (elim t [ true ↦ elim (is_above_own p (copy_of v.store p.file)) [ true ↦ adopts_pull f p v | false ↦ adopts_first f ps (without_pull p v) ] | false ↦ adopts_first f ps v ])) [
-      | true ↦ elim (is_above_own p (copy_of v.store p.file)) as (λ t. Keeps F G me past (elim t [ true ↦ adopts_pull f p v | false ↦ adopts_first f ps (without_pull p v) ])) [
+    elim (is_ready v p) as (λ t. Keeps F G me past (elim t [ true ↦ elim (fits_own p (copy_of v.store p.file)) [ true ↦ adopts_pull f p v | false ↦ adopts_first f ps (without_pull p v) ] | false ↦ adopts_first f ps v ])) [
+      | true ↦ elim (fits_own p (copy_of v.store p.file)) as (λ t. Keeps F G me past (elim t [ true ↦ adopts_pull f p v | false ↦ adopts_first f ps (without_pull p v) ])) [
         | true ↦ adopts_pull_part F G s me past f p v h
         | false ↦ adopts_first_part F G s me past f ps (without_pull p v) (alike F past me v (without_pull p v) refl refl h)
       ]

@@ -13,7 +13,7 @@ use Rattle.wire_messages.specs.declared.body.Body.{Body}
 use Rattle.wire_messages.specs.declared.body.Body.TheVariants as body
 use Rattle.role_steps.specs.Views.{SiteView, Told, DiskWrite, Outcome, Event, Calls, Receives, Ticks, Parts, Merges, GivesUp, quiet, joined_to, first_written, boot_in}
 use Rattle.role_steps.specs.Storage.{copy_of}
-use Rattle.role_steps.specs.Pulling.{pull_of}
+use Rattle.role_steps.specs.Pulling.{pull_of, pages_in}
 use Rattle.role_steps.specs.Epochs.{frame_in, leaves, starts_part, starts_merge, boots_where, merge_boot}
 use Rattle.role_steps.specs.declared.rounds.InEpoch.{InEpoch}
 use Rattle.the_run.specs.Steps.{is_framed, is_forming, is_dropped, takes_framed, takes, adopts_in, tries_at, ends_event, whole, call_frame, epoch_id, takes_call, step}
@@ -25,7 +25,7 @@ use Rattle.pack_laws.proofs.of_run_laws.InsideSteps.{adopts_of_inner, call_inner
 use Rattle.pack_laws.proofs.of_run_laws.Steps.{EventNames, takes_fine, starts_part_fine, begins_fine, leaves_of_fine}
 use Rattle.pack_laws.specs.of_vector_laws.Facts.{onto}
 use Rattle.pack_laws.proofs.of_vector_laws.SiteDisks.{ends_keeps}
-use Rattle.pack_laws.proofs.of_lock_laws.StepFacts.{SiteSilent, notify_silent, page_silent, framed_notify}
+use Rattle.pack_laws.proofs.of_lock_laws.StepFacts.{SiteSilent, notify_silent, page_silent, framed_notify, delta_silent}
 use Rattle.make_laws.proofs.RunningUsersTell.{on_call_tells}
 use Rattle.make_laws.proofs.RunningSpine.{Facts, Owed, Free, StoresJoined, Spine, InSite, SiteFact, Keeps, none_free, plain_keeps, quiet_keeps, then_keeps, stores_after}
 use Rattle.make_laws.proofs.RunningSpineParts.{free_users, takes_store, StoreDone, inside_keeps, adopts_part, leaves_part, begins_part, starts_part_part, on_poll_part, on_promise_part, on_refuse_part, on_install_part, on_joined_part, ends_part}
@@ -103,11 +103,14 @@ received F G s K L c me past links p (body.Refuse promised) v q d k before ok st
 received F G s K L c me past links p (body.Install members) v q d k before ok stores h = let o : Outcome SiteView = takes c me links p (body.Install members) v in untried F G s L c me past links o ok stores (on_install_part F G s K c me past p.from p.from_boot p.epoch members v before stores (λ order. h))
 received F G s K L c me past links p body.Joined v q d k before ok stores h = untried F G s L c me past links _ ok stores (on_joined_part F G s me past p.from p.epoch v (λ order. h))
 received F G s K L c me past links p (body.Notify file kind set size stamp vector holder) v q d k before ok stores h =
-    tried F G s L c me past links (takes_framed c me p v.epoch v) (framed_notify c me p (body.Notify file kind set size stamp vector holder) v.epoch v q (λ f. notify_silent f p.from (copy_of v.store file) (record { file = file; kind = kind; set = set; size = size; stamp = stamp; vector = vector; holder = holder; content = [] }) v.pulls)) ok stores
+    tried F G s L c me past links (takes_framed c me p v.epoch v) (framed_notify c me p (body.Notify file kind set size stamp vector holder) v.epoch v q (λ f. notify_silent f p.from (copy_of v.store file) (record { file = file; kind = kind; set = set; size = size; stamp = stamp; vector = vector; holder = holder; base = None; wanted = None; content = [] }) v.pulls)) ok stores
     (framed_keeps F G s c me past p v.epoch v d (forming_not p (body.Notify file kind set size stamp vector holder) q refl) k refl h)
 received F G s K L c me past links p (body.Page file stamp page bytes) v q d k before ok stores h =
     tried F G s L c me past links (takes_framed c me p v.epoch v) (framed_notify c me p (body.Page file stamp page bytes) v.epoch v q (λ f. page_silent f stamp page bytes (pull_of v.pulls file) v.pulls)) ok stores
     (framed_keeps F G s c me past p v.epoch v d (forming_not p (body.Page file stamp page bytes) q refl) k refl h)
+received F G s K L c me past links p (body.Delta file wanted pages) v q d k before ok stores h =
+    tried F G s L c me past links (takes_framed c me p v.epoch v) (framed_notify c me p (body.Delta file wanted pages) v.epoch v q (λ f. delta_silent f (pages_in (copy_of v.store file)) wanted pages (pull_of v.pulls file) v.pulls)) ok stores
+    (framed_keeps F G s c me past p v.epoch v d (forming_not p (body.Delta file wanted pages) q refl) k refl h)
 received F G s K L c me past links p (body.Report group copies) v q d k before ok stores h = inside_received F G s L c me past links p (body.Report group copies) v q d refl k ok stores h
 received F G s K L c me past links p (body.ReportOk group) v q d k before ok stores h = inside_received F G s L c me past links p (body.ReportOk group) v q d refl k ok stores h
 received F G s K L c me past links p (body.Open serial call process request file how) v q d k before ok stores h = inside_received F G s L c me past links p (body.Open serial call process request file how) v q d refl k ok stores h
@@ -115,7 +118,9 @@ received F G s K L c me past links p (body.OpenSs inst file mode set kind base v
 received F G s K L c me past links p (body.Opened inst answer) v q d k before ok stores h = inside_received F G s L c me past links p (body.Opened inst answer) v q d refl k ok stores h
 received F G s K L c me past links p (body.OpenDone serial answer) v q d k before ok stores h = inside_received F G s L c me past links p (body.OpenDone serial answer) v q d refl k ok stores h
 received F G s K L c me past links p (body.Op serial n o seen) v q d k before ok stores h = inside_received F G s L c me past links p (body.Op serial n o seen) v q d refl k ok stores h
+received F G s K L c me past links p (body.ReadHeld serial n at len) v q d k before ok stores h = inside_received F G s L c me past links p (body.ReadHeld serial n at len) v q d refl k ok stores h
 received F G s K L c me past links p (body.OpDone serial n result) v q d k before ok stores h = inside_received F G s L c me past links p (body.OpDone serial n result) v q d refl k ok stores h
+received F G s K L c me past links p (body.AsHeld serial n len) v q d k before ok stores h = inside_received F G s L c me past links p (body.AsHeld serial n len) v q d refl k ok stores h
 received F G s K L c me past links p (body.Close serial) v q d k before ok stores h = inside_received F G s L c me past links p (body.Close serial) v q d refl k ok stores h
 received F G s K L c me past links p (body.Closed inst made) v q d k before ok stores h = inside_received F G s L c me past links p (body.Closed inst made) v q d refl k ok stores h
 received F G s K L c me past links p (body.ClosedOk inst) v q d k before ok stores h = inside_received F G s L c me past links p (body.ClosedOk inst) v q d refl k ok stores h
@@ -124,6 +129,7 @@ received F G s K L c me past links p (body.Look call process request take file w
 received F G s K L c me past links p (body.LookSs us call process request take file what serve) v q d k before ok stores h = inside_received F G s L c me past links p (body.LookSs us call process request take file what serve) v q d refl k ok stores h
 received F G s K L c me past links p (body.LookDone call request take answer) v q d k before ok stores h = inside_received F G s L c me past links p (body.LookDone call request take answer) v q d refl k ok stores h
 received F G s K L c me past links p (body.Pull file stamp page) v q d k before ok stores h = inside_received F G s L c me past links p (body.Pull file stamp page) v q d refl k ok stores h
+received F G s K L c me past links p (body.Want file wanted own) v q d k before ok stores h = inside_received F G s L c me past links p (body.Want file wanted own) v q d refl k ok stores h
 received F G s K L c me past links p (body.Have file stamp) v q d k before ok stores h = inside_received F G s L c me past links p (body.Have file stamp) v q d refl k ok stores h
 
 -- ---- the step ----

@@ -7,9 +7,10 @@ use Rattle.trace_book.specs.declared.operation.Op.{Op}
 use Rattle.trace_book.specs.declared.operation.Op.TheVariants as op
 use Rattle.trace_book.specs.declared.operation.Outcome.TheVariants as result
 use Rattle.file_effects.specs.Works.{begins_owing, aborted}
-use Rattle.role_steps.specs.Views.{Frame, Store, Told, quiet, sends, serial_key}
+use Rattle.role_steps.specs.Views.{Frame, Store, Told, quiet, sends, serial_key, Outcome}
 use Rattle.role_steps.specs.Storage.{copy_of, content_of, instance_of}
-use Rattle.role_steps.specs.Operations.{executes, op_again, by_number, on_op_at, on_op_of, on_op}
+use Rattle.role_steps.specs.of_dir_format.Entries.{nothing_seen}
+use Rattle.role_steps.specs.Operations.{executes, op_again, by_number, on_op_at, on_op_of, on_op, in_form, nothing_to_mend, on_read_held}
 use Rattle.role_steps.specs.OperationEffects.{Mending, effect_of}
 use Rattle.role_steps.specs.declared.instances.Instance.{Instance}
 use Rattle.role_steps.specs.declared.instances.Stage.{Stage}
@@ -59,3 +60,12 @@ on_op_of_out sent past f m key (Some i) n o seen s to g k h = on_op_at_out sent 
 
 pub on_op_out : (sent : List Numbered) (past : List Told) (f : Frame) (m : Mending) (inst : Serial) (n : ℕ) (o : Op) (seen : List ℕ) (s : Store) → FoundToWrite o (instance_of s inst) → IsGranted past f.epoch (serial_key inst) → FoundHere sent past f s (serial_key inst) (instance_of s inst) → InStore sent past f s → StoreOut sent past f (on_op f m inst n o seen s)
 on_op_out sent past f m inst n o seen s to g k h = on_op_of_out sent past f m (serial_key inst) (instance_of s inst) n o seen s to g k h
+
+-- a held read is the operation that it stands for, but for the form of its answer
+form_out : (sent : List Numbered) (past : List Told) (f : Frame) (i : Option Instance) (o : Outcome Store) → StoreOut sent past f o → StoreOut sent past f (in_form i o)
+form_out sent past f None o h = h
+form_out sent past f (Some i) o h = record { view = h.view; owed = h.owed; here = h.here; disk = h.disk }
+
+pub on_read_held_out : (sent : List Numbered) (past : List Told) (f : Frame) (inst : Serial) (n at len : ℕ) (s : Store) → FoundToWrite (op.Read at len) (instance_of s inst) → IsGranted past f.epoch (serial_key inst) → FoundHere sent past f s (serial_key inst) (instance_of s inst) → InStore sent past f s → StoreOut sent past f (on_read_held f inst n at len s)
+on_read_held_out sent past f inst n at len s to g k h =
+    form_out sent past f (instance_of s inst) (on_op f nothing_to_mend inst n (op.Read at len) nothing_seen s) (on_op_out sent past f nothing_to_mend inst n (op.Read at len) nothing_seen s to g k h)

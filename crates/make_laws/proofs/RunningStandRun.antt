@@ -1,5 +1,6 @@
 -- In every run stores stand as they must, and tell only of what runs.
 use Rattle.std.proofs.Common.{◌≡◌, ◌≤◌, ℕ, true, List, Option, Some, None, refl, sym, ◌∙◌, subst, inl, inr}
+use Rattle.role_steps.proofs.of_plain_facts.Tests.{false_true}
 use Rattle.locus_ids.specs.declared.ids.EpochId.{EpochId}
 use Rattle.locus_ids.specs.declared.ids.FileId.{FileId}
 use Rattle.locus_ids.specs.declared.ids.Serial.{Serial}
@@ -8,6 +9,7 @@ use Rattle.locus_ids.specs.declared.ids.Mode.TheVariants as mode
 use Rattle.locus_ids.specs.declared.config.Config.{Config}
 use Rattle.schedule_lines.specs.declared.line.ScheduleLine.{ScheduleLine}
 use Rattle.trace_book.specs.declared.operation.Op.{Op}
+use Rattle.trace_book.specs.declared.operation.Op.TheVariants as op
 use Rattle.wire_messages.specs.declared.body.Body.{Body}
 use Rattle.wire_messages.specs.declared.body.Body.TheVariants as body
 use Rattle.role_steps.specs.Own.{Every}
@@ -40,7 +42,7 @@ use Rattle.make_laws.proofs.RunningSpineStep.{IsFramed}
 use Rattle.make_laws.proofs.RunningSpineRun.{Before, Where, Stores, where_kept, first_where}
 use Rattle.make_laws.proofs.RunningStand.{StandFacts, StandOwed, ChangesAreOfWriters, stand_spines}
 use Rattle.make_laws.proofs.RunningStandStore.{StoreOut, InStore, quiet_out, FoundHere, AsksHere, on_open_ss_out, on_close_out, on_closed_ok_out}
-use Rattle.make_laws.proofs.RunningStandOps.{FoundToWrite, on_op_out}
+use Rattle.make_laws.proofs.RunningStandOps.{FoundToWrite, on_op_out, on_read_held_out}
 use Rattle.make_laws.proofs.RunningUnderway.{UnderwaySent, sent_among, underway_kept, first_underway}
 use Rattle.make_laws.proofs.RunningPlacing.{PlacesSited, places_kept, first_places}
 
@@ -123,6 +125,11 @@ body_done c w x v e (body.Op serial n o seen) q k site p framed joined fact l h 
     let inst : Serial = from_user x.packet.from serial in
     let found : FoundHere w.sent (past_of w.trace) f v.store (serial_key inst) (instance_of v.store inst) = lookup w.sent (past_of w.trace) f v.store inst l h in
     on_op_out w.sent (past_of w.trace) f (mending v (group_of (instance_of v.store inst))) inst n o seen v.store (may_write w.sent (past_of w.trace) x f v.store e serial o (instance_of v.store inst) p k (change_of x serial n o seen q) framed joined refl found) fact.granted found h
+body_done c w x v e (body.ReadHeld serial n at len) q k site p framed joined fact l h =
+    let f : Frame = frame_in c x.packet.to v.boot e in
+    let inst : Serial = from_user x.packet.from serial in
+    let found : FoundHere w.sent (past_of w.trace) f v.store (serial_key inst) (instance_of v.store inst) = lookup w.sent (past_of w.trace) f v.store inst l h in
+    on_read_held_out w.sent (past_of w.trace) f inst n at len v.store (may_write w.sent (past_of w.trace) x f v.store e serial (op.Read at len) (instance_of v.store inst) p k (λ c. absurd (false_true c)) framed joined refl found) fact.granted found h
 body_done c w x v e (body.Close serial) q k site p framed joined fact l h =
     let f : Frame = frame_in c x.packet.to v.boot e in
     on_close_out w.sent (past_of w.trace) f (from_user x.packet.from serial) v.store fact.granted (lookup w.sent (past_of w.trace) f v.store (from_user x.packet.from serial) l h) h

@@ -15,13 +15,13 @@ use Rattle.wire_messages.specs.declared.body.LookAnswer.{LookAnswer}
 use Rattle.wire_messages.specs.declared.body.Granted.{Granted}
 use Rattle.role_steps.specs.Own.{Every}
 use Rattle.role_steps.specs.Views.{Frame, Users, Told, Shown, Takes, LooksAgain, Outcome, DiskWrite}
-use Rattle.role_steps.specs.Using.{on_call, on_open_done, on_op_done, on_close_done, on_look_done, own_call, reply_record, users_leave}
+use Rattle.role_steps.specs.Using.{on_call, on_open_done, on_op_done, on_as_held, on_close_done, on_look_done, own_call, reply_record, users_leave}
 use Rattle.role_steps.specs.declared.users.WaitingCall.{WaitingCall}
 use Rattle.role_steps.proofs.Sending.{every_map}
 use Rattle.pack_laws.specs.of_law_walks.Kinds.{IsCallRecord, TellsCall}
 use Rattle.pack_laws.specs.of_law_walks.Laws.{Law, frame_law, UsersKeep, Part}
 use Rattle.pack_laws.proofs.of_law_walks.Premises.{frame_users}
-use Rattle.pack_laws.proofs.of_law_walks.RoleWalks.{on_call_walk, on_open_done_walk, on_op_done_walk, on_close_done_walk, on_look_done_walk}
+use Rattle.pack_laws.proofs.of_law_walks.RoleWalks.{on_call_walk, on_open_done_walk, on_op_done_walk, on_as_held_walk, on_close_done_walk, on_look_done_walk}
 
 -- each kind of record that a using site tells has the property
 pub record OfUsers (P : Told → Type 0) : Type 0 where
@@ -69,6 +69,9 @@ on_open_done_tells P h f kept serial a u = tells_of P (on_open_done f kept seria
 
 pub on_op_done_tells : (P : Told → Type 0) → OfUsers P → (f : Frame) (serial n : ℕ) (r : Result) (u : Users) → Tells P (on_op_done f serial n r u)
 on_op_done_tells P h f serial n r u = tells_of P (on_op_done f serial n r u) (on_op_done_walk (telling P) f (users P h f) serial n r u)
+
+pub on_as_held_tells : (P : Told → Type 0) → OfUsers P → (f : Frame) (serial n : ℕ) (u : Users) → Tells P (on_as_held f serial n u)
+on_as_held_tells P h f serial n u = tells_of P (on_as_held f serial n u) (on_as_held_walk (telling P) f (users P h f) serial n u)
 
 pub on_close_done_tells : (P : Told → Type 0) → OfUsers P → (f : Frame) (serial : ℕ) (a : CloseAnswer) (u : Users) → Tells P (on_close_done f serial a u)
 on_close_done_tells P h f serial a u = tells_of P (on_close_done f serial a u) (on_close_done_walk (telling P) f (users P h f) serial a u)

@@ -19,10 +19,10 @@ use Rattle.role_steps.specs.Views.{Frame, SiteView, Told, Promises, Outcome, Eve
 use Rattle.role_steps.specs.Opens.{on_opened}
 use Rattle.role_steps.specs.Reports.{on_report, on_closed, on_have}
 use Rattle.role_steps.specs.Storage.{StoreRequest, copy_of, instance_of, on_open_ss}
-use Rattle.role_steps.specs.Pulling.{on_notify, on_page}
-use Rattle.role_steps.specs.Using.{on_call, on_open_done, on_op_done, on_close_done, on_look_done, reply_record}
+use Rattle.role_steps.specs.Pulling.{on_notify, on_page, on_delta}
+use Rattle.role_steps.specs.Using.{on_call, on_open_done, on_op_done, on_close_done, on_look_done, reply_record, on_as_held}
 use Rattle.role_steps.specs.Epochs.{is_epoch_below, frame_in, leaves_of, leaves, promised_view, promises, reached, polls, round_id, begins_round, starts_merge, boots_where, merge_boot, part_boot, starts_part_of, starts_part, promise_packet, refuse_packet, on_poll, on_promise_of, on_refuse_of, joins, may_install, is_in, joined_packet, on_install, on_joined, passed_over, unanswered, decides_if, passes_over_of, passes_over}
-use Rattle.role_steps.specs.Adoption.{table_group, is_ready, is_above_own, adopts_pull, without_pull, adopts_first}
+use Rattle.role_steps.specs.Adoption.{table_group, is_ready, adopts_pull, without_pull, adopts_first, fits_own}
 use Rattle.role_steps.specs.Mends.{mending, kept_stamps, has_mend_in, wants_mend, row_file, starts_mend_of, starts_mend, starts_mends_in}
 use Rattle.role_steps.specs.declared.pulls.Pull.{Pull}
 use Rattle.role_steps.specs.declared.rounds.InEpoch.{InEpoch}
@@ -34,9 +34,9 @@ use Rattle.role_steps.proofs.Sending.{every_append, every_map}
 use Rattle.the_run.specs.Steps.{from_user, group_of, at_table_of, is_opened_in, takes_inside, is_dropped, takes_framed, takes, adopts_of, adopts_in, tries_at, starts_mends_of, ends_event, whole, call_frame, epoch_id, takes_call, step}
 use Rattle.the_run.proofs.InsideSync.{Found, row_found}
 use Rattle.make_laws.proofs.Telling.{Groups, AnyGroup, At, idle_at, storing_at}
-use Rattle.make_laws.proofs.RolesTell.{AllIdle, on_notify_idle, on_page_idle, on_call_idle, on_open_done_idle, on_op_done_idle, on_close_done_idle, on_look_done_idle}
+use Rattle.make_laws.proofs.RolesTell.{AllIdle, on_notify_idle, on_page_idle, on_call_idle, on_open_done_idle, on_op_done_idle, on_close_done_idle, on_look_done_idle, on_delta_idle, on_as_held_idle}
 use Rattle.make_laws.proofs.TablesTell.{TableTells, on_open_tells, on_opened_tells, on_look_tells, on_closed_tells, on_report_tells}
-use Rattle.make_laws.proofs.StoresTell.{on_close_tells, on_closed_ok_tells, on_op_tells}
+use Rattle.make_laws.proofs.StoresTell.{on_close_tells, on_closed_ok_tells, on_op_tells, on_read_held_tells}
 
 -- ---- the synchronization site ----
 
@@ -53,8 +53,8 @@ tells_then G o p h g = every_append (At G) o.told p.told h g
 first_tells : (G : Groups) (f : Frame) (ps : List Pull) (v : SiteView) → SiteTells G (adopts_first f ps v)
 first_tells G f [] v = tt
 first_tells G f (p ∷ ps) v =
-    elim (is_ready v p) as (λ t. SiteTells G (elim t [ true ↦ elim (is_above_own p (copy_of v.store p.file)) [ true ↦ adopts_pull f p v | false ↦ adopts_first f ps (without_pull p v) ] | false ↦ adopts_first f ps v ])) [
-      | true ↦ elim (is_above_own p (copy_of v.store p.file)) as (λ t. SiteTells G (elim t [ true ↦ adopts_pull f p v | false ↦ adopts_first f ps (without_pull p v) ])) [
+    elim (is_ready v p) as (λ t. SiteTells G (elim t [ true ↦ elim (fits_own p (copy_of v.store p.file)) [ true ↦ adopts_pull f p v | false ↦ adopts_first f ps (without_pull p v) ] | false ↦ adopts_first f ps v ])) [
+      | true ↦ elim (fits_own p (copy_of v.store p.file)) as (λ t. SiteTells G (elim t [ true ↦ adopts_pull f p v | false ↦ adopts_first f ps (without_pull p v) ])) [
         | true ↦ (tt, tt)
         | false ↦ first_tells G f ps (without_pull p v)
       ]
@@ -170,7 +170,9 @@ inside_tells G f from (body.OpenSs inst file mode set kind base vector parents) 
 inside_tells G f from (body.Opened inst answer) v ts h = table_part G (on_opened f inst answer) (first_that (is_opened_in inst) v.tables) v (on_opened_tells G f inst answer)
 inside_tells G f from (body.OpenDone serial answer) v ts h = users_tell G (on_open_done f (kept_stamps v) serial answer v.users) (on_open_done_idle f (kept_stamps v) serial answer v.users)
 inside_tells G f from (body.Op serial n o seen) v ts h = storing_at G _ (on_op_tells f (mending v (group_of (instance_of v.store (from_user from serial)))) (from_user from serial) n o seen v.store)
+inside_tells G f from (body.ReadHeld serial n at len) v ts h = storing_at G _ (on_read_held_tells f (from_user from serial) n at len v.store)
 inside_tells G f from (body.OpDone serial n result) v ts h = users_tell G (on_op_done f serial n result v.users) (on_op_done_idle f serial n result v.users)
+inside_tells G f from (body.AsHeld serial n len) v ts h = users_tell G (on_as_held f serial n v.users) (on_as_held_idle f serial n v.users)
 inside_tells G f from (body.Close serial) v ts h = storing_at G _ (on_close_tells f (from_user from serial) v.store)
 inside_tells G f from (body.Closed inst made) v ts h = table_part G (on_closed f from inst made) (first_that (is_opened_in inst) v.tables) v (on_closed_tells G f from inst made)
 inside_tells G f from (body.ClosedOk inst) v ts h = storing_at G _ (on_closed_ok_tells f inst v.store)
@@ -179,10 +181,12 @@ inside_tells G f from (body.Look call process request take file what) v ts h = t
 inside_tells G f from (body.LookSs us call process request take file what serve) v ts h = tt
 inside_tells G f from (body.LookDone call request take answer) v ts h = users_tell G (on_look_done f call request take answer v.users) (on_look_done_idle f call request take answer v.users)
 inside_tells G f from (body.Notify file kind set size stamp vector holder) v ts h =
-    let p : Pull = record { file = file; kind = kind; set = set; size = size; stamp = stamp; vector = vector; holder = holder; content = [] } in
+    let p : Pull = record { file = file; kind = kind; set = set; size = size; stamp = stamp; vector = vector; holder = holder; base = None; wanted = None; content = [] } in
     idle_at G (on_notify f from (copy_of v.store file) p v.pulls).told (on_notify_idle f from (copy_of v.store file) p v.pulls).1
 inside_tells G f from (body.Pull file stamp page) v ts h = tt
+inside_tells G f from (body.Want file wanted own) v ts h = tt
 inside_tells G f from (body.Page file stamp page bytes) v ts h = idle_at G (on_page f file stamp page bytes v.pulls).told (on_page_idle f file stamp page bytes v.pulls).1
+inside_tells G f from (body.Delta file wanted pages) v ts h = idle_at G (on_delta f (copy_of v.store file) file wanted pages v.pulls).told (on_delta_idle f (copy_of v.store file) file wanted pages v.pulls).1
 inside_tells G f from (body.Have file stamp) v ts h = table_part G (on_have from file stamp) (row table_group file.group v.tables) v (λ t. tt)
 inside_tells G f from body.Poll v ts h = tt
 inside_tells G f from (body.Promise reach) v ts h = tt
@@ -248,13 +252,16 @@ took G c me links p body.Joined v ts q d = inl (whole_tells G c me links (takes 
 took G c me links p (body.OpenSs inst file m set kind base vector parents) v ts q d = opened_tells G c me links p (record { inst = inst; file = file; mode = m; set = set; kind = kind; base = base; vector = vector; parents = parents }) v.epoch v q d refl
 took G c me links p (body.Notify file kind set size stamp vector holder) v ts q d = inl (whole_tells G c me links (takes_framed c me p v.epoch v) (adopts_in c me) (framed_tells G c me p (body.Notify file kind set size stamp vector holder) v.epoch v ts q tt) (adopts_tells G c me (takes_framed c me p v.epoch v).view.epoch (takes_framed c me p v.epoch v).view))
 took G c me links p (body.Page file stamp page bytes) v ts q d = inl (whole_tells G c me links (takes_framed c me p v.epoch v) (adopts_in c me) (framed_tells G c me p (body.Page file stamp page bytes) v.epoch v ts q tt) (adopts_tells G c me (takes_framed c me p v.epoch v).view.epoch (takes_framed c me p v.epoch v).view))
+took G c me links p (body.Delta file wanted pages) v ts q d = inl (whole_tells G c me links (takes_framed c me p v.epoch v) (adopts_in c me) (framed_tells G c me p (body.Delta file wanted pages) v.epoch v ts q tt) (adopts_tells G c me (takes_framed c me p v.epoch v).view.epoch (takes_framed c me p v.epoch v).view))
 took G c me links p (body.Report group copies) v ts q d = inl (whole_tells G c me links (takes_framed c me p v.epoch v) quiet (framed_tells G c me p (body.Report group copies) v.epoch v ts q tt) tt)
 took G c me links p (body.ReportOk group) v ts q d = inl (whole_tells G c me links (takes_framed c me p v.epoch v) quiet (framed_tells G c me p (body.ReportOk group) v.epoch v ts q tt) tt)
 took G c me links p (body.Open serial call process request file how) v ts q d = inl (whole_tells G c me links (takes_framed c me p v.epoch v) quiet (framed_tells G c me p (body.Open serial call process request file how) v.epoch v ts q tt) tt)
 took G c me links p (body.Opened inst answer) v ts q d = inl (whole_tells G c me links (takes_framed c me p v.epoch v) quiet (framed_tells G c me p (body.Opened inst answer) v.epoch v ts q tt) tt)
 took G c me links p (body.OpenDone serial answer) v ts q d = inl (whole_tells G c me links (takes_framed c me p v.epoch v) quiet (framed_tells G c me p (body.OpenDone serial answer) v.epoch v ts q tt) tt)
 took G c me links p (body.Op serial n o seen) v ts q d = inl (whole_tells G c me links (takes_framed c me p v.epoch v) quiet (framed_tells G c me p (body.Op serial n o seen) v.epoch v ts q tt) tt)
+took G c me links p (body.ReadHeld serial n at len) v ts q d = inl (whole_tells G c me links (takes_framed c me p v.epoch v) quiet (framed_tells G c me p (body.ReadHeld serial n at len) v.epoch v ts q tt) tt)
 took G c me links p (body.OpDone serial n result) v ts q d = inl (whole_tells G c me links (takes_framed c me p v.epoch v) quiet (framed_tells G c me p (body.OpDone serial n result) v.epoch v ts q tt) tt)
+took G c me links p (body.AsHeld serial n len) v ts q d = inl (whole_tells G c me links (takes_framed c me p v.epoch v) quiet (framed_tells G c me p (body.AsHeld serial n len) v.epoch v ts q tt) tt)
 took G c me links p (body.Close serial) v ts q d = inl (whole_tells G c me links (takes_framed c me p v.epoch v) quiet (framed_tells G c me p (body.Close serial) v.epoch v ts q tt) tt)
 took G c me links p (body.Closed inst made) v ts q d = inl (whole_tells G c me links (takes_framed c me p v.epoch v) quiet (framed_tells G c me p (body.Closed inst made) v.epoch v ts q tt) tt)
 took G c me links p (body.ClosedOk inst) v ts q d = inl (whole_tells G c me links (takes_framed c me p v.epoch v) quiet (framed_tells G c me p (body.ClosedOk inst) v.epoch v ts q tt) tt)
@@ -263,6 +270,7 @@ took G c me links p (body.Look call process request take file what) v ts q d = i
 took G c me links p (body.LookSs us call process request take file what serve) v ts q d = inl (whole_tells G c me links (takes_framed c me p v.epoch v) quiet (framed_tells G c me p (body.LookSs us call process request take file what serve) v.epoch v ts q tt) tt)
 took G c me links p (body.LookDone call request take answer) v ts q d = inl (whole_tells G c me links (takes_framed c me p v.epoch v) quiet (framed_tells G c me p (body.LookDone call request take answer) v.epoch v ts q tt) tt)
 took G c me links p (body.Pull file stamp page) v ts q d = inl (whole_tells G c me links (takes_framed c me p v.epoch v) quiet (framed_tells G c me p (body.Pull file stamp page) v.epoch v ts q tt) tt)
+took G c me links p (body.Want file wanted own) v ts q d = inl (whole_tells G c me links (takes_framed c me p v.epoch v) quiet (framed_tells G c me p (body.Want file wanted own) v.epoch v ts q tt) tt)
 took G c me links p (body.Have file stamp) v ts q d = inl (whole_tells G c me links (takes_framed c me p v.epoch v) quiet (framed_tells G c me p (body.Have file stamp) v.epoch v ts q tt) tt)
 
 abbrev Took : Groups → Config → ℕ → SiteView → Packet → Outcome SiteView → Type 0

@@ -13,7 +13,8 @@ use Rattle.wire_messages.specs.declared.body.CloseAnswer.TheVariants as closing
 use Rattle.role_steps.specs.Own.{Every}
 use Rattle.role_steps.specs.Views.{Frame, Store, Outcome, quiet, sends, and_then}
 use Rattle.role_steps.specs.Storage.{instance_of, is_spent, commits, next_stamp, next_vector, shuts, shuts_again, closes_owing, closes, on_close_at, on_close_of, on_close, ends_at, on_closed_ok_of, on_closed_ok}
-use Rattle.role_steps.specs.Operations.{acts, acts_committed, commits_owing, last_committed, commit_op, executes_effect, executes, op_again, by_number, on_op_at, on_op_of, on_op}
+use Rattle.role_steps.specs.of_dir_format.Entries.{nothing_seen}
+use Rattle.role_steps.specs.Operations.{acts, acts_committed, commits_owing, last_committed, commit_op, executes_effect, executes, op_again, by_number, on_op_at, on_op_of, on_op, in_form, nothing_to_mend, on_read_held}
 use Rattle.role_steps.specs.OperationEffects.{Mending, effect_of}
 use Rattle.role_steps.specs.declared.instances.Instance.{Instance}
 use Rattle.role_steps.specs.declared.instances.Stage.{Stage}
@@ -117,3 +118,11 @@ op_of_tells f m (Some i) n o seen s = op_at_tells f m i i.stage n o seen s
 
 pub on_op_tells : (f : Frame) (m : Mending) (inst : Serial) (n : ℕ) (o : Op) (seen : List ℕ) (s : Store) → StoreTells (on_op f m inst n o seen s)
 on_op_tells f m inst n o seen s = op_of_tells f m (instance_of s inst) n o seen s
+
+-- a held read tells what the operation does that it stands for
+form_tells : (i : Option Instance) (o : Outcome Store) → StoreTells o → StoreTells (in_form i o)
+form_tells None o h = h
+form_tells (Some i) o h = h
+
+pub on_read_held_tells : (f : Frame) (inst : Serial) (n at len : ℕ) (s : Store) → StoreTells (on_read_held f inst n at len s)
+on_read_held_tells f inst n at len s = form_tells (instance_of s inst) (on_op f nothing_to_mend inst n (op.Read at len) nothing_seen s) (on_op_tells f nothing_to_mend inst n (op.Read at len) nothing_seen s)

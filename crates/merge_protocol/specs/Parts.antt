@@ -33,7 +33,7 @@ abbrev pub with_part : EpochPart → SiteView → SiteView
 with_part e v = record v { boot = e.boot; promised = e.promised; installed = e.installed; round = e.round; epoch = e.epoch; installs = e.installs; reports = e.reports }
 
 abbrev pub no_users : Users
-no_users = record { calls = 0; serials = 0; waiting = []; instances = []; descriptors = []; hopeless = [] }
+no_users = record { calls = 0; serials = 0; waiting = []; instances = []; descriptors = []; hopeless = []; cache = [] }
 
 -- a site that has nothing but its place in epochs
 abbrev pub alone : EpochPart → SiteView
@@ -46,7 +46,7 @@ alone e = record {
   installs = e.installs;
   reports = e.reports;
   tables = [];
-  store = record { copies = []; instances = [] };
+  store = record { copies = []; instances = []; steps = [] };
   users = no_users;
   pulls = [];
 }
@@ -59,7 +59,7 @@ epoch_named (Some e) = Some e.id
 
 -- the other roles drop what they have of the epoch that the site leaves, and waiting calls are answered
 abbrev pub dropped : SiteView → SiteView
-dropped v = record v { tables = []; store = record { copies = v.store.copies; instances = [] }; pulls = [] }
+dropped v = record v { tables = []; store = record { copies = v.store.copies; instances = []; steps = [] }; pulls = [] }
 
 abbrev pub rest_leaves : ℕ → Option EpochId → SiteView → Outcome SiteView
 rest_leaves me None v = quiet v

@@ -7,7 +7,7 @@ use role_steps::InEpoch;
 use wire_messages::{Body, Packet};
 
 /// Who sent a packet that forms an epoch, and the id of that epoch.
-#[derive(Clone, Copy, PartialEq, Eq)]
+#[derive(Clone, Copy)]
 pub struct FormingHeader {
     pub from: SiteId,
     pub from_boot: u32,

@@ -5,7 +5,7 @@ use thiserror::Error;
 use tree_acts::ActFault;
 
 /// What the tree says of a record.
-#[derive(Clone, Copy, PartialEq, Eq)]
+#[derive(Clone, Copy)]
 pub enum Applied {
     /// It is a step of the tree, and the tree gives it.
     Follows,
@@ -16,7 +16,7 @@ pub enum Applied {
 }
 
 /// Why a record was not taken.
-#[derive(Clone, Copy, Debug, PartialEq, Eq, Error)]
+#[derive(Clone, Copy, Debug, Error)]
 pub enum TreeFault {
     /// No lawful trace has it, as `OneTree::apply` says.
     #[error("a record or a history that can't be judged")]

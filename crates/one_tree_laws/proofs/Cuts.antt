@@ -1,11 +1,13 @@
 -- What an event writes has its fact even where the event is cut off in it: by what was before the event, and a fresh stamp.
 use Rattle.std.proofs.Common.{◌≡◌, ℕ, ◌+◌, nat_lt, Bool, true, false, cond, not, ◌&&◌, List, [], ◌∷◌, Option, Some, None, refl, sym, ◌∙◌, ap, subst}
+use Rattle.role_steps.proofs.HeldReads.{held_read_so}
 use Rattle.role_steps.proofs.of_plain_facts.Options.{none_some}
 use Rattle.locus_ids.specs.declared.config.Config.{Config}
 use Rattle.locus_ids.specs.declared.ids.EpochId.{EpochId}
 use Rattle.locus_ids.specs.declared.sites.Links.{Links}
 use Rattle.locus_ids.specs.declared.sites.Members.{Members}
 use Rattle.locus_ids.specs.declared.sites.Sites.{Sites}
+use Rattle.locus_ids.specs.declared.ids.Serial.{Serial}
 use Rattle.trace_book.specs.Same.{same_epoch}
 use Rattle.trace_book.specs.declared.record.Record.{Record}
 use Rattle.trace_book.specs.declared.record.Record.TheVariants as says
@@ -20,7 +22,7 @@ use Rattle.role_steps.specs.Adoption.{table_group}
 use Rattle.role_steps.specs.Epochs.{is_epoch_below, frame_in, leaves_of, leaves, promises, reached, round_id, begins_round, starts_merge, boots_where, merge_boot, part_boot, starts_part_of, starts_part, promise_packet, refuse_packet, on_poll, on_promise_of, on_refuse_of, joins, may_install, is_in, joined_packet, on_install, on_joined}
 use Rattle.role_steps.specs.Reports.{on_report, on_open, on_look, on_closed, on_have}
 use Rattle.role_steps.specs.Tables.{row, first_that}
-use Rattle.role_steps.specs.Using.{on_call, on_open_done, on_op_done, on_close_done, on_look_done}
+use Rattle.role_steps.specs.Using.{on_call, on_open_done, on_op_done, on_as_held, on_close_done, on_look_done}
 use Rattle.role_steps.specs.Views.{Frame, Store, SiteView, Told, Shown, Shuts, DiskWrite, Outcome, Event, Calls, Receives, Ticks, Parts, Merges, GivesUp, quiet, sends, and_then, first_written}
 use Rattle.role_steps.specs.declared.rounds.InEpoch.{InEpoch}
 use Rattle.role_steps.specs.declared.rounds.Round.{Round}
@@ -30,13 +32,13 @@ use Rattle.the_run.specs.Worlds.{Line, told_onto}
 use Rattle.kept_laws.specs.of_vector_laws.Written.{past_of}
 use Rattle.kept_laws.specs.of_vector_laws.HistoryCommits.{StampsAreOnce}
 use Rattle.call_row_laws.specs.of_run_laws.Words.{Talks}
-use Rattle.call_row_laws.proofs.of_run_laws.Telling.{on_open_ss_talks, on_closed_ok_talks, on_notify_talks, on_page_talks, on_call_talks, on_open_done_talks, on_op_done_talks, on_close_done_talks, on_look_done_talks, on_opened_talks, on_open_talks, on_look_talks, on_report_talks, on_closed_talks, on_have_talks}
+use Rattle.call_row_laws.proofs.of_run_laws.Telling.{on_open_ss_talks, on_closed_ok_talks, on_notify_talks, on_page_talks, on_delta_talks, on_call_talks, on_open_done_talks, on_op_done_talks, on_as_held_talks, on_close_done_talks, on_look_done_talks, on_opened_talks, on_open_talks, on_look_talks, on_report_talks, on_closed_talks, on_have_talks}
 use Rattle.kept_laws.proofs.of_vector_laws.SiteDisks.{ends_keeps}
-use Rattle.call_row_laws.proofs.of_lock_laws.StepFacts.{SiteSilent, notify_silent, page_silent, framed_notify}
+use Rattle.call_row_laws.proofs.of_lock_laws.StepFacts.{SiteSilent, notify_silent, page_silent, delta_silent, framed_notify}
 use Rattle.role_steps.specs.Mends.{kept_stamps, mending}
 use Rattle.role_steps.specs.OperationEffects.{Mending}
-use Rattle.role_steps.specs.Operations.{on_op}
-use Rattle.role_steps.specs.Pulling.{pull_of, on_notify, on_page}
+use Rattle.role_steps.specs.Operations.{on_op, on_read_held}
+use Rattle.role_steps.specs.Pulling.{pull_of, on_notify, on_page, pages_in, on_delta}
 use Rattle.role_steps.specs.declared.pulls.Pull.{Pull}
 use Rattle.role_steps.specs.Storage.{StoreRequest, copy_of, instance_of, on_open_ss, on_close, on_closed_ok}
 use Rattle.tree_laws.specs.Doing.{IsReceived, WriteFact, WrittenFact}
@@ -44,6 +46,7 @@ use Rattle.tree_laws.specs.Packets.{PacketFact}
 use Rattle.one_tree_laws.specs.Places.{InsideFact, SiteFact, SiteIn}
 use Rattle.one_tree_laws.specs.Rest.{AllRest, RestTold, Past, more}
 use Rattle.one_tree_laws.specs.Roles.{EventFact, Ready, RolesDo}
+use Rattle.one_tree_laws.specs.Wants.{Arrives}
 use Rattle.one_tree_laws.proofs.Forming.{adopts_fine}
 use Rattle.one_tree_laws.proofs.Deeds.{IsPlainRecord, IsPlain, IsShaped, on_close_shaped, on_op_shaped, adopts_shaped}
 use Rattle.one_tree_laws.proofs.Steps.{framed, same_store, to_boot}
@@ -100,6 +103,10 @@ table_writes : (c : Config) (n : ℕ) (trace : List Line) (f : Frame) (v : SiteV
 table_writes c n trace f v g h None = none_writes c n trace f.me v.store None refl
 table_writes c n trace f v g h (Some t) = none_writes c n trace f.me v.store (g t).written (h t).1
 
+-- a read whose asker has the bytes writes nothing
+held_unwritten : (f : Frame) (i : Serial) (k at len : ℕ) (s : Store) → (on_read_held f i k at len s).written ≡ None
+held_unwritten f i k at len s = (held_read_so (λ q. Unit {0}) (λ x. Unit {0}) (λ w. w ≡ None) f (record { full = λ to serial m r. tt; held = λ to serial m size. tt; told = λ inst m o r. tt; unwritten = refl }) i k at len s).2
+
 inside_writes : (c : Config) → RolesDo c → (n : ℕ) (trace : List Line) (f : Frame) (p : Packet) (b : Body) (v : SiteView) → Ready c trace f → InsideFact c f trace v → IsReceived f p → p.body ≡ b → PacketFact c trace p → WritesSo c n trace f.me v.store (takes_inside f p.from b v).written
 inside_writes c roles n trace f p (body.Report group copies) v ready h r q fact = table_writes c n trace f v (on_report f p.from copies) (on_report_talks f p.from copies) (row table_group group v.tables)
 inside_writes c roles n trace f p (body.Open serial call process request file how) v ready h r q fact =
@@ -112,6 +119,8 @@ inside_writes c roles n trace f p (body.Op serial k o seen) v ready h r q fact =
     (let m : Mending = mending v (group_of (instance_of v.store (from_user p.from serial))) in let out : Outcome Store = on_op f m (from_user p.from serial) k o seen v.store in
     by_fact (WriteFact c n trace f.me v.store) out.written d e (roles.stores.acts n trace f p serial k o seen v ready h (record { received = r; body_is = q; fact = fact }) (shaped_rest c n trace out.told out.written d (on_op_shaped f m (from_user p.from serial) k o seen v.store) e rest)).written)
 inside_writes c roles n trace f p (body.OpDone serial k result) v ready h r q fact = none_writes c n trace f.me v.store (on_op_done f serial k result v.users).written (on_op_done_talks f serial k result v.users).1
+inside_writes c roles n trace f p (body.ReadHeld serial k at len) v ready h r q fact = none_writes c n trace f.me v.store (on_read_held f (from_user p.from serial) k at len v.store).written (held_unwritten f (from_user p.from serial) k at len v.store)
+inside_writes c roles n trace f p (body.AsHeld serial k len) v ready h r q fact = none_writes c n trace f.me v.store (on_as_held f serial k v.users).written (on_as_held_talks f serial k v.users).1
 inside_writes c roles n trace f p (body.Close serial) v ready h r q fact = λ d e rest.
     (let out : Outcome Store = on_close f (from_user p.from serial) v.store in
     by_fact (WriteFact c n trace f.me v.store) out.written d e (roles.stores.closes n trace f p serial v.store ready h.store (record { received = r; body_is = q; fact = fact }) (shaped_rest c n trace out.told out.written d (on_close_shaped f (from_user p.from serial) v.store) e rest)).written)
@@ -122,8 +131,9 @@ inside_writes c roles n trace f p (body.Look call process request take file what
     let l : LookRequest = record { call = call; process = process; request = request; take = take; file = file; what = what } in table_writes c n trace f v (on_look f p.from l) (on_look_talks f p.from l) (row table_group file.group v.tables)
 inside_writes c roles n trace f p (body.LookDone call request take answer) v ready h r q fact = none_writes c n trace f.me v.store (on_look_done f call request take answer v.users).written (on_look_done_talks f call request take answer v.users).1
 inside_writes c roles n trace f p (body.Notify file kind set size stamp vector holder) v ready h r q fact =
-    let pull : Pull = record { file = file; kind = kind; set = set; size = size; stamp = stamp; vector = vector; holder = holder; content = [] } in none_writes c n trace f.me v.store (on_notify f p.from (copy_of v.store file) pull v.pulls).written (on_notify_talks f p.from (copy_of v.store file) pull v.pulls).1
+    let pull : Pull = record { file = file; kind = kind; set = set; size = size; stamp = stamp; vector = vector; holder = holder; base = None; wanted = None; content = [] } in none_writes c n trace f.me v.store (on_notify f p.from (copy_of v.store file) pull v.pulls).written (on_notify_talks f p.from (copy_of v.store file) pull v.pulls).1
 inside_writes c roles n trace f p (body.Page file stamp page bytes) v ready h r q fact = none_writes c n trace f.me v.store (on_page f file stamp page bytes v.pulls).written (on_page_talks f file stamp page bytes v.pulls).1
+inside_writes c roles n trace f p (body.Delta file wanted pages) v ready h r q fact = none_writes c n trace f.me v.store (on_delta f (copy_of v.store file) file wanted pages v.pulls).written (on_delta_talks f (copy_of v.store file) file wanted pages v.pulls).1
 inside_writes c roles n trace f p (body.Have file stamp) v ready h r q fact = table_writes c n trace f v (on_have p.from file stamp) (on_have_talks p.from file stamp) (row table_group file.group v.tables)
 inside_writes c roles n trace f p _ v ready h r q fact = none_writes c n trace f.me v.store None refl
 
@@ -184,18 +194,18 @@ no_try c n me trace s v = none_writes c n trace me s None refl
 still_writes : (c : Config) (n me : ℕ) (links : Links) (trace : List Line) (s : Store) (o : Outcome SiteView) → o.written ≡ None → WritesSo c n trace me s (whole c me links o quiet).written
 still_writes c n me links trace s o e = whole_writes c n me links trace s o quiet (none_writes c n trace me s o.written e) (no_try c n me trace s o.view)
 
-framed_writes : (c : Config) → RolesDo c → (n : ℕ) (trace : List Line) (p : Packet) (x : Body) (e : Option InEpoch) (v : SiteView) → p.body ≡ x → nat_lt (kind_number x) 6 ≡ false → is_dropped p v ≡ false → Past c trace → v.epoch ≡ e → SiteIn c p.to trace v e → PacketFact c trace p →
+framed_writes : (c : Config) → RolesDo c → (n : ℕ) (trace : List Line) (p : Packet) (x : Body) (e : Option InEpoch) (v : SiteView) → p.body ≡ x → nat_lt (kind_number x) 6 ≡ false → is_dropped p v ≡ false → Past c trace → v.epoch ≡ e → SiteIn c p.to trace v e → Arrives c trace p v →
     WritesSo c n trace p.to v.store (takes_framed c p.to p e v).written
 framed_writes c roles n trace p x None v q inside d followed here h fact = none_writes c n trace p.to v.store None refl
 framed_writes c roles n trace p x (Some e) v q inside d followed here h fact =
     inside_writes c roles n trace (frame_in c p.to v.boot e) p p.body v (record { past = followed; frame = h.frame }) h
-    (record { to_is = refl; to_boot_is = to_boot p v d; epoch_is = taken_epoch p x v e q inside d here; from_boot_is = taken_boot p x v e q inside d here }) refl fact
+    (record { to_is = refl; to_boot_is = to_boot p v d; epoch_is = taken_epoch p x v e q inside d here; from_boot_is = taken_boot p x v e q inside d here }) refl fact.fact
 
-came_writes : (c : Config) → RolesDo c → (n : ℕ) (links : Links) (trace : List Line) (p : Packet) (x : Body) (v : SiteView) → p.body ≡ x → nat_lt (kind_number x) 6 ≡ false → is_dropped p v ≡ false → Past c trace → SiteFact c p.to trace v → PacketFact c trace p → WritesSo c n trace p.to v.store (whole c p.to links (takes_framed c p.to p v.epoch v) quiet).written
+came_writes : (c : Config) → RolesDo c → (n : ℕ) (links : Links) (trace : List Line) (p : Packet) (x : Body) (v : SiteView) → p.body ≡ x → nat_lt (kind_number x) 6 ≡ false → is_dropped p v ≡ false → Past c trace → SiteFact c p.to trace v → Arrives c trace p v → WritesSo c n trace p.to v.store (whole c p.to links (takes_framed c p.to p v.epoch v) quiet).written
 came_writes c roles n links trace p x v q inside d followed h fact = whole_writes c n p.to links trace v.store (takes_framed c p.to p v.epoch v) quiet (framed_writes c roles n trace p x v.epoch v q inside d followed refl h fact) (no_try c n p.to trace v.store (takes_framed c p.to p v.epoch v).view)
 
 tried_writes : (c : Config) → RolesDo c → (n : ℕ) (links : Links) (trace : List Line) (p : Packet) (x : Body) (v : SiteView) → p.body ≡ x → nat_lt (kind_number x) 6 ≡ false → is_dropped p v ≡ false → ((f : Frame) → SiteSilent (takes_inside f p.from x v)) → ((f : Frame) → (takes_inside f p.from x v).view.store ≡ v.store) →
-    Past c trace → SiteFact c p.to trace v → PacketFact c trace p → WritesSo c n trace p.to v.store (whole c p.to links (takes_framed c p.to p v.epoch v) (adopts_in c p.to)).written
+    Past c trace → SiteFact c p.to trace v → Arrives c trace p v → WritesSo c n trace p.to v.store (whole c p.to links (takes_framed c p.to p v.epoch v) (adopts_in c p.to)).written
 tried_writes c roles n links trace p x v q inside d silent store followed h fact = whole_writes c n p.to links trace v.store o (adopts_in c p.to) (none_writes c n trace p.to v.store o.written s.1)
     (subst (λ (k : Store). WritesSo c n trace p.to k (adopts_in c p.to o.view).written) (same_store c p.to p x v.epoch v q store)
     (adopts_writes c roles n p.to trace o.view followed view))
@@ -209,7 +219,7 @@ tried_writes c roles n links trace p x v q inside d silent store followed h fact
     view : SiteFact c p.to trace o.view
     view = subst (λ (told : List Told). SiteFact c p.to (told_onto n told trace) o.view) s.0 (framed c roles n trace p x v.epoch v q inside d followed refl h fact (subst (AllRest c n trace) (sym s.0) tt)).view
 
-packet_writes : (c : Config) → RolesDo c → (n : ℕ) (links : Links) (trace : List Line) (p : Packet) (x : Body) (v : SiteView) → p.body ≡ x → is_dropped p v ≡ false → Past c trace → SiteFact c p.to trace v → PacketFact c trace p → WritesSo c n trace p.to v.store (whole c p.to links (takes c p.to links p x v) (tries_at c p.to x)).written
+packet_writes : (c : Config) → RolesDo c → (n : ℕ) (links : Links) (trace : List Line) (p : Packet) (x : Body) (v : SiteView) → p.body ≡ x → is_dropped p v ≡ false → Past c trace → SiteFact c p.to trace v → Arrives c trace p v → WritesSo c n trace p.to v.store (whole c p.to links (takes c p.to links p x v) (tries_at c p.to x)).written
 packet_writes c roles n links trace p body.Poll v q d followed h fact = still_writes c n p.to links trace v.store (on_poll p.to links p.from p.from_boot p.epoch v) (poll_none p.to links p.from p.from_boot p.epoch v)
 packet_writes c roles n links trace p (body.Promise reach) v q d followed h fact = still_writes c n p.to links trace v.store (on_promise_of p.from p.from_boot p.epoch reach v.round v) (promise_none p.from p.from_boot p.epoch reach v.round v)
 packet_writes c roles n links trace p (body.Refuse promised) v q d followed h fact = still_writes c n p.to links trace v.store (on_refuse_of p.to links p.epoch promised v.round v) (refuse_none p.to links p.epoch promised v.round v)
@@ -217,8 +227,9 @@ packet_writes c roles n links trace p (body.Install members) v q d followed h fa
 packet_writes c roles n links trace p body.Joined v q d followed h fact = still_writes c n p.to links trace v.store (on_joined p.from p.epoch v) refl
 packet_writes c roles n links trace p (body.Notify file kind set size stamp vector holder) v q d followed h fact =
     tried_writes c roles n links trace p (body.Notify file kind set size stamp vector holder) v q refl d
-    (λ f. notify_silent f p.from (copy_of v.store file) (record { file = file; kind = kind; set = set; size = size; stamp = stamp; vector = vector; holder = holder; content = [] }) v.pulls) (λ f. refl) followed h fact
+    (λ f. notify_silent f p.from (copy_of v.store file) (record { file = file; kind = kind; set = set; size = size; stamp = stamp; vector = vector; holder = holder; base = None; wanted = None; content = [] }) v.pulls) (λ f. refl) followed h fact
 packet_writes c roles n links trace p (body.Page file stamp page bytes) v q d followed h fact = tried_writes c roles n links trace p (body.Page file stamp page bytes) v q refl d (λ f. page_silent f stamp page bytes (pull_of v.pulls file) v.pulls) (λ f. refl) followed h fact
+packet_writes c roles n links trace p (body.Delta file wanted pages) v q d followed h fact = tried_writes c roles n links trace p (body.Delta file wanted pages) v q refl d (λ f. delta_silent f (pages_in (copy_of v.store file)) wanted pages (pull_of v.pulls file) v.pulls) (λ f. refl) followed h fact
 packet_writes c roles n links trace p (body.Report group copies) v q d followed h fact = came_writes c roles n links trace p (body.Report group copies) v q refl d followed h fact
 packet_writes c roles n links trace p (body.ReportOk group) v q d followed h fact = came_writes c roles n links trace p (body.ReportOk group) v q refl d followed h fact
 packet_writes c roles n links trace p (body.Open serial call process request file how) v q d followed h fact = came_writes c roles n links trace p (body.Open serial call process request file how) v q refl d followed h fact
@@ -227,6 +238,8 @@ packet_writes c roles n links trace p (body.Opened inst answer) v q d followed h
 packet_writes c roles n links trace p (body.OpenDone serial answer) v q d followed h fact = came_writes c roles n links trace p (body.OpenDone serial answer) v q refl d followed h fact
 packet_writes c roles n links trace p (body.Op serial k o seen) v q d followed h fact = came_writes c roles n links trace p (body.Op serial k o seen) v q refl d followed h fact
 packet_writes c roles n links trace p (body.OpDone serial k result) v q d followed h fact = came_writes c roles n links trace p (body.OpDone serial k result) v q refl d followed h fact
+packet_writes c roles n links trace p (body.ReadHeld serial k at len) v q d followed h fact = came_writes c roles n links trace p (body.ReadHeld serial k at len) v q refl d followed h fact
+packet_writes c roles n links trace p (body.AsHeld serial k len) v q d followed h fact = came_writes c roles n links trace p (body.AsHeld serial k len) v q refl d followed h fact
 packet_writes c roles n links trace p (body.Close serial) v q d followed h fact = came_writes c roles n links trace p (body.Close serial) v q refl d followed h fact
 packet_writes c roles n links trace p (body.Closed inst made) v q d followed h fact = came_writes c roles n links trace p (body.Closed inst made) v q refl d followed h fact
 packet_writes c roles n links trace p (body.ClosedOk inst) v q d followed h fact = came_writes c roles n links trace p (body.ClosedOk inst) v q refl d followed h fact
@@ -235,9 +248,10 @@ packet_writes c roles n links trace p (body.Look call process request take file 
 packet_writes c roles n links trace p (body.LookSs us call process request take file what serve) v q d followed h fact = came_writes c roles n links trace p (body.LookSs us call process request take file what serve) v q refl d followed h fact
 packet_writes c roles n links trace p (body.LookDone call request take answer) v q d followed h fact = came_writes c roles n links trace p (body.LookDone call request take answer) v q refl d followed h fact
 packet_writes c roles n links trace p (body.Pull file stamp page) v q d followed h fact = came_writes c roles n links trace p (body.Pull file stamp page) v q refl d followed h fact
+packet_writes c roles n links trace p (body.Want file wanted own) v q d followed h fact = came_writes c roles n links trace p (body.Want file wanted own) v q refl d followed h fact
 packet_writes c roles n links trace p (body.Have file stamp) v q d followed h fact = came_writes c roles n links trace p (body.Have file stamp) v q refl d followed h fact
 
-takes_writes : (c : Config) → RolesDo c → (n : ℕ) (links : Links) (trace : List Line) (v : SiteView) (p : Packet) → Past c trace → SiteFact c p.to trace v → PacketFact c trace p → WritesSo c n trace p.to v.store (step c p.to links v (Receives p)).written
+takes_writes : (c : Config) → RolesDo c → (n : ℕ) (links : Links) (trace : List Line) (v : SiteView) (p : Packet) → Past c trace → SiteFact c p.to trace v → Arrives c trace p v → WritesSo c n trace p.to v.store (step c p.to links v (Receives p)).written
 takes_writes c roles n links trace v p followed h fact = over (is_dropped p v) refl
   where
     over : (b : Bool) → is_dropped p v ≡ b → WritesSo c n trace p.to v.store (elim b as (λ (x : Bool). Outcome SiteView) [ true ↦ quiet v | false ↦ whole c p.to links (takes c p.to links p p.body v) (tries_at c p.to p.body) ]).written

@@ -13,7 +13,7 @@ use Rattle.file_effects.specs.Effects.{Effect}
 use Rattle.file_effects.specs.Works.{counted}
 use Rattle.wire_messages.specs.declared.body.CloseAnswer.{CloseAnswer}
 use Rattle.wire_messages.specs.declared.body.CloseAnswer.TheVariants as closing
-use Rattle.role_steps.specs.Adoption.{adopts_first, adopts_pull, is_ready, is_above_own, without_pull}
+use Rattle.role_steps.specs.Adoption.{adopts_first, adopts_pull, is_ready, without_pull, fits_own}
 use Rattle.role_steps.specs.Epochs.{frame_in}
 use Rattle.role_steps.specs.OperationEffects.{Mending, effect_of}
 use Rattle.role_steps.specs.Operations.{acts, acts_committed, commits_owing, last_committed, commit_op, executes_effect, executes, op_again, by_number, on_op_at, on_op_of, on_op}
@@ -136,8 +136,8 @@ on_op_shaped f m inst n o seen s = op_of_shaped f m (instance_of s inst) n o see
 first_shaped : (f : Frame) (ps : List Pull) (v : SiteView) → Shaped (adopts_first f ps v)
 first_shaped f [] v = tt
 first_shaped f (p ∷ ps) v =
-    elim (is_ready v p) as (λ t. Shaped (elim t [ true ↦ elim (is_above_own p (copy_of v.store p.file)) [ true ↦ adopts_pull f p v | false ↦ adopts_first f ps (without_pull p v) ] | false ↦ adopts_first f ps v ])) [
-      | true ↦ elim (is_above_own p (copy_of v.store p.file)) as (λ t. Shaped (elim t [ true ↦ adopts_pull f p v | false ↦ adopts_first f ps (without_pull p v) ])) [
+    elim (is_ready v p) as (λ t. Shaped (elim t [ true ↦ elim (fits_own p (copy_of v.store p.file)) [ true ↦ adopts_pull f p v | false ↦ adopts_first f ps (without_pull p v) ] | false ↦ adopts_first f ps v ])) [
+      | true ↦ elim (fits_own p (copy_of v.store p.file)) as (λ t. Shaped (elim t [ true ↦ adopts_pull f p v | false ↦ adopts_first f ps (without_pull p v) ])) [
         | true ↦ ([], refl, tt)
         | false ↦ first_shaped f ps (without_pull p v)
       ]

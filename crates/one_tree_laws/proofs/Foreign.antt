@@ -162,6 +162,7 @@ site_apart c roles n t x older None v k a h = record {
   };
   copies = copies_frame c n x older t v.store k a.store a.adopted h.copies;
   instances = h.instances;
+  steps = h.steps;
   tables = h.tables;
   pulls = h.pulls;
 }
@@ -175,7 +176,8 @@ site_apart c roles n t x older (Some e) v k a h =
       store = store_frame c n x older f v.store k a.store a.adopted h.store;
       groups = h.groups;
       tables = all_facts c f (more n x older) v.tables tables.each;
-      pulls = pulls_frame c n x older f v.pulls k h.pulls;
+      pulls = pulls_frame c n x older f v.pulls k a.adopted h.pulls;
+      pulls_ascend = h.pulls_ascend;
       reports = h.reports;
     }
 
@@ -186,7 +188,7 @@ place_apart c roles n t (Stopped d) x older k a h = record {
   outside = epoch_apart n x older t a.site ∙ h.outside;
   idle = idle_stays c n x older t a.users a.site h.idle;
   descriptors = λ process fd. descriptors_stay n t process fd x older a.users a.site ∙ h.descriptors process fd;
-  copies = copies_frame c n x older t (record { copies = d.copies; instances = [] }) k a.store a.adopted h.copies;
+  copies = copies_frame c n x older t (record { copies = d.copies; instances = []; steps = [] }) k a.store a.adopted h.copies;
 }
 
 -- ---- over all that one site tells ----

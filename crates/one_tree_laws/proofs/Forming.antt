@@ -8,11 +8,11 @@ use Rattle.locus_ids.specs.declared.sites.Members.{Members}
 use Rattle.locus_ids.specs.declared.sites.Sites.{Sites}
 use Rattle.trace_book.specs.Same.{same_epoch}
 use Rattle.wire_messages.specs.declared.packet.Packet.{Packet}
-use Rattle.role_steps.specs.Adoption.{adopts_first, adopts, notes_own_at, without_pull, with_store, copy_adopted, adopts_pull, is_ready, is_above_own, table_group}
+use Rattle.role_steps.specs.Adoption.{adopts_first, adopts, notes_own_at, without_pull, adopts_pull, is_ready, table_group, with_adopted, fits_own}
 use Rattle.role_steps.specs.Epochs.{is_epoch_below, frame_in, promises, reached, new_round, poll_packet, polled_sites, polls, round_id, begins_round, boots_where, part_boot, starts_part_of, promise_packet, refuse_packet, on_poll, counts_promise, with_promise, on_promise_of, on_refuse_of, joins, may_install, is_in, joined_packet, on_install, on_joined, passed_over, unanswered, chosen_members, chosen_set, others_of, install_packet, installs_all, decides, decides_if, passes_over_of, passes_over}
 use Rattle.role_steps.specs.Mends.{has_mend_in, wants_mend, starts_mend_of, starts_mend, starts_mends_in, starts_mends}
 use Rattle.role_steps.specs.Own.{Every}
-use Rattle.role_steps.specs.Storage.{copy_of, with_copy}
+use Rattle.role_steps.specs.Storage.{copy_of}
 use Rattle.role_steps.specs.Tables.{row, first_that, without_row}
 use Rattle.role_steps.specs.Views.{Frame, SiteView, Outcome, quiet, sends, and_then}
 use Rattle.role_steps.specs.declared.pulls.Pull.{Pull}
@@ -40,8 +40,8 @@ use Rattle.one_tree_laws.proofs.Leaving.{Gone, gone_site, promises_fine}
 
 pub site_alike : (c : Config) (me : ℕ) (t : List Line) (v : SiteView) (promised : EpochId) (installed : Bool) (round : Option Round) (installs : List ℕ) (o : Option InEpoch) → SiteIn c me t v o →
     SiteIn c me t (record v { promised = promised; installed = installed; round = round; installs = installs }) o
-site_alike c me t v promised installed round installs None h = record { up = h.up; outside = h.outside; users = h.users; copies = h.copies; instances = h.instances; tables = h.tables; pulls = h.pulls }
-site_alike c me t v promised installed round installs (Some e) h = record { frame = h.frame; users = h.users; store = h.store; groups = h.groups; tables = h.tables; pulls = h.pulls; reports = h.reports }
+site_alike c me t v promised installed round installs None h = record { up = h.up; outside = h.outside; users = h.users; copies = h.copies; instances = h.instances; steps = h.steps; tables = h.tables; pulls = h.pulls }
+site_alike c me t v promised installed round installs (Some e) h = record { frame = h.frame; users = h.users; store = h.store; groups = h.groups; tables = h.tables; pulls = h.pulls; pulls_ascend = h.pulls_ascend; reports = h.reports }
 
 abbrev Does : Config → ℕ → List Line → ℕ → Outcome SiteView → Type 0
 Does c n trace me o = SiteFine c n trace me (SiteFact c me) NoWrite o
@@ -167,13 +167,13 @@ noted_stands f p None v = (refl, refl)
 noted_stands f p (Some t) v = (refl, refl)
 
 adopts_pull_stands : (f : Frame) (p : Pull) (v : SiteView) → Stands v (adopts_pull f p v)
-adopts_pull_stands f p v = (let k : _ × _ = noted_stands f p (row table_group p.file.group v.tables) (without_pull p (with_store v (with_copy (copy_adopted p) v.store))) in record { boot = k.0; epoch = k.1 })
+adopts_pull_stands f p v = (let k : _ × _ = noted_stands f p (row table_group p.file.group v.tables) (with_adopted p v) in record { boot = k.0; epoch = k.1 })
 
-adopts_stand : (f : Frame) (ps : List Pull) (v : SiteView) → Stands v (adopts_first f ps v)
+pub adopts_stand : (f : Frame) (ps : List Pull) (v : SiteView) → Stands v (adopts_first f ps v)
 adopts_stand f [] v = stands_still v
 adopts_stand f (p ∷ ps) v =
-    elim (is_ready v p) as (λ t. Stands v (elim t [ true ↦ elim (is_above_own p (copy_of v.store p.file)) [ true ↦ adopts_pull f p v | false ↦ adopts_first f ps (without_pull p v) ] | false ↦ adopts_first f ps v ])) [
-      | true ↦ elim (is_above_own p (copy_of v.store p.file)) as (λ t. Stands v (elim t [ true ↦ adopts_pull f p v | false ↦ adopts_first f ps (without_pull p v) ])) [
+    elim (is_ready v p) as (λ t. Stands v (elim t [ true ↦ elim (fits_own p (copy_of v.store p.file)) [ true ↦ adopts_pull f p v | false ↦ adopts_first f ps (without_pull p v) ] | false ↦ adopts_first f ps v ])) [
+      | true ↦ elim (fits_own p (copy_of v.store p.file)) as (λ t. Stands v (elim t [ true ↦ adopts_pull f p v | false ↦ adopts_first f ps (without_pull p v) ])) [
         | true ↦ adopts_pull_stands f p v
         | false ↦ (let g : Stands (without_pull p v) (adopts_first f ps (without_pull p v)) = adopts_stand f ps (without_pull p v) in record { boot = g.boot; epoch = g.epoch })
       ]

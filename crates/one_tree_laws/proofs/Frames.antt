@@ -1,10 +1,12 @@
 -- What each role has stays while others tell what they do, as the laws of the roles give it.
-use Rattle.std.proofs.Common.{◌≡◌, ℕ, ◌==◌, Bool, true, false, cond, List, [], None, ◌⊎◌, refl, sym, ◌∙◌, inl, inr}
+use Rattle.std.proofs.Common.{◌≡◌, ℕ, ◌==◌, Bool, true, false, cond, List, [], ◌∷◌, None, ◌⊎◌, refl, sym, ◌∙◌, inl, inr}
 use Rattle.role_steps.proofs.of_plain_facts.Numbers.{equal_self}
 use Rattle.locus_ids.specs.declared.config.Config.{Config}
 use Rattle.locus_ids.specs.declared.ids.EpochId.{EpochId}
+use Rattle.locus_ids.specs.declared.ids.FileId.{FileId}
 use Rattle.trace_book.specs.declared.record.Record.{Record}
 use Rattle.trace_book.specs.declared.record.Record.TheVariants as says
+use Rattle.role_steps.specs.Own.{Every}
 use Rattle.role_steps.specs.Views.{Frame, Store, Users, Told, Shown}
 use Rattle.role_steps.specs.declared.pulls.Pull.{Pull}
 use Rattle.role_steps.specs.declared.synchronizing.SyncTable.{SyncTable}
@@ -23,13 +25,16 @@ use Rattle.store_laws.specs.of_holding_laws.Below.{LawsBelow}
 use Rattle.store_laws.proofs.of_holding_laws.Below.{packs_hold}
 use Rattle.store_laws.proofs.of_holding_laws.Holding.{late_brings_nothing}
 use Rattle.store_laws.proofs.of_user_laws.Staying.{boots_stay, calls_stay, opens_stay, descriptors_stay}
+use Rattle.store_laws.proofs.of_user_laws.Caching.{cache_told}
 use Rattle.store_laws.proofs.of_user_laws.Views.{users_stay}
 use Rattle.store_laws.proofs.Holding.{copies_stay}
 use Rattle.store_laws.proofs.Pulls.{all_pulls_stay}
 use Rattle.store_laws.proofs.Staying.{store_stays}
 use Rattle.store_laws.specs.of_sync_laws.Staying.{Starts, Looks, Names, Releases, Adopts, TouchesTable, BringsNothing}
 use Rattle.store_laws.proofs.of_sync_laws.Staying.{table_stays}
+use Rattle.store_laws.specs.Pulling.{AdoptsFile}
 use Rattle.one_tree_laws.specs.Rest.{Comes, more}
+use Rattle.one_tree_laws.proofs.NewVersions.{new_not_below}
 use Rattle.one_tree_laws.proofs.Staying.{rest_below, stays}
 
 all_stay : (c : Config) (n : ℕ) (x : Told) (older : List Line) → Comes c older x → AllStay c older (more n x older) x
@@ -47,14 +52,15 @@ outside_frame c n x older me boot u k no_users no_site h = record {
   serials = h.serials ∙ sym (opens_stay c n me x older no_users no_site);
   descriptors = λ process fd low. h.descriptors process fd low ∙ sym (descriptors_stay n me process fd x older no_users no_site);
   ascends = h.ascends;
+  cache = cache_told c n x older (all_stay c n x older k).fresh u.cache h.cache;
 }
 
 -- of a site that has just booted
 abbrev pub no_users : Users
-no_users = record { calls = 0; serials = 0; waiting = []; instances = []; descriptors = []; hopeless = [] }
+no_users = record { calls = 0; serials = 0; waiting = []; instances = []; descriptors = []; hopeless = []; cache = [] }
 
 pub first_users : (c : Config) (me : ℕ) → UsersFact c [] me 1 no_users
-first_users c me = record { boot_is = refl; calls = refl; serials = refl; descriptors = λ process fd low. refl; ascends = tt }
+first_users c me = record { boot_is = refl; calls = refl; serials = refl; descriptors = λ process fd low. refl; ascends = tt; cache = tt }
 
 cond_own : {A : Type 0} (s : ℕ) (x y : A) → cond (s == s) x y ≡ x
 cond_own s x y = over (s == s) (equal_self s)
@@ -70,6 +76,7 @@ booted_users c n me boot trace none = record {
   serials = sym (cond_own me 0 (opens_asked c trace me));
   descriptors = λ process fd low. sym (none process fd);
   ascends = tt;
+  cache = tt;
 }
 
 -- ---- storage sites ----
@@ -80,8 +87,24 @@ store_frame c n x older f s k away unadopted h = store_stays c n x older k.past.
 pub copies_frame : (c : Config) (n : ℕ) (x : Told) (older : List Line) (me : ℕ) (s : Store) → Comes c older x → ((e : EpochId) → IsOfStore older me e x → ⊥) → (IsAdopted me x → ⊥) → CopiesAreHeld c older me s → CopiesAreHeld c (more n x older) me s
 copies_frame c n x older me s k away unadopted h = copies_stay c n x older k.past.followed k.may (all_stay c n x older k) me no_epoch s (away no_epoch) unadopted h
 
-pub pulls_frame : (c : Config) (n : ℕ) (x : Told) (older : List Line) (f : Frame) (ps : List Pull) → Comes c older x → PullsFact c f older ps → PullsFact c f (more n x older) ps
-pulls_frame c n x older f ps k h = all_pulls_stay c n x older k.past.followed k.may (all_stay c n x older k) f ps h
+-- pulls of other files than one that is adopted
+pub pulls_beside : (c : Config) (n : ℕ) (x : Told) (older : List Line) (f : Frame) (ps : List Pull) → Comes c older x → Every (λ (p : Pull). AdoptsFile f.me p.file x → ⊥) ps → PullsFact c f older ps → PullsFact c f (more n x older) ps
+pulls_beside c n x older f ps k away h = all_pulls_stay c n x older k.past.followed k.may (all_stay c n x older k) (new_not_below c n x older k) f ps away h
+
+pub adopts_of : (me : ℕ) (file : FileId) (x : Told) → AdoptsFile me file x → IsAdopted me x
+adopts_of me file (Shown r) h = by_record r h
+  where
+    by_record : (r : Record) → AdoptsFile me file (Shown r) → IsAdopted me (Shown r)
+    by_record (says.Adopt g site stamp) h = h.1
+    by_record _ h = absurd h
+adopts_of me file _ h = absurd h
+
+pub pulls_frame : (c : Config) (n : ℕ) (x : Told) (older : List Line) (f : Frame) (ps : List Pull) → Comes c older x → (IsAdopted f.me x → ⊥) → PullsFact c f older ps → PullsFact c f (more n x older) ps
+pulls_frame c n x older f ps k unadopted h = pulls_beside c n x older f ps k (away ps) h
+  where
+    away : (qs : List Pull) → Every (λ (p : Pull). AdoptsFile f.me p.file x → ⊥) qs
+    away [] = tt
+    away (q ∷ qs) = ((λ a. unadopted (adopts_of f.me q.file x a)), away qs)
 
 -- ---- synchronization sites ----
 

@@ -49,14 +49,14 @@ out_told c roles n me s x older k u h = record {
 }
 
 -- a using site answers, outside
-pub out_over : (c : Config) → RolesDo c → (n me boot : ℕ) (trace : List Line) (v : SiteView) (o : Outcome Users) → Past c trace → Out c me v.store trace → v.boot ≡ boot → v.store.instances ≡ [] → v.tables ≡ [] → v.pulls ≡ [] → AllRest c n trace o.told → Fine Users c n trace (IsOfUsers me) (UsersOutside c me boot) NoWrite o →
+pub out_over : (c : Config) → RolesDo c → (n me boot : ℕ) (trace : List Line) (v : SiteView) (o : Outcome Users) → Past c trace → Out c me v.store trace → v.boot ≡ boot → v.store.instances ≡ [] → v.store.steps ≡ [] → v.tables ≡ [] → v.pulls ≡ [] → AllRest c n trace o.told → Fine Users c n trace (IsOfUsers me) (UsersOutside c me boot) NoWrite o →
     SiteFine c n trace me (OutsideFact c me) NoWrite (record { view = with_users v o.view; sent = o.sent; told = o.told; written = o.written })
-out_over c roles n me boot trace v o followed h is i t p fresh k =
+out_over c roles n me boot trace v o followed h is i j t p fresh k =
     let out : Out c me v.store (told_onto n o.told trace) = stay_over c n (λ u x. IsOfUsers me x) (Out c me v.store) (λ x older comes u g. out_told c roles n me v.store x older comes u g) o.told trace followed k.told fresh (every_at n (IsOfUsers me) (λ u x. IsOfUsers me x) (λ x u g. g) o.told trace k.own) h in
     record {
       told = k.told;
       own = every_at n (IsOfUsers me) (λ u x. IsOf c u me x) (λ x u g. inl g) o.told trace k.own;
-      view = record { up = out.up; outside = out.outside; users = subst (λ (b : ℕ). UsersOutside c me b (told_onto n o.told trace) o.view) (sym is) k.view; copies = out.copies; instances = i; tables = t; pulls = p };
+      view = record { up = out.up; outside = out.outside; users = subst (λ (b : ℕ). UsersOutside c me b (told_onto n o.told trace) o.view) (sym is) k.view; copies = out.copies; instances = i; steps = j; tables = t; pulls = p };
       sent = k.sent;
       written = k.written;
     }
@@ -99,7 +99,7 @@ leaves_in c roles stays n me trace (Some i) v followed h e fresh =
     let f : Frame = frame_in c me v.boot i in
     let x : Told = Shown (says.Leave me i.id) in
     let one : MayTell c trace x × Out c me (left_view v).store (more n x trace) = leave_first c roles n me trace i v followed h (fresh.0, tt) in
-    let rest : SiteFine c n (more n x trace) me (OutsideFact c me) NoWrite _ = out_over c roles n me v.boot (more n x trace) (left_view v) (users_leave me v.boot i.id v.users) (past_more c n x trace followed one.0 fresh.0) one.1 refl refl refl refl fresh.1
+    let rest : SiteFine c n (more n x trace) me (OutsideFact c me) NoWrite _ = out_over c roles n me v.boot (more n x trace) (left_view v) (users_leave me v.boot i.id v.users) (past_more c n x trace followed one.0 fresh.0) one.1 refl refl refl refl refl fresh.1
     (roles.users.leaves n trace f v.users (record { past = followed; frame = h.frame }) h.users fresh.1) in
     record {
       told = (one.0, rest.told);
@@ -135,6 +135,7 @@ promise_tells c roles n me id reach trace v followed rest h =
           };
           copies = copies_frame c n x trace me v.store comes (λ at k. k) (λ k. k) h.outside.copies;
           instances = h.outside.instances;
+          steps = h.outside.steps;
           tables = h.outside.tables;
           pulls = h.outside.pulls;
         };

@@ -1,11 +1,14 @@
 pub mod Taken
 pub mod Staying
+pub mod ToldVectorTelling
+pub mod NewVersions
 pub mod Frames
 pub mod Composing
 pub mod Sorts
 pub mod Framing
 pub mod Rising
 pub mod Parts
+pub mod PullsAscend
 pub mod Lifting
 pub mod Inside
 pub mod Leaving
@@ -15,12 +18,19 @@ pub mod Steps
 pub mod Deeds
 pub mod Cuts
 pub mod Foreign
+pub mod WantsStores
+pub mod WantsSites
+pub mod WantsLines
+pub mod WantsAdopted
+pub mod WantsParts
+pub mod WantsInside
+pub mod WantsSteps
+pub mod WantsWorlds
 pub mod Worlds
 pub mod Run
 pub mod SpentRescues
 pub mod SpentStores
 pub mod SpentRun
-pub mod ToldVectorTelling
 pub mod ToldVectorOnly
 pub mod RemoveOthers
 pub mod RemoveScripts
@@ -58,3 +68,4 @@ pub use Rattle.store_laws.proofs.of_holding_laws as of_holding_laws
 pub use Rattle.store_laws.proofs.of_order_laws as of_order_laws
 pub use Rattle.store_laws.proofs.of_sync_laws as of_sync_laws
 pub use Rattle.store_laws.proofs.of_user_laws as of_user_laws
+pub use Rattle.store_laws.proofs.of_work_laws as of_work_laws

@@ -4,14 +4,16 @@ use Rattle.locus_ids.specs.declared.config.Config.{Config}
 use Rattle.role_steps.specs.Adoption.{table_group, with_table, with_store}
 use Rattle.role_steps.specs.Epochs.{with_users}
 use Rattle.role_steps.specs.Own.{Every}
+use Rattle.role_steps.specs.Pulling.{pull_key}
 use Rattle.role_steps.specs.Views.{Frame, Store, Users, SiteView, Told, DiskWrite, Outcome, quiet, within}
 use Rattle.role_steps.specs.declared.pulls.Pull.{Pull}
 use Rattle.role_steps.specs.declared.synchronizing.SyncTable.{SyncTable}
 use Rattle.the_run.specs.Kept.{Among}
 use Rattle.the_run.specs.Steps.{with_pulls}
 use Rattle.the_run.specs.Worlds.{Line, told_onto}
-use Rattle.tree_laws.specs.Doing.{AllTold, FrameFact, IsOfUsers, IsOfStore, IsOfTable, IsOfNone, NoWrite, WriteFact, StoreFine, TableFine, PullsFact, PullsFine}
+use Rattle.tree_laws.specs.Doing.{AllTold, FrameFact, IsAdopted, IsOfUsers, IsOfStore, IsOfTable, IsOfNone, NoWrite, WriteFact, StoreFine, TableFine, PullsFact, PullsFine}
 use Rattle.tree_laws.specs.Packets.{PacketFact}
+use Rattle.tree_laws.specs.Stores.{Ascends}
 use Rattle.tree_laws.specs.Tables.{TableFact}
 use Rattle.one_tree_laws.specs.Places.{AllAt, AllOf, IsOf, InsideFact, SiteFine}
 use Rattle.one_tree_laws.specs.Rest.{AllRest, Past, more}
@@ -59,7 +61,8 @@ users_inside c roles n trace f v o ready h fresh k = record {
         (every_at n (IsOfUsers f.me) (λ t x. NoStore f.me t x) (λ x t u. record { store = λ e s. users_store f.me f.me t e x u s; adopted = λ a. users_adopted f.me f.me x u a; site = λ s. users_site f.me f.me x u s }) o.told trace k.own) h.store;
     groups = h.groups;
     tables = all_facts c f (told_onto n o.told trace) v.tables tables.each;
-    pulls = pulls_over c roles n f v.pulls o.told trace ready.past k.told fresh h.pulls;
+    pulls = pulls_over c roles n f v.pulls o.told trace ready.past k.told fresh (every_at n (IsOfUsers f.me) (λ t x. IsAdopted f.me x → ⊥) (λ x t u a. users_adopted f.me f.me x u a) o.told trace k.own) h.pulls;
+    pulls_ascend = h.pulls_ascend;
     reports = h.reports;
   };
   sent = k.sent;
@@ -84,7 +87,8 @@ store_inside c roles n trace f v o ready h fresh k = record {
     store = k.view;
     groups = h.groups;
     tables = all_facts c f (told_onto n o.told trace) v.tables tables.each;
-    pulls = pulls_over c roles n f v.pulls o.told trace ready.past k.told fresh h.pulls;
+    pulls = pulls_over c roles n f v.pulls o.told trace ready.past k.told fresh (at_weaker n (λ t x. IsOfStore t f.me f.epoch x) (λ t x. IsAdopted f.me x → ⊥) (λ x t s a. store_adopted f.me f.me t f.epoch x s a) o.told trace own) h.pulls;
+    pulls_ascend = h.pulls_ascend;
     reports = h.reports;
   };
   sent = k.sent;
@@ -124,7 +128,8 @@ table_inside c roles n trace f v t o ready h fresh m k = record {
         (every_at n (IsOfTable f t.group) (λ u x. NoStore f.me u x) (λ x u s. record { store = λ e a. table_store f.me u e f t.group x s a; adopted = λ a. table_adopted f.me f t.group x s a; site = λ a. table_site f.me f t.group x s a }) o.told trace k.own) h.store;
     groups = keys_same table_group o.view v.tables rises here ∙ h.groups;
     tables = every_replaced (TableFact c (told_onto n o.told trace) f) table_group o.view v.tables rises k.view.table (subst (λ (g : ℕ). Every (λ (u : SyncTable). (u.group ≡ g → ⊥) → TableFact c (told_onto n o.told trace) f u) v.tables) (sym k.view.group_is) tables.each);
-    pulls = pulls_over c roles n f v.pulls o.told trace ready.past k.told fresh h.pulls;
+    pulls = pulls_over c roles n f v.pulls o.told trace ready.past k.told fresh (every_at n (IsOfTable f t.group) (λ u x. IsAdopted f.me x → ⊥) (λ x u s a. table_adopted f.me f t.group x s a) o.told trace k.own) h.pulls;
+    pulls_ascend = h.pulls_ascend;
     reports = h.reports;
   };
   sent = k.sent;
@@ -151,9 +156,9 @@ table_inside c roles n trace f v t o ready h fresh m k = record {
 
 -- ---- pulls ----
 
-pub pulls_inside : (c : Config) (n : ℕ) (trace : List Line) (f : Frame) (v : SiteView) (o : Outcome (List Pull)) → InsideFact c f trace v → PullsFine c n trace f o → InsideFine c n trace f NoWrite (within (with_pulls v) o)
-pulls_inside c n trace f v o h k = silent o.told k.told k.own k.view k.sent
+pub pulls_inside : (c : Config) (n : ℕ) (trace : List Line) (f : Frame) (v : SiteView) (o : Outcome (List Pull)) → InsideFact c f trace v → (Ascends pull_key v.pulls → Ascends pull_key o.view) → PullsFine c n trace f o → InsideFine c n trace f NoWrite (within (with_pulls v) o)
+pulls_inside c n trace f v o h ascends k = silent o.told k.told k.own k.view k.sent
   where
     silent : (told : List Told) → AllTold c n trace told → Every IsOfNone told → PullsFact c f (told_onto n told trace) o.view → Every (PacketFact c (told_onto n told trace)) o.sent → InsideFine c n trace f NoWrite (record { view = with_pulls v o.view; sent = o.sent; told = told; written = o.written })
-    silent [] a b view sent = record { told = tt; own = tt; view = record { frame = h.frame; users = h.users; store = h.store; groups = h.groups; tables = h.tables; pulls = view; reports = h.reports }; sent = sent; written = k.written }
+    silent [] a b view sent = record { told = tt; own = tt; view = record { frame = h.frame; users = h.users; store = h.store; groups = h.groups; tables = h.tables; pulls = view; pulls_ascend = ascends h.pulls_ascend; reports = h.reports }; sent = sent; written = k.written }
     silent (x ∷ xs) a b view sent = absurd b.0

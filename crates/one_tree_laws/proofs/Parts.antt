@@ -48,7 +48,7 @@ pub synced_each : (f : Frame) (tables : List SyncTable) → map table_group tabl
 synced_each f tables e = every_from (Synced f) tables (synced_one f tables e)
 
 -- a disk is as it is held, whatever instances there are
-pub copies_bare : (c : Config) (t : List Line) (me : ℕ) (s : Store) → CopiesAreHeld c t me s → CopiesAreHeld c t me (record { copies = s.copies; instances = [] })
+pub copies_bare : (c : Config) (t : List Line) (me : ℕ) (s : Store) → CopiesAreHeld c t me s → CopiesAreHeld c t me (record { copies = s.copies; instances = []; steps = [] })
 copies_bare c t me s h = record { are = h.are; ascends = h.ascends }
 
 -- ---- one line ----
@@ -103,6 +103,5 @@ store_over c roles n f s told trace h k fresh q fact = stay_over c n (λ t x. No
 pub tables_over : (c : Config) → RolesDo c → (n : ℕ) (f : Frame) (P : SyncTable → Type 0) (tables : List SyncTable) → Every (Synced f) tables → (told : List Told) (trace : List Line) → Past c trace → AllTold c n trace told → AllRest c n trace told → AllAt (λ t x. NoTable f P tables x) n trace told → TablesAt c f P tables trace → TablesAt c f P tables (told_onto n told trace)
 tables_over c roles n f P tables s told trace h k fresh q fact = stay_over c n (λ t x. NoTable f P tables x) (TablesAt c f P tables) (λ x older comes no p. tables_stay c roles n f P tables s x older comes no.site no.adopted no.others p) told trace h k fresh q fact
 
-pub pulls_over : (c : Config) → RolesDo c → (n : ℕ) (f : Frame) (ps : List Pull) (told : List Told) (trace : List Line) → Past c trace → AllTold c n trace told → AllRest c n trace told → PullsFact c f trace ps → PullsFact c f (told_onto n told trace) ps
-pulls_over c roles n f ps [] trace h k fresh fact = fact
-pulls_over c roles n f ps (x ∷ xs) trace h k fresh fact = pulls_over c roles n f ps xs (more n x trace) (past_more c n x trace h k.0 fresh.0) k.1 fresh.1 (pulls_frame c n x trace f ps (record { past = h; may = k.0; rest = fresh.0 }) fact)
+pub pulls_over : (c : Config) → RolesDo c → (n : ℕ) (f : Frame) (ps : List Pull) (told : List Told) (trace : List Line) → Past c trace → AllTold c n trace told → AllRest c n trace told → AllAt (λ t x. IsAdopted f.me x → ⊥) n trace told → PullsFact c f trace ps → PullsFact c f (told_onto n told trace) ps
+pulls_over c roles n f ps told trace h k fresh q fact = stay_over c n (λ t x. IsAdopted f.me x → ⊥) (λ t. PullsFact c f t ps) (λ x older comes no p. pulls_frame c n x older f ps comes no p) told trace h k fresh q fact

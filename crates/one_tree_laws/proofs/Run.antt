@@ -23,28 +23,47 @@ use Rattle.call_row_laws.specs.of_row_laws.ByLine.{IsLine, Gives, KeptIn}
 use Rattle.call_row_laws.specs.of_row_laws.Voids.{LinesFit}
 use Rattle.call_row_laws.proofs.of_row_laws.ByLine.{every_line}
 use Rattle.kept_laws.proofs.of_vector_laws.Held.{boots_copies}
+use Rattle.wire_messages.specs.declared.body.Body.{Body}
+use Rattle.wire_messages.specs.declared.body.Body.TheVariants as body
+use Rattle.wire_messages.specs.declared.packet.Packet.{Packet}
+use Rattle.role_steps.specs.declared.rounds.InEpoch.{InEpoch}
 use Rattle.tree_laws.specs.Packets.{PacketFact}
 use Rattle.one_tree_laws.specs.Places.{OutsideFact, PlaceFact, NumberedFact, WorldFact}
 use Rattle.one_tree_laws.specs.Rest.{IsRest}
 use Rattle.one_tree_laws.specs.Roles.{EventFact, MayCall, RolesDo}
+use Rattle.one_tree_laws.specs.Wants.{Arrives, BodyAsked, DeltaOf, IsAsked, IsTidy}
 use Rattle.one_tree_laws.proofs.Frames.{first_users}
 use Rattle.one_tree_laws.proofs.Staying.{Stays}
 use Rattle.one_tree_laws.proofs.Cuts.{step_writes}
 use Rattle.one_tree_laws.proofs.Rising.{every_among, row_key}
 use Rattle.one_tree_laws.proofs.Steps.{step_fine}
+use Rattle.one_tree_laws.proofs.WantsSteps.{came_of, step_wants}
+use Rattle.one_tree_laws.proofs.WantsWorlds.{CameAsked, NumberedAsked, running_view, step_looks}
 use Rattle.one_tree_laws.proofs.Worlds.{Holds, acts_holds, stop_holds, boots_hold, says_holds}
 
 -- ---- packets that pass ----
 
-pass_holds : (c : Config) (k : ℕ) (w : World) → Holds c w → Holds c (passed k w)
-pass_holds c k w g = λ r. (let f : WorldFact c w = g r in record { followed = f.followed; places = f.places; sent = f.sent; underway = every_without (NumberedFact c w.trace) number_of k w.underway f.underway })
+pub pass_holds : (c : Config) (k : ℕ) (w : World) → Holds c w → Holds c (passed k w)
+pass_holds c k w g = λ r. (let f : WorldFact c w = g r in record { followed = f.followed; places = f.places; sent = f.sent; underway = every_without (NumberedFact c w.trace) number_of k w.underway f.underway; asked = record { tidy = f.asked.tidy; sent = f.asked.sent; underway = every_without (NumberedAsked c (place_at w) w.trace) number_of k w.underway f.asked.underway } })
 
 drop_holds : (c : Config) (k : ℕ) (w : World) → Holds c w → Holds c (loses k w)
-drop_holds c k w g = λ r. (let f : WorldFact c w = g r in record { followed = f.followed; places = f.places; sent = f.sent; underway = every_without (NumberedFact c w.trace) number_of k w.underway f.underway })
+drop_holds c k w g = λ r. (let f : WorldFact c w = g r in record { followed = f.followed; places = f.places; sent = f.sent; underway = every_without (NumberedFact c w.trace) number_of k w.underway f.underway; asked = record { tidy = f.asked.tidy; sent = f.asked.sent; underway = every_without (NumberedAsked c (place_at w) w.trace) number_of k w.underway f.asked.underway } })
 
 pub sent_fact : (c : Config) (w : World) (x : Numbered) → WorldFact c w → WasSent w x → PacketFact c w.trace x.packet
 sent_fact c w x f (inl m) = every_among (NumberedFact c w.trace) x w.sent m f.sent
 sent_fact c w x f (inr m) = every_among (NumberedFact c w.trace) x w.underway m f.underway
+
+pub sent_asked : (c : Config) (w : World) (x : Numbered) → WorldFact c w → WasSent w x → IsAsked c (place_at w) w.trace x.packet
+sent_asked c w x f (inl m) = every_among (NumberedAsked c (place_at w) w.trace) x w.sent m f.asked.sent
+sent_asked c w x f (inr m) = every_among (NumberedAsked c (place_at w) w.trace) x w.underway m f.asked.underway
+
+delta_of : (c : Config) (w : World) (p : Packet) (v : SiteView) (b : Body) → place_at w p.to ≡ Some (Running v) → BodyAsked c (place_at w) w.trace p b → (x : InEpoch) → v.epoch ≡ Some x → x.id ≡ p.epoch → DeltaOf c w.trace p.to v.pulls b
+delta_of c w p v (body.Delta file wanted pages) here h x at is = record { own = h.0; asked = h.1 v here x at is; differ = h.2 }
+delta_of c w p v _ here h x at is = tt
+
+-- what was sent arrives at a site that runs with what it may say there
+pub arrives_fact : (c : Config) (w : World) (x : Numbered) (v : SiteView) → WorldFact c w → WasSent w x → place_at w x.packet.to ≡ Some (Running v) → Arrives c w.trace x.packet v
+arrives_fact c w x v f sent here = record { fact = sent_fact c w x f sent; deltas = delta_of c w x.packet v x.packet.body here (sent_asked c w x f sent) }
 
 -- ---- a line that a site does ----
 
@@ -63,26 +82,50 @@ event_fact c lines n s (line.Merge site) Merges v w fit at g here = tt
 event_fact c lines n s (line.GiveUp site) GivesUp v w fit at g here = tt
 event_fact c lines n s _ _ v w fit at g here = absurd g
 
-does : (c : Config) → RolesDo c → Stays c → (n s : ℕ) (e : Event) (v : SiteView) (w : World) → place_at w s ≡ Some (Running v) → (IsRest c w.trace → EventFact c w.trace s v e) → Holds c w → Holds c (acts n s v (step c s (links_of w s) v e) w)
-does c roles stays n s e v w here fact g = acts_holds c roles stays n s v (step c s (links_of w s) v e) w here
+-- the packet that an event brings is asked
+abbrev pub EventAsked : Config → World → Event → Type 0
+EventAsked c w e = CameAsked c (place_at w) w.trace (came_of e)
+
+pub does : (c : Config) → RolesDo c → Stays c → (n s : ℕ) (e : Event) (v : SiteView) (w : World) → place_at w s ≡ Some (Running v) → (IsRest c w.trace → EventFact c w.trace s v e) → (IsRest c w.trace → EventAsked c w e) → Holds c w → Holds c (acts n s v (step c s (links_of w s) v e) w)
+does c roles stays n s e v w here fact asks g = acts_holds c roles stays n s v (step c s (links_of w s) v e) w here
     (λ old r f. step_fine c roles stays n s (links_of w s) w.trace v e old (f.places s (Running v) here) (fact old.rest) r)
-    (λ old f. step_writes c roles n s (links_of w s) w.trace v e old (f.places s (Running v) here) (fact old.rest)) g
+    (λ old f. step_writes c roles n s (links_of w s) w.trace v e old (f.places s (Running v) here) (fact old.rest))
+    (λ old r f. record {
+      came = came_of e;
+      asked = asks old.rest;
+      wants = step_wants c roles stays n s (links_of w s) w.trace v e old (f.places s (Running v) here) (f.asked.tidy s v here) (fact old.rest) r;
+      looks = step_looks c s (links_of w s) v e;
+    }) g
+
+-- a line of a site brings no packet
+asks_none : (c : Config) (w : World) (l : LineWords) (s : ℕ) (e : Event) → Gives w l s e → EventAsked c w e
+asks_none c w l s (Calls process words) g = tt
+asks_none c w (line.Call site asked it) s (Receives p) g = absurd g
+asks_none c w l s Ticks g = tt
+asks_none c w l s Parts g = tt
+asks_none c w l s Merges g = tt
+asks_none c w l s GivesUp g = tt
+asks_none c w _ s (Receives p) g = absurd g
+
+-- a packet that was sent is received, in the world in which it is under way no more
+pub receives_holds : (c : Config) → RolesDo c → Stays c → (n : ℕ) (x : Numbered) (v : SiteView) (w : World) → place_at w x.packet.to ≡ Some (Running v) → WasSent w x → Holds c w → Holds c (acts n x.packet.to v (step c x.packet.to (links_of w x.packet.to) v (Receives x.packet)) (passed x.number w))
+receives_holds c roles stays n x v w here sent g = does c roles stays n x.packet.to (Receives x.packet) v (passed x.number w) here (λ r. (refl, arrives_fact c w x v (g r) sent here)) (λ r. (sent_fact c w x (g r) sent, sent_asked c w x (g r) sent)) (pass_holds c x.number w g)
 
 -- ---- all lines ----
 
 pub kept : (c : Config) (lines : List ScheduleLine) → LinesFit c lines → RolesDo c → Stays c → KeptIn c lines (λ n w. Holds c w)
 kept c lines fit roles stays = record {
   begins = λ n w le q g. g;
-  ticks = λ n most s v w at here g. does c roles stays n s Ticks v w here (λ r. tt) g;
-  receives = λ n l x v w at d here sent g. does c roles stays n x.packet.to (Receives x.packet) v (passed x.number w) here (λ r. (refl, sent_fact c w x (g r) sent)) (pass_holds c x.number w g);
+  ticks = λ n most s v w at here g. does c roles stays n s Ticks v w here (λ r. tt) (λ r. tt) g;
+  receives = λ n l x v w at d here sent g. receives_holds c roles stays n x v w here sent g;
   passes = λ n k w g. pass_holds c k w g;
   drops = λ n k w g. drop_holds c k w g;
   budgets = λ n most w at g. says_holds c roles stays n (Shown says.Budget ∷ []) w (tt, tt) g;
   voiding = λ n l w le at void g. says_holds c roles stays (n + 1) (Shown says.Void ∷ []) w (tt, tt) g;
-  steps = λ n s l e v w le at gives here g. does c roles stays (n + 1) s e v w here (λ r. event_fact c lines (n + 1) s l e v w fit at gives here) g;
-  cutting = λ n one other w le at cut g r. (let f : WorldFact c w = g r in record { followed = f.followed; places = f.places; sent = f.sent; underway = f.underway });
-  mending = λ n one other w le at cut g r. (let f : WorldFact c w = g r in record { followed = f.followed; places = f.places; sent = f.sent; underway = f.underway });
-  arming = λ n l a w le at it g r. (let f : WorldFact c w = g r in record { followed = f.followed; places = f.places; sent = f.sent; underway = f.underway });
+  steps = λ n s l e v w le at gives here g. does c roles stays (n + 1) s e v w here (λ r. event_fact c lines (n + 1) s l e v w fit at gives here) (λ r. asks_none c w l s e gives) g;
+  cutting = λ n one other w le at cut g r. (let f : WorldFact c w = g r in record { followed = f.followed; places = f.places; sent = f.sent; underway = f.underway; asked = record { tidy = f.asked.tidy; sent = f.asked.sent; underway = f.asked.underway } });
+  mending = λ n one other w le at cut g r. (let f : WorldFact c w = g r in record { followed = f.followed; places = f.places; sent = f.sent; underway = f.underway; asked = record { tidy = f.asked.tidy; sent = f.asked.sent; underway = f.asked.underway } });
+  arming = λ n l a w le at it g r. (let f : WorldFact c w = g r in record { followed = f.followed; places = f.places; sent = f.sent; underway = f.underway; asked = record { tidy = f.asked.tidy; sent = f.asked.sent; underway = f.asked.underway } });
   pending = λ n w le at g. says_holds c roles stays (n + 1) (map packet_record w.underway) w (every_map _ packet_record w.underway (λ x. tt)) g;
   stopping = λ n s v w le at here g. stop_holds c roles stays (n + 1) s v w here g;
   booting = λ n s d w le at here g. boots_hold c roles stays (n + 1) s d (boots (script_of w s) d) w here (boots_copies (script_of w s) d) g;
@@ -97,6 +140,7 @@ first_fact c roles s = record {
   users = record { always = first_users c s; idle = record { none_waits = tt; has_none = refl }; calls = refl; instances = refl; hopeless = refl; descriptors_ascend = tt };
   copies = roles.stores.first s;
   instances = refl;
+  steps = refl;
   tables = refl;
   pulls = refl;
 }
@@ -117,12 +161,22 @@ place_found c xs s p h (Some r) e k =
     let found : Among r xs × (r.site ≡ s) = row_key place_site s xs r e in
     subst (λ (q : Place). PlaceFact c s [] q) (some_place r.place p k) (subst (λ (t : ℕ). PlaceFact c t [] r.place) found.1 (every_among (λ (x : PlaceRow). PlaceFact c x.site [] x.place) r xs found.0 h))
 
+-- sites begin with no pulls and no tables
+fresh_rows : (c : Config) (ss : List ℕ) → Every (λ (r : PlaceRow). (v : SiteView) → r.place ≡ Running v → IsTidy v) (map (first_place c) ss)
+fresh_rows c [] = tt
+fresh_rows c (s ∷ ss) = ((λ v e. subst IsTidy (running_view (fresh 1 (formatted c s)) v e) (record { ascends = tt; looks = tt })), fresh_rows c ss)
+
+tidy_found : (xs : List PlaceRow) (s : ℕ) (v : SiteView) → Every (λ (r : PlaceRow). (u : SiteView) → r.place ≡ Running u → IsTidy u) xs → (o : Option PlaceRow) → row place_site s xs ≡ o → place_in o ≡ Some (Running v) → IsTidy v
+tidy_found xs s v h None e k = absurd (none_place (Running v) k)
+tidy_found xs s v h (Some r) e k = every_among (λ (x : PlaceRow). (u : SiteView) → x.place ≡ Running u → IsTidy u) r xs (row_key place_site s xs r e).0 h v (some_place r.place (Running v) k)
+
 pub first_holds : (c : Config) → RolesDo c → Holds c (first_world c)
 first_holds c roles r = record {
   followed = tt;
   places = λ s p e. place_found c (first_world c).places s p (first_rows c roles (filter (λ (t : ℕ). nat_lt t (c.sites + 1)) all_sites)) (row place_site s (first_world c).places) refl e;
   sent = tt;
   underway = tt;
+  asked = record { tidy = λ s v e. tidy_found (first_world c).places s v (fresh_rows c (filter (λ (t : ℕ). nat_lt t (c.sites + 1)) all_sites)) (row place_site s (first_world c).places) refl e; sent = tt; underway = tt };
 }
 
 -- ---- every run ----

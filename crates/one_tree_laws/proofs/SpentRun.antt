@@ -22,7 +22,7 @@ use Rattle.kept_laws.proofs.of_make_laws.RunningSpine.{Free, FreeRecord}
 use Rattle.kept_laws.proofs.of_make_laws.RunningSpineParts.{takes_store}
 use Rattle.kept_laws.proofs.of_make_laws.RunningSpineRun.{EachOwed, Premise, SentFacts, SentOwed, Spines, Stores, Where, first_where, where_kept}
 use Rattle.one_tree_laws.specs.SpentMends.{AllMended, MendedRecord, MendedTold}
-use Rattle.one_tree_laws.proofs.SpentStores.{Mended, NoneSpent, on_close_out, on_closed_ok_out, on_op_out, on_open_ss_out, quiet_out}
+use Rattle.one_tree_laws.proofs.SpentStores.{Mended, NoneSpent, on_close_out, on_closed_ok_out, on_op_out, on_open_ss_out, quiet_out, on_read_held_out}
 
 -- ---- the facts, and what is owed ----
 
@@ -56,6 +56,7 @@ mend_spines = record {
 body_out : (past : List Told) (f : Frame) (from : ℕ) (v : SiteView) (x : Body) → Mended past f (takes_store f from x v)
 body_out past f from v (body.OpenSs inst file m set kind base vector parents) = on_open_ss_out past f (record { inst = inst; file = file; mode = m; set = set; kind = kind; base = base; vector = vector; parents = parents }) v.store
 body_out past f from v (body.Op serial n o seen) = on_op_out past f (mending v (group_of (instance_of v.store (from_user from serial)))) (from_user from serial) n o seen v.store
+body_out past f from v (body.ReadHeld serial n at len) = on_read_held_out past f (from_user from serial) n at len v.store
 body_out past f from v (body.Close serial) = on_close_out past f (from_user from serial) v.store
 body_out past f from v (body.ClosedOk inst) = on_closed_ok_out past f inst v.store
 body_out past f from v _ = quiet_out past f v.store

@@ -17,7 +17,8 @@ use Rattle.wire_messages.specs.declared.body.CloseAnswer.TheVariants as closing
 use Rattle.role_steps.specs.Own.{Every}
 use Rattle.role_steps.specs.Views.{Frame, Store, Told, Outcome, DiskWrite, quiet, sends, and_then, joined_to, first_written}
 use Rattle.role_steps.specs.Storage.{StoreRequest, free_pages, instance_of, own_ino, opens, opens_made, on_open_ss_of, on_open_ss, is_spent, commits, next_stamp, next_vector, shuts, shuts_again, closes_owing, closes, on_close_at, on_close_of, on_close, ends_at, on_closed_ok_of, on_closed_ok}
-use Rattle.role_steps.specs.Operations.{acts, acts_committed, commits_owing, last_committed, commit_op, executes_effect, executes, op_again, by_number, on_op_at, on_op_of, on_op}
+use Rattle.role_steps.specs.Operations.{acts, acts_committed, commits_owing, last_committed, commit_op, executes_effect, executes, op_again, by_number, on_op_at, on_op_of, on_op, in_form, nothing_to_mend, on_read_held}
+use Rattle.role_steps.specs.of_dir_format.Entries.{nothing_seen}
 use Rattle.role_steps.specs.OperationEffects.{Mending, effect_of, joined_contents, mend_effect}
 use Rattle.role_steps.specs.declared.instances.Instance.{Instance}
 use Rattle.role_steps.specs.declared.instances.Stage.{Stage}
@@ -184,3 +185,11 @@ op_of_out past f m (Some i) n o seen s = op_at_out past f m i i.stage n o seen s
 
 pub on_op_out : (past : List Told) (f : Frame) (m : Mending) (inst : Serial) (n : ℕ) (o : Op) (seen : List ℕ) (s : Store) → Mended past f (on_op f m inst n o seen s)
 on_op_out past f m inst n o seen s = op_of_out past f m (instance_of s inst) n o seen s
+
+-- a held read is the operation that it stands for, but for the form of its answer
+form_out : (past : List Told) (f : Frame) (i : Option Instance) (o : Outcome Store) → Mended past f o → Mended past f (in_form i o)
+form_out past f None o h = h
+form_out past f (Some i) o h = record { owed = h.owed; here = h.here; disk = h.disk }
+
+pub on_read_held_out : (past : List Told) (f : Frame) (inst : Serial) (n at len : ℕ) (s : Store) → Mended past f (on_read_held f inst n at len s)
+on_read_held_out past f inst n at len s = form_out past f (instance_of s inst) (on_op f nothing_to_mend inst n (op.Read at len) nothing_seen s) (on_op_out past f nothing_to_mend inst n (op.Read at len) nothing_seen s)

@@ -11,7 +11,7 @@ use Rattle.wire_messages.specs.declared.body.Body.TheVariants as body
 use Rattle.wire_messages.specs.declared.packet.Packet.{Packet}
 use Rattle.role_steps.specs.Epochs.{frame_in, leaves, starts_part, starts_merge, boots_where, merge_boot, with_users}
 use Rattle.role_steps.specs.Own.{Every}
-use Rattle.role_steps.specs.Pulling.{pull_of}
+use Rattle.role_steps.specs.Pulling.{pages_in, pull_of}
 use Rattle.role_steps.specs.Storage.{copy_of}
 use Rattle.role_steps.specs.Using.{on_call}
 use Rattle.role_steps.specs.Views.{Frame, Store, Users, SiteView, Told, DiskWrite, Outcome, Event, Calls, Receives, Ticks, Parts, Merges, GivesUp, quiet, within, joined_to}
@@ -20,12 +20,13 @@ use Rattle.role_steps.proofs.Sending.{every_append}
 use Rattle.the_run.specs.Steps.{in_order, is_framed, is_forming, is_dropped, takes_framed, takes, adopts_in, tries_at, ends_event, whole, repeats, ticks_after, call_frame, epoch_id, takes_call, takes_inside, step}
 use Rattle.the_run.specs.Worlds.{Line, told_onto}
 use Rattle.the_run.proofs.StepSends.{order_sent}
-use Rattle.call_row_laws.proofs.of_lock_laws.StepFacts.{SiteSilent, notify_silent, page_silent, framed_notify}
+use Rattle.call_row_laws.proofs.of_lock_laws.StepFacts.{SiteSilent, notify_silent, page_silent, delta_silent, framed_notify}
 use Rattle.tree_laws.specs.Doing.{NoWrite, WriteFact}
 use Rattle.tree_laws.specs.Packets.{PacketFact}
 use Rattle.one_tree_laws.specs.Places.{OutsideFact, SiteFact, SiteIn, SiteFine}
 use Rattle.one_tree_laws.specs.Rest.{AllRest, Past}
 use Rattle.one_tree_laws.specs.Roles.{EventFact, MayCall, RolesDo}
+use Rattle.one_tree_laws.specs.Wants.{Arrives}
 use Rattle.one_tree_laws.proofs.Staying.{Stays}
 use Rattle.one_tree_laws.proofs.Composing.{past_onto, onto_append, packets_onto, rest_first, rest_last, site_then}
 use Rattle.one_tree_laws.proofs.Forming.{inside_site, begins_fine, starts_part_fine, on_poll_fine, on_promise_fine, on_refuse_fine, on_install_fine, on_joined_fine, adopts_fine, ends_fine}
@@ -38,11 +39,11 @@ use Rattle.one_tree_laws.proofs.Taken.{taken_boot, taken_epoch}
 abbrev pub DoesWith : Config → ℕ → List Line → ℕ → (DiskWrite → Type 0) → Outcome SiteView → Type 0
 DoesWith c n trace me W o = SiteFine c n trace me (SiteFact c me) W o
 
-every_first : {A : Type 0} (P : A → Type 0) (xs ys : List A) → Every P (xs ++ ys) → Every P xs
+pub every_first : {A : Type 0} (P : A → Type 0) (xs ys : List A) → Every P (xs ++ ys) → Every P xs
 every_first P [] ys h = tt
 every_first P (x ∷ xs) ys h = (h.0, every_first P xs ys h.1)
 
-every_last : {A : Type 0} (P : A → Type 0) (xs ys : List A) → Every P (xs ++ ys) → Every P ys
+pub every_last : {A : Type 0} (P : A → Type 0) (xs ys : List A) → Every P (xs ++ ys) → Every P ys
 every_last P [] ys h = h
 every_last P (x ∷ xs) ys h = every_last P xs ys h.1
 
@@ -125,11 +126,11 @@ ticks_fine c roles stays n me links trace v followed h rest =
 
 -- ---- a call ----
 
-called : (c : Config) → RolesDo c → (n me process : ℕ) (words : Call) (trace : List Line) (e : Option InEpoch) (v : SiteView) → Past c trace → v.epoch ≡ e → SiteIn c me trace v e → MayCall c me process words v.users →
+pub called : (c : Config) → RolesDo c → (n me process : ℕ) (words : Call) (trace : List Line) (e : Option InEpoch) (v : SiteView) → Past c trace → v.epoch ≡ e → SiteIn c me trace v e → MayCall c me process words v.users →
     AllRest c n trace (on_call (call_frame c me v.boot e) (epoch_id e) process words v.users).told → DoesWith c n trace me NoWrite (within (with_users v) (on_call (call_frame c me v.boot e) (epoch_id e) process words v.users))
 called c roles n me process words trace None v followed here h may rest =
     let o : Outcome Users = on_call (call_frame c me v.boot None) None process words v.users in
-    let k : SiteFine c n trace me (OutsideFact c me) NoWrite (within (with_users v) o) = out_over c roles n me v.boot trace v o followed (record { up = h.up; outside = h.outside; copies = h.copies }) refl h.instances h.tables h.pulls rest
+    let k : SiteFine c n trace me (OutsideFact c me) NoWrite (within (with_users v) o) = out_over c roles n me v.boot trace v o followed (record { up = h.up; outside = h.outside; copies = h.copies }) refl h.instances h.steps h.tables h.pulls rest
     (roles.users.calls_outside n trace me v.boot process words v.users followed h.up h.outside h.users may rest) in
     record { told = k.told; own = k.own; view = subst (λ (x : Option InEpoch). SiteIn c me (told_onto n o.told trace) (with_users v o.view) x) (sym here) k.view; sent = k.sent; written = k.written }
 called c roles n me process words trace (Some e) v followed here h may rest =
@@ -146,20 +147,20 @@ to_boot p v h = equal p.to_boot v.boot (both_true (p.to_boot == v.boot) (is_form
 abbrev pub Taken : Config → ℕ → List Line → Packet → SiteView → Outcome SiteView → Type 0
 Taken c n trace p v o = DoesWith c n trace p.to (WriteFact c n trace p.to v.store) o
 
-pub framed : (c : Config) → RolesDo c → (n : ℕ) (trace : List Line) (p : Packet) (x : Body) (e : Option InEpoch) (v : SiteView) → p.body ≡ x → nat_lt (kind_number x) 6 ≡ false → is_dropped p v ≡ false → Past c trace → v.epoch ≡ e → SiteIn c p.to trace v e → PacketFact c trace p →
+pub framed : (c : Config) → RolesDo c → (n : ℕ) (trace : List Line) (p : Packet) (x : Body) (e : Option InEpoch) (v : SiteView) → p.body ≡ x → nat_lt (kind_number x) 6 ≡ false → is_dropped p v ≡ false → Past c trace → v.epoch ≡ e → SiteIn c p.to trace v e → Arrives c trace p v →
     AllRest c n trace (takes_framed c p.to p e v).told → Taken c n trace p v (takes_framed c p.to p e v)
 framed c roles n trace p x None v q inside d followed here h fact fresh = record { told = tt; own = tt; view = subst (SiteIn c p.to trace v) (sym here) h; sent = tt; written = tt }
 framed c roles n trace p x (Some e) v q inside d followed here h fact fresh =
     let f : Frame = frame_in c p.to v.boot e in
     let s : Stands v (takes_inside f p.from p.body v) = inside_stands f p.from p.body v in
     let k : InsideFine c n trace f (WriteFact c n trace p.to v.store) (takes_inside f p.from p.body v) = inside_fine c roles n trace f p p.body v (record { past = followed; frame = h.frame }) h
-    (record { to_is = refl; to_boot_is = to_boot p v d; epoch_is = taken_epoch p x v e q inside d here; from_boot_is = taken_boot p x v e q inside d here }) refl fact fresh in
+    (record { to_is = refl; to_boot_is = to_boot p v d; epoch_is = taken_epoch p x v e q inside d here; from_boot_is = taken_boot p x v e q inside d here }) refl fact.fact (fact.deltas e here (sym (taken_epoch p x v e q inside d here))) fresh in
     record { told = k.told; own = k.own; view = inside_site c p.to (told_onto n (takes_inside f p.from p.body v).told trace) v (takes_inside f p.from p.body v).view e (s.epoch ∙ here) s.boot k.view; sent = k.sent; written = k.written }
 
 abbrev Received : Config → ℕ → List Line → Links → Packet → Body → SiteView → Type 0
 Received c n trace links p x v = AllRest c n trace (whole c p.to links (takes c p.to links p x v) (tries_at c p.to x)).told → Taken c n trace p v (whole c p.to links (takes c p.to links p x v) (tries_at c p.to x))
 
-whole_first : (c : Config) (n me : ℕ) (links : Links) (trace : List Line) (o : Outcome SiteView) → AllRest c n trace (whole c me links o quiet).told → AllRest c n trace o.told
+pub whole_first : (c : Config) (n me : ℕ) (links : Links) (trace : List Line) (o : Outcome SiteView) → AllRest c n trace (whole c me links o quiet).told → AllRest c n trace o.told
 whole_first c n me links trace o rest = rest_first c n o.told (ends_event c me links o.view).told trace rest
 
 -- what forms an epoch
@@ -168,7 +169,7 @@ formed c roles stays n trace links p v o followed a rest =
     untried c roles stays n p.to links trace (WriteFact c n trace p.to v.store) o followed (writes_nothing c n trace p.to (SiteFact c p.to) (WriteFact c n trace p.to v.store) o (a (whole_first c n p.to links trace o rest))) rest
 
 -- what comes in the epoch, and after which no adoption is tried
-came : (c : Config) → RolesDo c → Stays c → (n : ℕ) (trace : List Line) (links : Links) (p : Packet) (x : Body) (v : SiteView) → p.body ≡ x → nat_lt (kind_number x) 6 ≡ false → is_dropped p v ≡ false → Past c trace → SiteFact c p.to trace v → PacketFact c trace p →
+came : (c : Config) → RolesDo c → Stays c → (n : ℕ) (trace : List Line) (links : Links) (p : Packet) (x : Body) (v : SiteView) → p.body ≡ x → nat_lt (kind_number x) 6 ≡ false → is_dropped p v ≡ false → Past c trace → SiteFact c p.to trace v → Arrives c trace p v →
     AllRest c n trace (whole c p.to links (takes_framed c p.to p v.epoch v) quiet).told → Taken c n trace p v (whole c p.to links (takes_framed c p.to p v.epoch v) quiet)
 came c roles stays n trace links p x v q inside d followed h fact rest =
     untried c roles stays n p.to links trace (WriteFact c n trace p.to v.store) (takes_framed c p.to p v.epoch v) followed
@@ -180,14 +181,14 @@ same_store c me p x (Some e) v q h = subst (λ (y : Body). (takes_inside (frame_
 
 -- what comes in the epoch, and then an adoption is tried
 came_tried : (c : Config) → RolesDo c → Stays c → (n : ℕ) (trace : List Line) (links : Links) (p : Packet) (x : Body) (v : SiteView) → p.body ≡ x → nat_lt (kind_number x) 6 ≡ false → is_dropped p v ≡ false → ((f : Frame) → SiteSilent (takes_inside f p.from x v)) → ((f : Frame) → (takes_inside f p.from x v).view.store ≡ v.store) →
-    Past c trace → SiteFact c p.to trace v → PacketFact c trace p → AllRest c n trace (whole c p.to links (takes_framed c p.to p v.epoch v) (adopts_in c p.to)).told → Taken c n trace p v (whole c p.to links (takes_framed c p.to p v.epoch v) (adopts_in c p.to))
+    Past c trace → SiteFact c p.to trace v → Arrives c trace p v → AllRest c n trace (whole c p.to links (takes_framed c p.to p v.epoch v) (adopts_in c p.to)).told → Taken c n trace p v (whole c p.to links (takes_framed c p.to p v.epoch v) (adopts_in c p.to))
 came_tried c roles stays n trace links p x v q inside d silent store followed h fact rest =
     let o : Outcome SiteView = takes_framed c p.to p v.epoch v in
     let s : SiteSilent o = framed_notify c p.to p x v.epoch v q silent in
     tried c roles stays n p.to links trace v.store (WriteFact c n trace p.to v.store) o followed s (same_store c p.to p x v.epoch v q store)
     (framed c roles n trace p x v.epoch v q inside d followed refl h fact (subst (AllRest c n trace) (sym s.0) tt)) rest
 
-received : (c : Config) → RolesDo c → Stays c → (n : ℕ) (trace : List Line) (links : Links) (p : Packet) (x : Body) (v : SiteView) → p.body ≡ x → is_dropped p v ≡ false → Past c trace → SiteFact c p.to trace v → PacketFact c trace p → Received c n trace links p x v
+received : (c : Config) → RolesDo c → Stays c → (n : ℕ) (trace : List Line) (links : Links) (p : Packet) (x : Body) (v : SiteView) → p.body ≡ x → is_dropped p v ≡ false → Past c trace → SiteFact c p.to trace v → Arrives c trace p v → Received c n trace links p x v
 received c roles stays n trace links p body.Poll v q d followed h fact = formed c roles stays n trace links p v _ followed (on_poll_fine c roles stays n p.to links p.from p.from_boot p.epoch trace v followed h)
 received c roles stays n trace links p (body.Promise reach) v q d followed h fact = formed c roles stays n trace links p v _ followed (λ r. on_promise_fine c n p.to p.from p.from_boot p.epoch reach trace v.round v h)
 received c roles stays n trace links p (body.Refuse promised) v q d followed h fact = formed c roles stays n trace links p v _ followed (on_refuse_fine c roles stays n p.to links p.epoch promised trace v.round v followed h)
@@ -195,9 +196,11 @@ received c roles stays n trace links p (body.Install members) v q d followed h f
 received c roles stays n trace links p body.Joined v q d followed h fact = formed c roles stays n trace links p v _ followed (λ r. on_joined_fine c n p.to p.from p.epoch trace v h)
 received c roles stays n trace links p (body.Notify file kind set size stamp vector holder) v q d followed h fact =
     came_tried c roles stays n trace links p (body.Notify file kind set size stamp vector holder) v q refl d
-    (λ f. notify_silent f p.from (copy_of v.store file) (record { file = file; kind = kind; set = set; size = size; stamp = stamp; vector = vector; holder = holder; content = [] }) v.pulls) (λ f. refl) followed h fact
+    (λ f. notify_silent f p.from (copy_of v.store file) (record { file = file; kind = kind; set = set; size = size; stamp = stamp; vector = vector; holder = holder; base = None; wanted = None; content = [] }) v.pulls) (λ f. refl) followed h fact
 received c roles stays n trace links p (body.Page file stamp page bytes) v q d followed h fact =
     came_tried c roles stays n trace links p (body.Page file stamp page bytes) v q refl d (λ f. page_silent f stamp page bytes (pull_of v.pulls file) v.pulls) (λ f. refl) followed h fact
+received c roles stays n trace links p (body.Delta file wanted pages) v q d followed h fact =
+    came_tried c roles stays n trace links p (body.Delta file wanted pages) v q refl d (λ f. delta_silent f (pages_in (copy_of v.store file)) wanted pages (pull_of v.pulls file) v.pulls) (λ f. refl) followed h fact
 received c roles stays n trace links p (body.Report group copies) v q d followed h fact = came c roles stays n trace links p (body.Report group copies) v q refl d followed h fact
 received c roles stays n trace links p (body.ReportOk group) v q d followed h fact = came c roles stays n trace links p (body.ReportOk group) v q refl d followed h fact
 received c roles stays n trace links p (body.Open serial call process request file how) v q d followed h fact = came c roles stays n trace links p (body.Open serial call process request file how) v q refl d followed h fact
@@ -206,6 +209,8 @@ received c roles stays n trace links p (body.Opened inst answer) v q d followed 
 received c roles stays n trace links p (body.OpenDone serial answer) v q d followed h fact = came c roles stays n trace links p (body.OpenDone serial answer) v q refl d followed h fact
 received c roles stays n trace links p (body.Op serial k o seen) v q d followed h fact = came c roles stays n trace links p (body.Op serial k o seen) v q refl d followed h fact
 received c roles stays n trace links p (body.OpDone serial k result) v q d followed h fact = came c roles stays n trace links p (body.OpDone serial k result) v q refl d followed h fact
+received c roles stays n trace links p (body.ReadHeld serial k at len) v q d followed h fact = came c roles stays n trace links p (body.ReadHeld serial k at len) v q refl d followed h fact
+received c roles stays n trace links p (body.AsHeld serial k len) v q d followed h fact = came c roles stays n trace links p (body.AsHeld serial k len) v q refl d followed h fact
 received c roles stays n trace links p (body.Close serial) v q d followed h fact = came c roles stays n trace links p (body.Close serial) v q refl d followed h fact
 received c roles stays n trace links p (body.Closed inst made) v q d followed h fact = came c roles stays n trace links p (body.Closed inst made) v q refl d followed h fact
 received c roles stays n trace links p (body.ClosedOk inst) v q d followed h fact = came c roles stays n trace links p (body.ClosedOk inst) v q refl d followed h fact
@@ -214,11 +219,12 @@ received c roles stays n trace links p (body.Look call process request take file
 received c roles stays n trace links p (body.LookSs us call process request take file what serve) v q d followed h fact = came c roles stays n trace links p (body.LookSs us call process request take file what serve) v q refl d followed h fact
 received c roles stays n trace links p (body.LookDone call request take answer) v q d followed h fact = came c roles stays n trace links p (body.LookDone call request take answer) v q refl d followed h fact
 received c roles stays n trace links p (body.Pull file stamp page) v q d followed h fact = came c roles stays n trace links p (body.Pull file stamp page) v q refl d followed h fact
+received c roles stays n trace links p (body.Want file wanted own) v q d followed h fact = came c roles stays n trace links p (body.Want file wanted own) v q refl d followed h fact
 received c roles stays n trace links p (body.Have file stamp) v q d followed h fact = came c roles stays n trace links p (body.Have file stamp) v q refl d followed h fact
 
 -- ---- every event ----
 
-takes_packet : (c : Config) → RolesDo c → Stays c → (n : ℕ) (links : Links) (trace : List Line) (v : SiteView) (p : Packet) → Past c trace → SiteFact c p.to trace v → PacketFact c trace p → AllRest c n trace (step c p.to links v (Receives p)).told → Taken c n trace p v (step c p.to links v (Receives p))
+takes_packet : (c : Config) → RolesDo c → Stays c → (n : ℕ) (links : Links) (trace : List Line) (v : SiteView) (p : Packet) → Past c trace → SiteFact c p.to trace v → Arrives c trace p v → AllRest c n trace (step c p.to links v (Receives p)).told → Taken c n trace p v (step c p.to links v (Receives p))
 takes_packet c roles stays n links trace v p followed h fact rest = over (is_dropped p v) refl rest
   where
     over : (b : Bool) → is_dropped p v ≡ b → AllRest c n trace (elim b as (λ (x : Bool). Outcome SiteView) [ true ↦ quiet v | false ↦ whole c p.to links (takes c p.to links p p.body v) (tries_at c p.to p.body) ]).told → Taken c n trace p v (elim b as (λ (x : Bool). Outcome SiteView) [ true ↦ quiet v | false ↦ whole c p.to links (takes c p.to links p p.body v) (tries_at c p.to p.body) ])

@@ -8,11 +8,12 @@ use Rattle.wire_messages.specs.declared.body.Body.TheVariants as body
 use Rattle.wire_messages.specs.declared.body.CloseAnswer.{CloseAnswer}
 use Rattle.wire_messages.specs.declared.body.LookAnswer.{LookAnswer}
 use Rattle.wire_messages.specs.declared.packet.Packet.{Packet}
-use Rattle.role_steps.specs.Using.{on_close_done, on_look_done, on_op_done}
+use Rattle.role_steps.specs.Using.{on_as_held, on_close_done, on_look_done, on_op_done}
 use Rattle.role_steps.specs.Views.{Frame, Users}
 use Rattle.the_run.specs.Worlds.{Line}
-use Rattle.tree_laws.specs.Packets.{BodyFact, CloseDoneFact, LookDoneFact, OpDoneFact, serial_of}
+use Rattle.tree_laws.specs.Packets.{BodyFact, CloseDoneFact, HeldFact, LookDoneFact, OpDoneFact, serial_of}
 use Rattle.store_laws.proofs.of_user_laws.OnClose.{close_done_fine}
+use Rattle.store_laws.proofs.of_user_laws.OnHeld.{held_fine}
 use Rattle.store_laws.proofs.of_user_laws.OnLook.{look_done_fine}
 use Rattle.store_laws.proofs.of_user_laws.OnOp.{op_done_fine}
 use Rattle.one_tree_laws.specs.Places.{UsersOf}
@@ -36,11 +37,19 @@ looked c rests n t f p call request take a u ready k came rest = calls_fine c n 
 
 pub acted : (c : Config) → UserRests c → (n : ℕ) (t : List Line) (f : Frame) (p : Packet) (serial k : ℕ) (r : Result) (u : Users) → Ready c t f → UsersOf c f t u → Came c t f p (body.OpDone serial k r) → AllRest c n t (on_op_done f serial k r u).told → CallsFine c n t f (on_op_done f serial k r u)
 acted c rests n t f p serial k r u ready has came rest = calls_fine c n t f (on_op_done f serial k r u)
-    (op_done_fine c n t f u serial k r ready.past.followed ready.frame has.inside (rests.acts t ready.past) fact (staying c rests n t (on_op_done f serial k r u).told ready.past rest))
+    (op_done_fine c n t f u serial k r ready.past.followed ready.frame has.inside (rests.acts t ready.past) (rests.reads t ready.past) fact (staying c rests n t (on_op_done f serial k r u).told ready.past rest))
   where
     fact : OpDoneFact t f.epoch (serial_of f.me serial) k r
     fact = subst (λ (e : EpochId). OpDoneFact t e (serial_of f.me serial) k r) came.received.epoch_is
         (subst (λ (s : ℕ). OpDoneFact t p.epoch (serial_of s serial) k r) came.received.to_is (its_fact c t f p (body.OpDone serial k r) came))
+
+pub held : (c : Config) → UserRests c → (n : ℕ) (t : List Line) (f : Frame) (p : Packet) (serial k len : ℕ) (u : Users) → Ready c t f → UsersOf c f t u → Came c t f p (body.AsHeld serial k len) → AllRest c n t (on_as_held f serial k u).told → CallsFine c n t f (on_as_held f serial k u)
+held c rests n t f p serial k len u ready has came rest = calls_fine c n t f (on_as_held f serial k u)
+    (held_fine c n t f u serial k len ready.past.followed ready.frame has.inside (rests.acts t ready.past) (rests.reads t ready.past) fact (staying c rests n t (on_as_held f serial k u).told ready.past rest))
+  where
+    fact : HeldFact t f.epoch (serial_of f.me serial) k len
+    fact = subst (λ (e : EpochId). HeldFact t e (serial_of f.me serial) k len) came.received.epoch_is
+        (subst (λ (s : ℕ). HeldFact t p.epoch (serial_of s serial) k len) came.received.to_is (its_fact c t f p (body.AsHeld serial k len) came))
 
 pub closed : (c : Config) → UserRests c → (n : ℕ) (t : List Line) (f : Frame) (p : Packet) (serial : ℕ) (a : CloseAnswer) (u : Users) → Ready c t f → UsersOf c f t u → Came c t f p (body.CloseDone serial a) → AllRest c n t (on_close_done f serial a u).told → CallsFine c n t f (on_close_done f serial a u)
 closed c rests n t f p serial a u ready has came rest = calls_fine c n t f (on_close_done f serial a u)

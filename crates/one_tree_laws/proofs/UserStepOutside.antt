@@ -27,7 +27,7 @@ use Rattle.schedule_lines.specs.Ranges.{fits_call}
 use Rattle.role_steps.specs.Own.{Every}
 use Rattle.role_steps.specs.Requests.{descriptors_of, waiting_key, without_waiting}
 use Rattle.role_steps.specs.Tables.{without_row}
-use Rattle.role_steps.specs.Using.{accept_record, accepted, after_reply, asks_want, frees, is_packed, next_want, on_call, reply_record, without_hope}
+use Rattle.role_steps.specs.Using.{accept_record, after_reply, asks_want, is_packed, next_want, on_call, counted_users, counted_call, accepted_call, reply_record, without_hope, part_read}
 use Rattle.role_steps.specs.Views.{Frame, Outcome, Told, Users, joined_to, tells}
 use Rattle.role_steps.specs.declared.users.WaitingCall.{WaitingCall}
 use Rattle.the_run.specs.Steps.{call_frame}
@@ -51,6 +51,7 @@ use Rattle.tree_laws.proofs.Fresh.{IsNamed, calls_are_low, next_is_new, numbered
 use Rattle.tree_laws.proofs.Having.{Untaken, named_or_untaken}
 use Rattle.tree_laws.proofs.Hearing.{Hears, asking_named, hears}
 use Rattle.tree_laws.proofs.Names.{same_call_own}
+use Rattle.store_laws.proofs.of_user_laws.Caching.{used_right}
 use Rattle.store_laws.specs.of_user_laws.Turning.{IsNumbered}
 use Rattle.store_laws.proofs.of_user_laws.Accepting.{accepts_in_time, begins_same, freed, freed_ascends, freed_same, frees_is}
 use Rattle.one_tree_laws.specs.Places.{UsersOutside}
@@ -165,7 +166,7 @@ module _ (c : Config) (n : ℕ) (t : List Line) (me boot process : ℕ) (words :
   begun_at = beginning (descriptors_of u process) None (own_call f.me f.boot (u.calls + 1)) words
 
   abbrev w : WaitingCall
-  w = accepted process (u.calls + 1) words begun_at
+  w = accepted_call f None process words u
 
   abbrev d : CallId
   d = own_call me boot (u.calls + 1)
@@ -194,21 +195,21 @@ module _ (c : Config) (n : ℕ) (t : List Line) (me boot process : ℕ) (words :
   -- ---- what it does ----
 
   abbrev after : Users
-  after = record u { calls = u.calls + 1; waiting = []; descriptors = freed process words u.descriptors }
+  after = record (counted_users f None process words u) { waiting = []; descriptors = freed process words u.descriptors }
 
-  gives : next_want f w (frees process words (record u { calls = u.calls + 1 })) ≡ want.Give given
-  gives = ended_gives c.mounts (is_packed f) (lowest_free (descriptors_of (frees process words (record u { calls = u.calls + 1 })) process)) words begun_at ends
+  gives : next_want f w (counted_call f None process words u) ≡ want.Give given
+  gives = ended_gives c.mounts (is_packed f) (lowest_free (descriptors_of (counted_call f None process words u) process)) words begun_at ends
 
-  view_is : after_reply f w given (without_waiting w (frees process words (record u { calls = u.calls + 1 }))) ≡ after
-  view_is = leaves_users f w given (without_waiting w (frees process words (record u { calls = u.calls + 1 }))) plain nameless
-      ∙ (ap (without_waiting w) (frees_is process words (record u { calls = u.calls + 1 }))
-      ∙ ap (λ (ws : List WaitingCall). record u { calls = u.calls + 1; waiting = without_row waiting_key (waiting_key w) ws; descriptors = freed process words u.descriptors }) k.calls)
+  view_is : after_reply f w given (without_waiting w (counted_call f None process words u)) ≡ after
+  view_is = leaves_users f w given (without_waiting w (counted_call f None process words u)) plain nameless
+      ∙ (ap (without_waiting w) (frees_is process words (counted_users f None process words u))
+      ∙ ap (λ (ws : List WaitingCall). record (counted_users f None process words u) { waiting = without_row waiting_key (waiting_key w) ws; descriptors = freed process words u.descriptors }) k.calls)
 
   abbrev done : Outcome Users
   done = record { view = after; sent = []; told = x ∷ y ∷ []; written = None }
 
   does : on_call f None process words u ≡ done
-  does = ap (λ (v : Want). joined_to (tells (x ∷ []) (frees process words (record u { calls = u.calls + 1 }))) (asks_want f w v (frees process words (record u { calls = u.calls + 1 })))) gives
+  does = ap (λ (v : Want). joined_to (tells (x ∷ []) (counted_call f None process words u)) (asks_want f w v (counted_call f None process words u))) gives
       ∙ ap (λ (v : Users). record { view = v; sent = []; told = x ∷ y ∷ []; written = None }) view_is
 
   -- ---- it is accepted ----
@@ -311,6 +312,7 @@ module _ (c : Config) (n : ℕ) (t : List Line) (me boot process : ℕ) (words :
         ∙ (sym (ap (λ (b : Bool). cond (b && (process == user)) (closed_by words fd (descriptor (entries t) me user fd)) (descriptor (entries t) me user fd)) (equal_self me))
         ∙ sym (ap (λ (o : Option Descriptor). cond ((me == me) && (process == user)) o (descriptor (entries newer) me user fd)) (leaves_table given (entries newer) d fd (descriptor (entries newer) me user fd) nameless) ∙ either ((me == me) && (process == user)) (descriptor (entries newer) me user fd)));
     ascends = freed_ascends process words u.descriptors k.descriptors_ascend;
+    cache = used_right c t (part_read u words begun_at) u.cache k.always.cache;
   }
     where
       none : (a b : Bool) → b ≡ false → (a && b) ≡ false

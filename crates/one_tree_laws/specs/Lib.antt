@@ -1,4 +1,5 @@
 pub mod Rest
+pub mod Wants
 pub mod Places
 pub mod Roles
 pub mod SpentMends
@@ -18,3 +19,4 @@ pub use Rattle.store_laws.specs.of_order_laws as of_order_laws
 pub use Rattle.store_laws.specs.of_sync_laws as of_sync_laws
 pub use Rattle.store_laws.specs.of_user_laws as of_user_laws
 pub use Rattle.kept_laws.specs.of_make_laws as of_make_laws
+pub use Rattle.store_laws.specs.of_work_laws as of_work_laws

@@ -6,6 +6,7 @@ use Rattle.role_steps.specs.Adoption.{table_group}
 use Rattle.role_steps.specs.Epochs.{frame_in, is_sync_site, own_groups}
 use Rattle.role_steps.specs.Requests.{descriptor_key, instance_serial, waiting_key}
 use Rattle.role_steps.specs.Own.{Every}
+use Rattle.role_steps.specs.Pulling.{pull_key}
 use Rattle.role_steps.specs.Views.{Frame, Users, SiteView, Told, DiskWrite, Outcome, sync_site}
 use Rattle.role_steps.specs.declared.rounds.InEpoch.{InEpoch}
 use Rattle.the_run.specs.Disks.{Disk}
@@ -23,6 +24,7 @@ use Rattle.tree_laws.specs.Stores.{Ascends, CopiesAreHeld}
 use Rattle.tree_laws.specs.Tables.{TableFact}
 use Rattle.tree_laws.specs.Users.{UsersFact, had}
 use Rattle.store_laws.specs.of_user_laws.Leaving.{AreApart}
+use Rattle.one_tree_laws.specs.Wants.{AskedFact}
 
 -- ---- inside ----
 
@@ -46,6 +48,8 @@ pub record InsideFact (c : Config) (f : Frame) (trace : List Line) (v : SiteView
   pub groups : map table_group v.tables ≡ synced_groups f
   pub tables : Every (TableFact c trace f) v.tables
   pub pulls : PullsFact c f trace v.pulls
+  -- it pulls each file once
+  pub pulls_ascend : Ascends pull_key v.pulls
   -- what it reports is of groups of which it has a pack
   pub reports : Every (λ (g : ℕ). has_pack c g f.me ≡ true) v.reports
 
@@ -71,6 +75,7 @@ pub record OutsideFact (c : Config) (me : ℕ) (trace : List Line) (v : SiteView
   pub users : UsersOutside c me v.boot trace v.users
   pub copies : CopiesAreHeld c trace me v.store
   pub instances : v.store.instances ≡ []
+  pub steps : v.store.steps ≡ []
   pub tables : v.tables ≡ []
   pub pulls : v.pulls ≡ []
 
@@ -89,7 +94,7 @@ pub record StoppedFact (c : Config) (me : ℕ) (trace : List Line) (d : Disk) : 
   pub outside : epoch_of (entries trace) me ≡ None
   pub idle : IsIdle c trace me
   pub descriptors : (process fd : ℕ) → descriptor (entries trace) me process fd ≡ None
-  pub copies : CopiesAreHeld c trace me (record { copies = d.copies; instances = [] })
+  pub copies : CopiesAreHeld c trace me (record { copies = d.copies; instances = []; steps = [] })
 
 -- ---- an outcome of a site ----
 
@@ -136,9 +141,11 @@ PlaceFact c s trace (Stopped d) = StoppedFact c s trace d
 abbrev pub NumberedFact : Config → List Line → Numbered → Type 0
 NumberedFact c trace x = PacketFact c trace x.packet
 
--- All that was told came as it may; each site has its fact by it, and each packet that was sent, delivered or not.
+-- All that was told came as it may; each site has its fact by it, and each packet that was sent, delivered or not; and what sites want
+-- is as they have it.
 pub record WorldFact (c : Config) (w : World) : Type 0 where
   pub followed : IsFollowed c w.trace
   pub places : (s : ℕ) (p : Place) → place_at w s ≡ Some p → PlaceFact c s w.trace p
   pub sent : Every (NumberedFact c w.trace) w.sent
   pub underway : Every (NumberedFact c w.trace) w.underway
+  pub asked : AskedFact c w

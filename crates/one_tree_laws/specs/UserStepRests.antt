@@ -2,7 +2,7 @@
 use Rattle.std.specs.Prelude.{◌≤◌, List, length}
 use Rattle.locus_ids.specs.declared.config.Config.{Config}
 use Rattle.the_run.specs.Worlds.{Line}
-use Rattle.store_laws.specs.of_user_laws.Rests.{ActRests, CloseRests, LookRests, OpenRests, ReplyRests, RequestRests}
+use Rattle.store_laws.specs.of_user_laws.Rests.{ActRests, CloseRests, LookRests, OpenRests, ReadRests, ReplyRests, RequestRests}
 use Rattle.one_tree_laws.specs.Rest.{Past}
 
 pub record UserRests (c : Config) : Type 0 where
@@ -12,5 +12,6 @@ pub record UserRests (c : Config) : Type 0 where
   pub replies : (trace : List Line) → Past c trace → ReplyRests c trace
   pub looks : (trace : List Line) → Past c trace → LookRests c trace
   pub acts : (trace : List Line) → Past c trace → ActRests c trace
+  pub reads : (trace : List Line) → Past c trace → ReadRests c trace
   pub opens : (trace : List Line) → Past c trace → OpenRests c trace
   pub closes : (trace : List Line) → Past c trace → CloseRests c trace

@@ -9,7 +9,7 @@ ghost use Rattle.wire_messages.specs.declared.body.Granted.{Granted};
 ghost use Rattle.wire_messages.specs.declared.body.LookAnswer.{LookAnswer};
 ghost use Rattle.wire_messages.specs.declared.packet.Packet.{Packet};
 ghost use Rattle.role_steps.specs.Mends.{kept_stamps};
-ghost use Rattle.role_steps.specs.Using.{on_call, on_close_done, on_look_done, on_op_done, on_open_done};
+ghost use Rattle.role_steps.specs.Using.{on_as_held, on_call, on_close_done, on_look_done, on_op_done, on_open_done};
 ghost use Rattle.role_steps.specs.Views.{Frame, SiteView, Users};
 ghost use Rattle.the_run.specs.Steps.{call_frame};
 ghost use Rattle.the_run.specs.Worlds.{Line};
@@ -27,6 +27,7 @@ ghost use Rattle.one_tree_laws.specs.UserStepRests.{UserRests};
 pub fn user_steps_are_fine()
     ensures looked { (c : Config) → UserRests c → (n : ℕ) (trace : List Line) (f : Frame) (p : Packet) (call request take : ℕ) (a : LookAnswer) (u : Users) → Ready c trace f → UsersOf c f trace u → Came c trace f p (body.LookDone call request take a) → AllRest c n trace (on_look_done f call request take a u).told → CallsFine c n trace f (on_look_done f call request take a u) }
     ensures acted { (c : Config) → UserRests c → (n : ℕ) (trace : List Line) (f : Frame) (p : Packet) (serial k : ℕ) (r : Result) (u : Users) → Ready c trace f → UsersOf c f trace u → Came c trace f p (body.OpDone serial k r) → AllRest c n trace (on_op_done f serial k r u).told → CallsFine c n trace f (on_op_done f serial k r u) }
+    ensures held { (c : Config) → UserRests c → (n : ℕ) (trace : List Line) (f : Frame) (p : Packet) (serial k len : ℕ) (u : Users) → Ready c trace f → UsersOf c f trace u → Came c trace f p (body.AsHeld serial k len) → AllRest c n trace (on_as_held f serial k u).told → CallsFine c n trace f (on_as_held f serial k u) }
     ensures closed { (c : Config) → UserRests c → (n : ℕ) (trace : List Line) (f : Frame) (p : Packet) (serial : ℕ) (a : CloseAnswer) (u : Users) → Ready c trace f → UsersOf c f trace u → Came c trace f p (body.CloseDone serial a) → AllRest c n trace (on_close_done f serial a u).told → CallsFine c n trace f (on_close_done f serial a u) }
     ensures opened { (c : Config) → UserRests c → (n : ℕ) (trace : List Line) (f : Frame) (p : Packet) (serial : ℕ) (a : Granted) (v : SiteView) → Ready c trace f → InsideFact c f trace v → Came c trace f p (body.OpenDone serial a) → AllRest c n trace (on_open_done f (kept_stamps v) serial a v.users).told → CallsFine c n trace f (on_open_done f (kept_stamps v) serial a v.users) }
     ensures calls { (c : Config) → UserRests c → (n : ℕ) (trace : List Line) (f : Frame) (process : ℕ) (words : Call) (u : Users) → Ready c trace f → UsersOf c f trace u → MayCall c f.me process words u → AllRest c n trace (on_call f (Some f.epoch) process words u).told → CallsFine c n trace f (on_call f (Some f.epoch) process words u) }

@@ -68,7 +68,7 @@ use Rattle.steady_laws.proofs.Reading.{read_is}
 use Rattle.one_version_laws.proofs.Asks.{read_wants}
 use Rattle.one_version_laws.proofs.Granted.{AnswerGranted, GrantedAgain, ReadsAgain, reads_again_so}
 use Rattle.one_version_laws.proofs.Keeping.{GrantedOn}
-use Rattle.one_version_laws.proofs.Readers.{ReadsVersion, last_stands, reader_reads}
+use Rattle.rest_laws.proofs.Readers.{ReadsVersion, last_stands, reader_reads}
 use Rattle.rest_laws.proofs.StoreStepReading.{began_as_now}
 use Rattle.one_version_laws.proofs.Stood.{Stood, begun_then, content_then, named_then, stands_then, stood, was_then}
 

@@ -1,4 +1,3 @@
-pub mod Readers
 pub mod Stood
 pub mod Asks
 pub mod Granted

@@ -4,7 +4,7 @@ use locus_ids::NoMemory;
 use thiserror::Error;
 
 /// Why an operation was not carried out.
-#[derive(Clone, Copy, Debug, PartialEq, Eq, Error)]
+#[derive(Clone, Copy, Debug, Error)]
 pub enum EffectFault {
     /// The contents that a mend is to join are no directories of one group: an inode has two kinds, or a content is longer
     /// than 4,294,967,295 bytes.

@@ -17,6 +17,6 @@ mod work;
 pub use content::WorkingContent;
 pub use fault::EffectFault;
 pub use mending::MendingWork;
-pub use operating::operate;
+pub use operating::{operate, read};
 pub use settled::Settled;
 pub use work::OpenWork;

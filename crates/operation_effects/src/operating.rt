@@ -44,7 +44,7 @@ pub fn operate(
             Ok(on_rename(work, component.as_slice(), name.as_slice(), free)?)
         }
         Op::Empty => Ok(on_empty(work, free)?),
-        Op::Read { at, len } => Ok(on_read(work, *at, *len, free)?),
+        Op::Read { at, len } => Ok(read(work, *at, *len, free)?),
         Op::Write { at, bytes } => Ok(write(work, *at, bytes.as_slice(), free)?),
         Op::Cut { len } => Ok(on_cut(work, *len, free)?),
         Op::Commit => Ok(None),
@@ -52,7 +52,8 @@ pub fn operate(
     }
 }
 
-fn on_read(work: &mut OpenWork, at: u32, len: u16, free: u16) -> Result<Option<Outcome>, NoMemory>
+/// Reads of an open instance where so many pages are free.
+pub fn read(work: &mut OpenWork, at: u32, len: u16, free: u16) -> Result<Option<Outcome>, NoMemory>
     requires { work.old.ops < 4294967295 }
     ensures { IfOk result (λ gave. worked_so gave work.new ≡ worked free work.old (effect (As (Op.Read at len)) work.old.content)) }
 {

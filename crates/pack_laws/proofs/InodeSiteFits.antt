@@ -21,12 +21,12 @@ use Rattle.role_steps.specs.Views.{Frame, Store, Users, SiteView, Promises, Outc
 use Rattle.role_steps.specs.Versions.{is_below, file_row}
 use Rattle.role_steps.specs.Reports.{new_table, on_report, on_open, on_look, on_closed, on_have, on_have_of, sync_repeats}
 use Rattle.role_steps.specs.Opens.{on_opened}
-use Rattle.role_steps.specs.Storage.{copy_key, copy_of, with_copy, instance_of, report_of, reported, on_open_ss, store_repeats}
-use Rattle.role_steps.specs.Pulling.{pull_key, pull_of, goes_on, begins_pull, replaces_pull, on_notify, is_awaited, on_page_of, pull_repeats}
+use Rattle.role_steps.specs.Storage.{copy_key, copy_of, instance_of, report_of, reported, on_open_ss, store_repeats}
+use Rattle.role_steps.specs.Pulling.{pull_key, pull_of, goes_on, pull_over, begins_pull, replaces_pull, on_notify, is_awaited, pages_in, is_delta, on_page_of, on_delta_of, pull_repeats}
 use Rattle.role_steps.specs.Requests.{users_repeats}
-use Rattle.role_steps.specs.Using.{on_call, on_open_done, on_op_done, on_close_done, on_look_done}
+use Rattle.role_steps.specs.Using.{on_call, on_open_done, on_op_done, on_as_held, on_close_done, on_look_done}
 use Rattle.role_steps.specs.Epochs.{is_epoch_below, frame_in, with_users, leaves_of, leaves, promises, promised_view, reached, poll_packet, polled_sites, polls, round_id, begins_round, boots_where, merge_boot, starts_merge, part_boot, starts_part_of, starts_part, promise_packet, refuse_packet, on_poll, on_promise_of, on_refuse_of, report_packets, all_reports, joined_view, joins, may_install, is_in, joined_packet, on_install, on_joined, passed_over, unanswered, chosen_set, chosen_members, others_of, install_packet, installs_all, decides_if, passes_over_of, passes_over, poll_repeats, install_repeats}
-use Rattle.role_steps.specs.Adoption.{notes_own_at, copy_adopted, table_group, with_store, without_pull, is_ready, is_above_own, adopts_pull, adopts_first}
+use Rattle.role_steps.specs.Adoption.{notes_own_at, copy_adopted, table_group, with_store, without_pull, is_ready, adopts_pull, adopts_first, with_adopted, fits_own, content_under}
 use Rattle.role_steps.specs.Mends.{mending, kept_stamps, has_mend_in, wants_mend, starts_mend_of, starts_mend, starts_mends_in, row_file}
 use Rattle.role_steps.specs.declared.copies.FileCopy.{FileCopy}
 use Rattle.role_steps.specs.declared.pulls.Pull.{Pull}
@@ -34,14 +34,15 @@ use Rattle.role_steps.specs.declared.rounds.InEpoch.{InEpoch}
 use Rattle.role_steps.specs.declared.rounds.Round.{Round}
 use Rattle.role_steps.specs.declared.synchronizing.SyncTable.{SyncTable}
 use Rattle.role_steps.specs.declared.synchronizing.FileRow.{FileRow}
+use Rattle.role_steps.proofs.Fitting.{over_any}
 use Rattle.role_steps.proofs.Sending.{every_append, every_cond, every_map, every_flat_map}
 use Rattle.lock_laws.specs.of_the_run.Steps.{in_order, from_user, group_of, at_table_of, is_opened_in, takes_inside, takes_framed, takes, is_dropped, adopts_of, adopts_in, tries_at, starts_mends_of, ends_event, whole, repeats_inside, repeats_of, repeats, ticks_after, call_frame, epoch_id, takes_call, step}
 use Rattle.lock_laws.proofs.of_the_run.InsideSync.{every_row, every_without, Found, row_found, first_found}
 use Rattle.lock_laws.proofs.of_the_run.StepSends.{order_sent}
 use Rattle.lock_laws.proofs.of_vector_laws.SyncFacts.{every_flat}
 use Rattle.pack_laws.specs.InodeFits.{ReportedFits, BodyFits, PacketFits, CopyFits, PullFits, TableFits, ViewFits, OutFits}
-use Rattle.pack_laws.proofs.InodeRolesSend.{on_pull_fits, on_notify_fits, on_page_fits, pull_repeats_fits, users_repeats_fits, on_call_fits, on_open_done_fits, on_op_done_fits, on_close_done_fits, on_look_done_fits}
-use Rattle.pack_laws.proofs.InodeStoreFits.{StoreOut, sync_fits, on_open_ss_fits, on_close_fits, on_closed_ok_fits, on_op_fits, store_repeats_fits}
+use Rattle.pack_laws.proofs.InodeRolesSend.{on_pull_fits, on_want_fits, on_notify_fits, on_page_fits, on_delta_fits, pull_repeats_fits, users_repeats_fits, on_call_fits, on_open_done_fits, on_op_done_fits, on_as_held_fits, on_close_done_fits, on_look_done_fits}
+use Rattle.pack_laws.proofs.InodeStoreFits.{StoreOut, sync_fits, on_open_ss_fits, on_close_fits, on_closed_ok_fits, on_op_fits, on_read_held_fits, store_repeats_fits}
 use Rattle.pack_laws.proofs.InodeSyncFits.{TableOut, on_report_fits, on_open_fits, on_look_fits, on_opened_fits, on_closed_fits, on_have_fits, sync_repeats_fits}
 
 abbrev pub SiteOut : Outcome SiteView → Type 0
@@ -76,16 +77,20 @@ users_part v o h k = record { view = record { store = h.store; pulls = h.pulls; 
 abbrev PullsFit : Outcome (List Pull) → Type 0
 PullsFit o = Every PullFits o.view
 
-begins_pull_keeps : (f : Frame) (p : Pull) (ps : List Pull) → PullFits p → Every PullFits ps → PullsFit (begins_pull f p ps)
-begins_pull_keeps f p ps k h = elim (replaces_pull p (pull_of ps p.file)) as (λ b. PullsFit (elim b [ true ↦ goes_on f p ps | false ↦ quiet ps ])) [ true ↦ every_row PullFits pull_key p ps k h | false ↦ h ]
+begins_pull_keeps : (f : Frame) (own : Option FileCopy) (p : Pull) (ps : List Pull) → PullFits p → Every PullFits ps → PullsFit (begins_pull f own p ps)
+begins_pull_keeps f own p ps k h = elim (replaces_pull own p (pull_of ps p.file)) as (λ b. PullsFit (elim b [ true ↦ goes_on f (pull_over own p) ps | false ↦ quiet ps ])) [ true ↦ every_row PullFits pull_key (pull_over own p) ps (over_any PullFits own p (λ base wanted. k)) h | false ↦ h ]
 
 notify_keeps : (f : Frame) (from : ℕ) (o : Option FileCopy) (p : Pull) (ps : List Pull) → PullFits p → Every PullFits ps → PullsFit (on_notify f from o p ps)
-notify_keeps f from None p ps k h = begins_pull_keeps f p ps k h
+notify_keeps f from None p ps k h = begins_pull_keeps f None p ps k h
 notify_keeps f from (Some own) p ps k h =
-    elim (same_stamp own.stamp p.stamp) as (λ b. PullsFit (elim b [ true ↦ sends (packet f from (body.Have p.file p.stamp) ∷ []) ps | false ↦ elim (is_below own.vector p.vector) [ true ↦ begins_pull f p ps | false ↦ quiet ps ] ])) [
+    elim (same_stamp own.stamp p.stamp) as (λ b. PullsFit (elim b [ true ↦ sends (packet f from (body.Have p.file p.stamp) ∷ []) ps | false ↦ elim (is_below own.vector p.vector) [ true ↦ begins_pull f (Some own) p ps | false ↦ quiet ps ] ])) [
       | true ↦ h
-      | false ↦ elim (is_below own.vector p.vector) as (λ b. PullsFit (elim b [ true ↦ begins_pull f p ps | false ↦ quiet ps ])) [ true ↦ begins_pull_keeps f p ps k h | false ↦ h ]
+      | false ↦ elim (is_below own.vector p.vector) as (λ b. PullsFit (elim b [ true ↦ begins_pull f (Some own) p ps | false ↦ quiet ps ])) [ true ↦ begins_pull_keeps f (Some own) p ps k h | false ↦ h ]
     ]
+
+delta_keeps : (f : Frame) (own : ℕ) (stamp : Stamp) (pages : List ℕ) (o : Option Pull) (ps : List Pull) → Found PullFits o → Every PullFits ps → PullsFit (on_delta_of f own stamp pages o ps)
+delta_keeps f own stamp pages None ps k h = h
+delta_keeps f own stamp pages (Some p) ps k h = elim (is_delta own p stamp pages) as (λ b. PullsFit (elim b [ true ↦ goes_on f (record p { wanted = Some pages }) ps | false ↦ quiet ps ])) [ true ↦ every_row PullFits pull_key (record p { wanted = Some pages }) ps k h | false ↦ h ]
 
 page_keeps : (f : Frame) (stamp : Stamp) (page : ℕ) (bytes : List ℕ) (o : Option Pull) (ps : List Pull) → Found PullFits o → Every PullFits ps → PullsFit (on_page_of f stamp page bytes o ps)
 page_keeps f stamp page bytes None ps k h = h
@@ -101,7 +106,9 @@ inside_fits f from (body.OpenSs inst file mode set kind base vector parents) v s
 inside_fits f from (body.Opened inst answer) v small k h = with_part (on_opened f inst answer) (is_opened_in inst) v h (λ t g. on_opened_fits f inst answer t k g)
 inside_fits f from (body.OpenDone serial answer) v small k h = users_part v (on_open_done f (kept_stamps v) serial answer v.users) h (on_open_done_fits f (kept_stamps v) serial answer v.users)
 inside_fits f from (body.Op serial n o seen) v small k h = store_part v _ h (on_op_fits f (mending v (group_of (instance_of v.store (from_user from serial)))) (from_user from serial) n o seen v.store h.store)
+inside_fits f from (body.ReadHeld serial n at len) v small k h = store_part v _ h (on_read_held_fits f (from_user from serial) n at len v.store h.store)
 inside_fits f from (body.OpDone serial n result) v small k h = users_part v (on_op_done f serial n result v.users) h (on_op_done_fits f serial n result v.users)
+inside_fits f from (body.AsHeld serial n len) v small k h = users_part v (on_as_held f serial n v.users) h (on_as_held_fits f serial n v.users)
 inside_fits f from (body.Close serial) v small k h = store_part v _ h (on_close_fits f (from_user from serial) v.store h.store)
 inside_fits f from (body.Closed inst made) v small k h = with_part (on_closed f from inst made) (is_opened_in inst) v h (λ t g. on_closed_fits f from inst made t g)
 inside_fits f from (body.ClosedOk inst) v small k h = store_part v _ h (on_closed_ok_fits f inst v.store h.store)
@@ -110,11 +117,14 @@ inside_fits f from (body.Look call process request take file what) v small k h =
 inside_fits f from (body.LookSs us call process request take file what serve) v small k h = record { view = h; sent = (tt, tt) }
 inside_fits f from (body.LookDone call request take answer) v small k h = users_part v (on_look_done f call request take answer v.users) h (on_look_done_fits f call request take answer v.users)
 inside_fits f from (body.Notify file kind set size stamp vector holder) v small k h =
-    let p : Pull = record { file = file; kind = kind; set = set; size = size; stamp = stamp; vector = vector; holder = holder; content = [] } in
+    let p : Pull = record { file = file; kind = kind; set = set; size = size; stamp = stamp; vector = vector; holder = holder; base = None; wanted = None; content = [] } in
     record { view = record { store = h.store; pulls = notify_keeps f from (copy_of v.store file) p v.pulls k h.pulls; tables = h.tables }; sent = on_notify_fits f from (copy_of v.store file) p v.pulls }
 inside_fits f from (body.Pull file stamp page) v small k h = record { view = h; sent = on_pull_fits f from file stamp page v.store }
+inside_fits f from (body.Want file wanted own) v small k h = record { view = h; sent = on_want_fits f from file wanted own v.store }
 inside_fits f from (body.Page file stamp page bytes) v small k h =
     record { view = record { store = h.store; pulls = page_keeps f stamp page bytes (pull_of v.pulls file) v.pulls (row_found PullFits pull_key _ v.pulls h.pulls) h.pulls; tables = h.tables }; sent = on_page_fits f file stamp page bytes v.pulls }
+inside_fits f from (body.Delta file wanted pages) v small k h =
+    record { view = record { store = h.store; pulls = delta_keeps f (pages_in (copy_of v.store file)) wanted pages (pull_of v.pulls file) v.pulls (row_found PullFits pull_key _ v.pulls h.pulls) h.pulls; tables = h.tables }; sent = on_delta_fits f (copy_of v.store file) file wanted pages v.pulls }
 inside_fits f from (body.Have file stamp) v small k h = group_part (on_have from file stamp) file.group v h (λ t g. on_have_fits from file stamp t g)
 inside_fits f from body.Poll v small k h = quiet_site v h
 inside_fits f from (body.Promise reach) v small k h = quiet_site v h
@@ -138,15 +148,15 @@ without_fits p v h = record { store = h.store; pulls = every_without PullFits pu
 
 adopts_pull_fits : (f : Frame) (p : Pull) (v : SiteView) → PullFits p → ViewFits v → SiteOut (adopts_pull f p v)
 adopts_pull_fits f p v k h =
-    let w : SiteView = without_pull p (with_store v (with_copy (copy_adopted p) v.store)) in
-    let g : ViewFits w = record { store = record { copies = every_row CopyFits copy_key (copy_adopted p) v.store.copies k h.store.copies; instances = h.store.instances }; pulls = every_without PullFits pull_key (pull_key p) v.pulls h.pulls; tables = h.tables } in
+    let w : SiteView = with_adopted p v in
+    let g : ViewFits w = record { store = record { copies = every_row CopyFits copy_key (copy_adopted p (content_under v p)) v.store.copies k h.store.copies; instances = h.store.instances }; pulls = every_without PullFits pull_key (pull_key p) v.pulls h.pulls; tables = h.tables } in
     record { view = noted_fits f p (row table_group p.file.group v.tables) w (row_found TableFits table_group p.file.group v.tables h.tables) g; sent = sync_fits f p.file.group (body.Have p.file p.stamp) tt }
 
 adopts_first_fits : (f : Frame) (ps : List Pull) (v : SiteView) → Every PullFits ps → ViewFits v → SiteOut (adopts_first f ps v)
 adopts_first_fits f [] v k h = quiet_site v h
 adopts_first_fits f (p ∷ ps) v k h =
-    elim (is_ready v p) as (λ t. SiteOut (elim t [ true ↦ elim (is_above_own p (copy_of v.store p.file)) [ true ↦ adopts_pull f p v | false ↦ adopts_first f ps (without_pull p v) ] | false ↦ adopts_first f ps v ])) [
-      | true ↦ elim (is_above_own p (copy_of v.store p.file)) as (λ t. SiteOut (elim t [ true ↦ adopts_pull f p v | false ↦ adopts_first f ps (without_pull p v) ])) [
+    elim (is_ready v p) as (λ t. SiteOut (elim t [ true ↦ elim (fits_own p (copy_of v.store p.file)) [ true ↦ adopts_pull f p v | false ↦ adopts_first f ps (without_pull p v) ] | false ↦ adopts_first f ps v ])) [
+      | true ↦ elim (fits_own p (copy_of v.store p.file)) as (λ t. SiteOut (elim t [ true ↦ adopts_pull f p v | false ↦ adopts_first f ps (without_pull p v) ])) [
         | true ↦ adopts_pull_fits f p v k.0 h
         | false ↦ adopts_first_fits f ps (without_pull p v) k.1 (without_fits p v h)
       ]
@@ -160,6 +170,7 @@ adopts_of_fits c me (Some e) v h = adopts_first_fits (frame_in c me v.boot e) v.
 tries_fits : (c : Config) (me : ℕ) (x : Body) (v : SiteView) → ViewFits v → SiteOut (tries_at c me x v)
 tries_fits c me (body.Notify file kind set size stamp vector holder) v h = adopts_of_fits c me v.epoch v h
 tries_fits c me (body.Page file stamp page bytes) v h = adopts_of_fits c me v.epoch v h
+tries_fits c me (body.Delta file wanted pages) v h = adopts_of_fits c me v.epoch v h
 tries_fits c me _ v h = quiet_site v h
 
 -- ---- mends ----

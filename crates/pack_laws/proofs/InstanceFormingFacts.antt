@@ -18,12 +18,12 @@ use Rattle.role_steps.specs.Own.{Every}
 use Rattle.role_steps.specs.Tables.{row, without_row, first_that}
 use Rattle.role_steps.specs.Views.{Frame, SiteView, Promises, Outcome, quiet, sends, tells, and_then, boot_in}
 use Rattle.role_steps.specs.Reports.{on_have_of}
-use Rattle.role_steps.specs.Storage.{copy_of, with_copy, report_of}
+use Rattle.role_steps.specs.Storage.{copy_of, report_of}
 use Rattle.role_steps.specs.Pulling.{pull_key}
 use Rattle.role_steps.specs.Using.{on_call}
 use Rattle.role_steps.specs.Versions.{file_row}
 use Rattle.role_steps.specs.Epochs.{is_epoch_below, frame_in, leaves_of, leaves, promises, promised_view, reached, poll_packet, polled_sites, polls, new_round, round_id, begins_round, boots_where, part_boot, starts_part_of, promise_packet, refuse_packet, on_poll, counts_promise, with_promise, on_promise_of, on_refuse_of, report_packets, all_reports, joined_view, joins, may_install, is_in, joined_packet, on_install, on_joined, passed_over, unanswered, chosen_set, chosen_members, others_of, install_packet, installs_all, decides_if, passes_over_of, passes_over}
-use Rattle.role_steps.specs.Adoption.{notes_own_at, copy_adopted, table_group, with_store, with_table, without_pull, is_ready, is_above_own, adopts_pull, adopts_first}
+use Rattle.role_steps.specs.Adoption.{notes_own_at, table_group, with_table, without_pull, is_ready, adopts_pull, adopts_first, with_adopted, fits_own}
 use Rattle.role_steps.specs.Mends.{has_mend_in, wants_mend, starts_mend_of, starts_mend, starts_mends_in, row_file}
 use Rattle.role_steps.specs.declared.instances.Instance.{Instance}
 use Rattle.role_steps.specs.declared.pulls.Pull.{Pull}
@@ -68,7 +68,7 @@ noted_fact c book me p e (Some t) v here k h =
     )
 
 without_fact : (c : Config) (book : Book) (me : ℕ) (p : Pull) (v : SiteView) → ViewFact c book me v → ViewFact c book me (without_pull p v)
-without_fact c book me p v h = view_beside c book me v v.users v.round (without_row pull_key (pull_key p) v.pulls) v.store.copies v.installs v.reports h.users h.round h
+without_fact c book me p v h = view_beside c book me v v.users v.round (without_row pull_key (pull_key p) v.pulls) v.store v.installs v.reports h.users h.round h
 
 found_in : (c : Config) (book : Book) (me : ℕ) (v : SiteView) (e : InEpoch) (group : ℕ) (ts : List SyncTable) → Every (Tabled c book me v e) ts → Found (Tabled c book me v e) (row table_group group ts)
 found_in c book me v e group ts h = pick (row table_group group ts) (row_at (Tabled c book me v e) table_group group ts h)
@@ -80,8 +80,8 @@ found_in c book me v e group ts h = pick (row table_group group ts) (row_at (Tab
 adopts_pull_fine : (c : Config) (book : Book) (me : ℕ) (p : Pull) (e : InEpoch) (v : SiteView) → v.epoch ≡ Some e → Sound c book → ViewFact c book me v → SiteFine c me v.boot book (adopts_pull (frame_in c me v.boot e) p v)
 adopts_pull_fine c book me p e v here s h =
     let f : Frame = frame_in c me v.boot e in
-    let w : SiteView = without_pull p (with_store v (with_copy (copy_adopted p) v.store)) in
-    let k : ViewFact c book me w = view_beside c book me v v.users v.round (without_row pull_key (pull_key p) v.pulls) (with_copy (copy_adopted p) v.store).copies v.installs v.reports h.users h.round h in
+    let w : SiteView = with_adopted p v in
+    let k : ViewFact c book me w = view_beside c book me v v.users v.round (without_row pull_key (pull_key p) v.pulls) (with_adopted p v).store v.installs v.reports h.users h.round h in
     plain_site c me v.boot book (adopts_pull f p v) s
     (noted_fact c book me p e (row table_group p.file.group v.tables) w here (found_in c book me v e p.file.group v.tables (every_table book f 0 v.tables (inside_of c book me v e here h).tables)) k)
     (factless book (adopts_pull f p v).sent (sync_factless f p.file.group (body.Have p.file p.stamp) tt)) (tt, tt)
@@ -90,8 +90,8 @@ adopts_first_fine : (c : Config) (book : Book) (me : ℕ) (e : InEpoch) (ps : Li
 adopts_first_fine c book me e [] v here s h = quiet_site c me book v s h
 adopts_first_fine c book me e (p ∷ ps) v here s h =
     let f : Frame = frame_in c me v.boot e in
-    elim (is_ready v p) as (λ t. SiteFine c me v.boot book (elim t [ true ↦ elim (is_above_own p (copy_of v.store p.file)) [ true ↦ adopts_pull (frame_in c me v.boot e) p v | false ↦ adopts_first (frame_in c me v.boot e) ps (without_pull p v) ] | false ↦ adopts_first (frame_in c me v.boot e) ps v ])) [
-      | true ↦ elim (is_above_own p (copy_of v.store p.file)) as (λ t. SiteFine c me v.boot book (elim t [ true ↦ adopts_pull (frame_in c me v.boot e) p v | false ↦ adopts_first (frame_in c me v.boot e) ps (without_pull p v) ])) [
+    elim (is_ready v p) as (λ t. SiteFine c me v.boot book (elim t [ true ↦ elim (fits_own p (copy_of v.store p.file)) [ true ↦ adopts_pull (frame_in c me v.boot e) p v | false ↦ adopts_first (frame_in c me v.boot e) ps (without_pull p v) ] | false ↦ adopts_first (frame_in c me v.boot e) ps v ])) [
+      | true ↦ elim (fits_own p (copy_of v.store p.file)) as (λ t. SiteFine c me v.boot book (elim t [ true ↦ adopts_pull (frame_in c me v.boot e) p v | false ↦ adopts_first (frame_in c me v.boot e) ps (without_pull p v) ])) [
         | true ↦ adopts_pull_fine c book me p e v here s h
         | false ↦ adopts_first_fine c book me e ps (without_pull p v) here s (without_fact c book me p v h)
       ]
@@ -188,7 +188,7 @@ promises_fine c book me id reach v below s h =
 polls_fine : (c : Config) (book : Book) (me : ℕ) (id : EpochId) (polled : Links) (v : SiteView) → id.site ≡ me → id.boot ≡ v.boot → Sound c book → ViewFact c book me v → SiteFine c me v.boot book (polls me id polled v)
 polls_fine c book me id polled v site boot s h =
     plain_site c me v.boot book (polls me id polled v) s
-    (view_beside c book me v v.users (Some (new_round id polled)) v.pulls v.store.copies v.installs v.reports h.users (site, boot) h, refl)
+    (view_beside c book me v v.users (Some (new_round id polled)) v.pulls v.store v.installs v.reports h.users (site, boot) h, refl)
     (every_map (PacketFact book) (poll_packet me v.boot id polled) (polled_sites polled) (λ t. tt)) tt
 
 pub begins_fine : (c : Config) (book : Book) (me : ℕ) (links : Links) (number : ℕ) (polled : Links) (v : SiteView) → v.promised.number + 1 ≤ number → Sound c book → ViewFact c book me v → SiteFine c me v.boot book (begins_round me links number polled v)
@@ -217,7 +217,7 @@ cond_round me boot false x y e h = h
 
 -- the round goes on
 round_fine : (c : Config) (book : Book) (me : ℕ) (r : Round) (v : SiteView) → RoundFact me v.boot (Some r) → Sound c book → ViewFact c book me v → SiteFine c me v.boot book (quiet (record v { round = Some r }))
-round_fine c book me r v k s h = plain_site c me v.boot book (quiet (record v { round = Some r })) s (view_beside c book me v v.users (Some r) v.pulls v.store.copies v.installs v.reports h.users k h, refl) tt tt
+round_fine c book me r v k s h = plain_site c me v.boot book (quiet (record v { round = Some r })) s (view_beside c book me v v.users (Some r) v.pulls v.store v.installs v.reports h.users k h, refl) tt tt
 
 pub on_promise_fine : (c : Config) (book : Book) (me from from_boot : ℕ) (id : EpochId) (reach : Sites) (o : Option Round) (v : SiteView) → v.round ≡ o → Sound c book → ViewFact c book me v → SiteFine c me v.boot book (on_promise_of from from_boot id reach o v)
 on_promise_fine c book me from from_boot id reach None v here s h = quiet_site c me book v s h
@@ -352,7 +352,7 @@ on_install_fine K c book me from from_boot id m v ok listed s h =
 pub on_joined_fine : (c : Config) (book : Book) (me from : ℕ) (id : EpochId) (v : SiteView) → Sound c book → ViewFact c book me v → SiteFine c me v.boot book (on_joined from id v)
 on_joined_fine c book me from id v s h =
     elim (is_in id v.epoch) as (λ b. SiteFine c me v.boot book (quiet (cond b (record v { installs = without_row (λ s. s) from v.installs }) v))) [
-      | true ↦ plain_site c me v.boot book (quiet (record v { installs = without_row (λ s. s) from v.installs })) s (view_beside c book me v v.users v.round v.pulls v.store.copies (without_row (λ s. s) from v.installs) v.reports h.users h.round h, refl) tt tt
+      | true ↦ plain_site c me v.boot book (quiet (record v { installs = without_row (λ s. s) from v.installs })) s (view_beside c book me v v.users v.round v.pulls v.store (without_row (λ s. s) from v.installs) v.reports h.users h.round h, refl) tt tt
       | false ↦ quiet_site c me book v s h
     ]
 
@@ -361,7 +361,7 @@ on_joined_fine c book me from id v s h =
 installs_fine : (c : Config) (book : Book) (me : ℕ) (id : EpochId) (m : Members) (v : SiteView) → Among (Listed id m) book → Sound c book → ViewFact c book me v → SiteFine c me v.boot book (installs_all me id m v)
 installs_fine c book me id m v listed s h =
     plain_site c me v.boot book (installs_all me id m v) s
-    (view_beside c book me v v.users v.round v.pulls v.store.copies (others_of me m) v.reports h.users h.round h, refl)
+    (view_beside c book me v v.users v.round v.pulls v.store (others_of me m) v.reports h.users h.round h, refl)
     (every_map (PacketFact book) (install_packet me v.boot id m) (others_of me m) (λ t. listed)) tt
 
 decides_fine : (K : Deeds) (c : Config) (book : Book) (me : ℕ) (links : Links) (r q : Round) (xs : List ℕ) (v : SiteView) → v.round ≡ Some r → q.id ≡ r.id → ViewOk K v → Sound c book → ViewFact c book me v → SiteFine c me v.boot book (decides_if c me links q xs v)

@@ -17,10 +17,10 @@ use Rattle.role_steps.specs.Versions.{is_below}
 use Rattle.role_steps.specs.Reports.{on_report, on_open, on_look, on_closed, on_have}
 use Rattle.role_steps.specs.Opens.{OpenRequest, on_opened}
 use Rattle.role_steps.specs.Looks.{LookRequest}
-use Rattle.role_steps.specs.Storage.{StoreRequest, copy_of, instance_of, on_open_ss, on_close, on_closed_ok, has_page, pulled_page}
-use Rattle.role_steps.specs.Operations.{on_op}
-use Rattle.role_steps.specs.Pulling.{pull_of, pull_packets, is_complete, goes_on, begins_pull, replaces_pull, on_notify, is_awaited, on_page_of, on_page, pull_repeats}
-use Rattle.role_steps.specs.Using.{on_open_done, on_op_done, on_close_done, on_look_done}
+use Rattle.role_steps.specs.Storage.{StoreRequest, copy_of, instance_of, on_open_ss, on_close, on_closed_ok, has_page, pulled_page, wanted_delta}
+use Rattle.role_steps.specs.Operations.{on_op, on_read_held}
+use Rattle.role_steps.specs.Pulling.{pull_of, next_asked, pull_packets, is_complete, goes_on, pull_over, begins_pull, replaces_pull, on_notify, is_awaited, pages_in, is_delta, on_page_of, on_delta_of, on_page, on_delta, pull_repeats}
+use Rattle.role_steps.specs.Using.{on_open_done, on_op_done, on_as_held, on_close_done, on_look_done}
 use Rattle.role_steps.specs.Epochs.{frame_in, with_users}
 use Rattle.role_steps.specs.Adoption.{table_group, with_table, with_store}
 use Rattle.role_steps.specs.Mends.{mending, kept_stamps}
@@ -35,10 +35,10 @@ use Rattle.lock_laws.specs.of_the_run.Steps.{from_user, group_of, at_table_of, i
 use Rattle.lock_laws.proofs.of_the_run.InsideSync.{Found, first_found}
 use Rattle.lock_laws.proofs.of_vector_laws.SyncFacts.{FoundAt, row_at}
 use Rattle.pack_laws.specs.InstanceBook.{Note, Listed, Asked, Placed, Began, Book, IsOf, AskedBy, Sound, Grown}
-use Rattle.pack_laws.specs.InstanceFacts.{OpenSsFact, AnswerFact, BodyFact, PacketFact, Factless, ToldFact, UsersFact, own_serial, TableFact, TablesFact, PassedNote, Passed, InsideFact, InEpochFact, RoundFact, ViewFact, Fine}
+use Rattle.pack_laws.specs.InstanceFacts.{OpenSsFact, AnswerFact, BodyFact, PacketFact, NoFact, Factless, ToldFact, UsersFact, own_serial, TableFact, TablesFact, PassedNote, Passed, InsideFact, InEpochFact, RoundFact, ViewFact, Fine}
 use Rattle.pack_laws.proofs.InstanceBooks.{Leads, grown_same, grown_then, grown_weaker, stood, factless, packets_later, tolds_later, users_later, store_later, table_later, tables_later, inside_later}
-use Rattle.pack_laws.proofs.InstanceUsersFacts.{AskedHere, on_open_done_fine, on_op_done_fine, on_close_done_fine, on_look_done_fine}
-use Rattle.pack_laws.proofs.InstanceStoreFacts.{BeganHere, StoreFine, store_fine, on_open_ss_fine, on_close_plain, on_closed_ok_plain, on_op_plain}
+use Rattle.pack_laws.proofs.InstanceUsersFacts.{AskedHere, on_open_done_fine, on_op_done_fine, on_as_held_fine, on_close_done_fine, on_look_done_fine}
+use Rattle.pack_laws.proofs.InstanceStoreFacts.{BeganHere, StoreFine, store_fine, on_open_ss_fine, on_close_plain, on_closed_ok_plain, on_op_plain, on_read_held_plain}
 use Rattle.pack_laws.proofs.InstanceSyncFacts.{PlacedHere, InTable, TableFine, on_opened_fine}
 use Rattle.pack_laws.proofs.InstanceSyncEvents.{on_report_fine, on_open_fine, on_look_fine, on_closed_fine, on_have_fine}
 
@@ -65,15 +65,15 @@ then_site c me boot book o g h next =
     }
 
 -- what a view has beside what the facts speak of in an epoch
-abbrev pub beside : SiteView → Users → Option Round → List Pull → List FileCopy → List ℕ → List ℕ → SiteView
-beside v u r ps copies installs reports = record v { users = u; round = r; pulls = ps; store = record { copies = copies; instances = v.store.instances }; installs = installs; reports = reports }
+abbrev pub beside : SiteView → Users → Option Round → List Pull → Store → List ℕ → List ℕ → SiteView
+beside v u r ps s installs reports = record v { users = u; round = r; pulls = ps; store = record s { instances = v.store.instances }; installs = installs; reports = reports }
 
-inside_beside : (c : Config) (book : Book) (me : ℕ) (v : SiteView) (u : Users) (r : Option Round) (ps : List Pull) (copies : List FileCopy) (installs reports : List ℕ) (o : Option InEpoch) → InEpochFact c book me v o → InEpochFact c book me (beside v u r ps copies installs reports) o
-inside_beside c book me v u r ps copies installs reports None h = h
-inside_beside c book me v u r ps copies installs reports (Some e) h = record { listed = h.listed; here = h.here; store = record { instances = h.store.instances; has = h.store.has }; tables = h.tables }
+inside_beside : (c : Config) (book : Book) (me : ℕ) (v : SiteView) (u : Users) (r : Option Round) (ps : List Pull) (s : Store) (installs reports : List ℕ) (o : Option InEpoch) → InEpochFact c book me v o → InEpochFact c book me (beside v u r ps s installs reports) o
+inside_beside c book me v u r ps s installs reports None h = h
+inside_beside c book me v u r ps s installs reports (Some e) h = record { listed = h.listed; here = h.here; store = record { instances = h.store.instances; has = h.store.has }; tables = h.tables }
 
-pub view_beside : (c : Config) (book : Book) (me : ℕ) (v : SiteView) (u : Users) (r : Option Round) (ps : List Pull) (copies : List FileCopy) (installs reports : List ℕ) → UsersFact book me v.boot u → RoundFact me v.boot r → ViewFact c book me v → ViewFact c book me (beside v u r ps copies installs reports)
-view_beside c book me v u r ps copies installs reports k q h = record { users = k; round = q; passed = h.passed; inside = inside_beside c book me v u r ps copies installs reports v.epoch h.inside }
+pub view_beside : (c : Config) (book : Book) (me : ℕ) (v : SiteView) (u : Users) (r : Option Round) (ps : List Pull) (s : Store) (installs reports : List ℕ) → UsersFact book me v.boot u → RoundFact me v.boot r → ViewFact c book me v → ViewFact c book me (beside v u r ps s installs reports)
+view_beside c book me v u r ps s installs reports k q h = record { users = k; round = q; passed = h.passed; inside = inside_beside c book me v u r ps s installs reports v.epoch h.inside }
 
 -- an outcome that makes no note
 pub plain_site : (c : Config) (me boot : ℕ) (book : Book) (o : Outcome SiteView) → Sound c book → InSite c me boot book o.view → Every (PacketFact book) o.sent → Every (ToldFact book) o.told → SiteFine c me boot book o
@@ -113,7 +113,7 @@ users_part c me book v o h k = record {
       users = k.view;
       round = h.round;
       passed = λ n g own. either_passed New book v n (λ old. h.passed n old own) (asked_passed me v.boot v n) (k.grown.fresh n g);
-      inside = inside_beside c k.book me v o.view v.round v.pulls v.store.copies v.installs v.reports v.epoch (inside_later c book k.book k.grown.leads me v v.epoch (λ e inst file g. stood New book k.book _ k.grown (λ x. x) g) (λ e inst group ss g. stood New book k.book _ k.grown (λ x. x) g) h.inside);
+      inside = inside_beside c k.book me v o.view v.round v.pulls v.store v.installs v.reports v.epoch (inside_later c book k.book k.grown.leads me v v.epoch (λ e inst file g. stood New book k.book _ k.grown (λ x. x) g) (λ e inst group ss g. stood New book k.book _ k.grown (λ x. x) g) h.inside);
     },
     refl,
   );
@@ -310,19 +310,28 @@ with_part c me book v e g test here s h fine =
 abbrev Sending : {V : Type 0} → Outcome V → Type 0
 Sending o = Every Factless o.sent × (o.told ≡ [])
 
-pull_factless : (f : Frame) (p : Pull) → Every Factless (pull_packets f p)
-pull_factless f p = every_cond Factless (is_complete p) [] _ tt (tt, tt)
+asked_factless : (p : Pull) (base : Option Stamp) (wanted : Option (List ℕ)) → NoFact (next_asked p base wanted)
+asked_factless p (Some own) None = tt
+asked_factless p (Some own) (Some pages) = tt
+asked_factless p None wanted = tt
 
-begins_pull_sends : (f : Frame) (p : Pull) (ps : List Pull) → Sending (begins_pull f p ps)
-begins_pull_sends f p ps = elim (replaces_pull p (pull_of ps p.file)) as (λ b. Sending (elim b [ true ↦ goes_on f p ps | false ↦ quiet ps ])) [ true ↦ (pull_factless f p, refl) | false ↦ (tt, refl) ]
+pull_factless : (f : Frame) (p : Pull) → Every Factless (pull_packets f p)
+pull_factless f p = every_cond Factless (is_complete p) [] _ tt (asked_factless p p.base p.wanted, tt)
+
+begins_pull_sends : (f : Frame) (own : Option FileCopy) (p : Pull) (ps : List Pull) → Sending (begins_pull f own p ps)
+begins_pull_sends f own p ps = elim (replaces_pull own p (pull_of ps p.file)) as (λ b. Sending (elim b [ true ↦ goes_on f (pull_over own p) ps | false ↦ quiet ps ])) [ true ↦ (pull_factless f (pull_over own p), refl) | false ↦ (tt, refl) ]
 
 on_notify_sends : (f : Frame) (from : ℕ) (o : Option FileCopy) (p : Pull) (ps : List Pull) → Sending (on_notify f from o p ps)
-on_notify_sends f from None p ps = begins_pull_sends f p ps
+on_notify_sends f from None p ps = begins_pull_sends f None p ps
 on_notify_sends f from (Some own) p ps =
-    elim (same_stamp own.stamp p.stamp) as (λ b. Sending (elim b [ true ↦ sends (packet f from (body.Have p.file p.stamp) ∷ []) ps | false ↦ elim (is_below own.vector p.vector) [ true ↦ begins_pull f p ps | false ↦ quiet ps ] ])) [
+    elim (same_stamp own.stamp p.stamp) as (λ b. Sending (elim b [ true ↦ sends (packet f from (body.Have p.file p.stamp) ∷ []) ps | false ↦ elim (is_below own.vector p.vector) [ true ↦ begins_pull f (Some own) p ps | false ↦ quiet ps ] ])) [
       | true ↦ ((tt, tt), refl)
-      | false ↦ elim (is_below own.vector p.vector) as (λ b. Sending (elim b [ true ↦ begins_pull f p ps | false ↦ quiet ps ])) [ true ↦ begins_pull_sends f p ps | false ↦ (tt, refl) ]
+      | false ↦ elim (is_below own.vector p.vector) as (λ b. Sending (elim b [ true ↦ begins_pull f (Some own) p ps | false ↦ quiet ps ])) [ true ↦ begins_pull_sends f (Some own) p ps | false ↦ (tt, refl) ]
     ]
+
+on_delta_sends : (f : Frame) (own : ℕ) (stamp : Stamp) (pages : List ℕ) (o : Option Pull) (ps : List Pull) → Sending (on_delta_of f own stamp pages o ps)
+on_delta_sends f own stamp pages None ps = (tt, refl)
+on_delta_sends f own stamp pages (Some p) ps = elim (is_delta own p stamp pages) as (λ b. Sending (elim b [ true ↦ goes_on f (record p { wanted = Some pages }) ps | false ↦ quiet ps ])) [ true ↦ (pull_factless f (record p { wanted = Some pages }), refl) | false ↦ (tt, refl) ]
 
 on_page_sends : (f : Frame) (stamp : Stamp) (page : ℕ) (bytes : List ℕ) (o : Option Pull) (ps : List Pull) → Sending (on_page_of f stamp page bytes o ps)
 on_page_sends f stamp page bytes None ps = (tt, refl)
@@ -334,12 +343,16 @@ pull_repeats_factless f ps = every_flat_map Factless (pull_packets f) ps (pull_f
 pulls_part : (c : Config) (me : ℕ) (book : Book) (v : SiteView) (o : Outcome (List Pull)) → Sound c book → ViewFact c book me v → Sending o → SiteFine c me v.boot book (record { view = with_pulls v o.view; sent = o.sent; told = o.told; written = o.written })
 pulls_part c me book v o s h k =
     plain_site c me v.boot book (record { view = with_pulls v o.view; sent = o.sent; told = o.told; written = o.written }) s
-    (view_beside c book me v v.users v.round o.view v.store.copies v.installs v.reports h.users h.round h, refl)
+    (view_beside c book me v v.users v.round o.view v.store v.installs v.reports h.users h.round h, refl)
     (factless book o.sent k.0) (subst (Every (ToldFact book)) (sym k.1) tt)
 
 page_factless : (f : Frame) (from : ℕ) (file : FileId) (stamp : Stamp) (page : ℕ) (o : Option FileCopy) → Every Factless (pulled_page f from file stamp page o)
 page_factless f from file stamp page None = tt
 page_factless f from file stamp page (Some x) = every_cond Factless (has_page stamp page x) _ [] (tt, tt) tt
+
+delta_factless : (f : Frame) (from : ℕ) (file : FileId) (wanted own : Stamp) (s : Store) (o : Option FileCopy) → Every Factless (wanted_delta f from file wanted own s o)
+delta_factless f from file wanted own s None = tt
+delta_factless f from file wanted own s (Some x) = every_cond Factless (same_stamp x.stamp wanted) _ [] (tt, tt) tt
 
 -- ---- packets inside the epoch ----
 
@@ -357,7 +370,7 @@ pub inside_fine : (c : Config) (me : ℕ) (book : Book) (p : Packet) (v : SiteVi
 inside_fine c me book p v e (body.Report group copies) here small s q k h =
     group_part c me book v e (on_report (frame_in c me v.boot e) p.from copies) group here s h (λ t g a. on_report_fine (frame_in c me v.boot e) book p.from copies t s (inside_of c book me v e here h).listed a)
 inside_fine c me book p v e (body.ReportOk group) here small s q k h =
-    plain_site c me v.boot book (takes_inside (frame_in c me v.boot e) p.from (body.ReportOk group) v) s (view_beside c book me v v.users v.round v.pulls v.store.copies v.installs (without_row (λ g. g) group v.reports) h.users h.round h, refl) tt tt
+    plain_site c me v.boot book (takes_inside (frame_in c me v.boot e) p.from (body.ReportOk group) v) s (view_beside c book me v v.users v.round v.pulls v.store v.installs (without_row (λ g. g) group v.reports) h.users h.round h, refl) tt tt
 inside_fine c me book p v e (body.Open serial call process request file how) here small s q k h =
     let o : OpenRequest = record { serial = serial; call = call; process = process; request = request; file = file; how = how } in
     let asked : AskedBy book e.members (own_serial p.from serial) file how = subst (λ (b : ℕ). Among (Asked p.from b serial file how) book) (sym q.from_boot) k in
@@ -370,7 +383,10 @@ inside_fine c me book p v e (body.Opened inst answer) here small s q k h =
 inside_fine c me book p v e (body.OpenDone serial answer) here small s q k h = users_part c me book v (on_open_done (frame_in c me v.boot e) (kept_stamps v) serial answer v.users) h (on_open_done_fine (frame_in c me v.boot e) book (kept_stamps v) serial answer v.users small s h.users)
 inside_fine c me book p v e (body.Op serial n o seen) here small s q k h =
     store_part c me book v e (on_op (frame_in c me v.boot e) (mending v (group_of (instance_of v.store (from_user p.from serial)))) (from_user p.from serial) n o seen v.store) here h (store_fine (frame_in c me v.boot e) book _ s (on_op_plain (frame_in c me v.boot e) book (mending v (group_of (instance_of v.store (from_user p.from serial)))) (from_user p.from serial) n o seen v.store (inside_of c book me v e here h).store))
+inside_fine c me book p v e (body.ReadHeld serial n at len) here small s q k h =
+    store_part c me book v e (on_read_held (frame_in c me v.boot e) (from_user p.from serial) n at len v.store) here h (store_fine (frame_in c me v.boot e) book _ s (on_read_held_plain (frame_in c me v.boot e) book (from_user p.from serial) n at len v.store (inside_of c book me v e here h).store))
 inside_fine c me book p v e (body.OpDone serial n result) here small s q k h = users_part c me book v (on_op_done (frame_in c me v.boot e) serial n result v.users) h (on_op_done_fine (frame_in c me v.boot e) book serial n result v.users small s h.users)
+inside_fine c me book p v e (body.AsHeld serial n len) here small s q k h = users_part c me book v (on_as_held (frame_in c me v.boot e) serial n v.users) h (on_as_held_fine (frame_in c me v.boot e) book serial n v.users small s h.users)
 inside_fine c me book p v e (body.Close serial) here small s q k h = store_part c me book v e (on_close (frame_in c me v.boot e) (from_user p.from serial) v.store) here h (store_fine (frame_in c me v.boot e) book _ s (on_close_plain (frame_in c me v.boot e) book (from_user p.from serial) v.store (inside_of c book me v e here h).store))
 inside_fine c me book p v e (body.Closed inst made) here small s q k h = with_part c me book v e (on_closed (frame_in c me v.boot e) p.from inst made) (is_opened_in inst) here s h (λ t a. on_closed_fine (frame_in c me v.boot e) book p.from inst made t s a)
 inside_fine c me book p v e (body.ClosedOk inst) here small s q k h = store_part c me book v e (on_closed_ok (frame_in c me v.boot e) inst v.store) here h (store_fine (frame_in c me v.boot e) book _ s (on_closed_ok_plain (frame_in c me v.boot e) book inst v.store (inside_of c book me v e here h).store))
@@ -382,11 +398,14 @@ inside_fine c me book p v e (body.LookSs us call process request take file what 
     plain_site c me v.boot book (takes_inside (frame_in c me v.boot e) p.from (body.LookSs us call process request take file what serve) v) s (h, refl) (tt, tt) tt
 inside_fine c me book p v e (body.LookDone call request take answer) here small s q k h = users_part c me book v (on_look_done (frame_in c me v.boot e) call request take answer v.users) h (on_look_done_fine (frame_in c me v.boot e) book call request take answer v.users small s h.users)
 inside_fine c me book p v e (body.Notify file kind set size stamp vector holder) here small s q k h =
-    let x : Pull = record { file = file; kind = kind; set = set; size = size; stamp = stamp; vector = vector; holder = holder; content = [] } in
+    let x : Pull = record { file = file; kind = kind; set = set; size = size; stamp = stamp; vector = vector; holder = holder; base = None; wanted = None; content = [] } in
     pulls_part c me book v (on_notify (frame_in c me v.boot e) p.from (copy_of v.store file) x v.pulls) s h (on_notify_sends (frame_in c me v.boot e) p.from (copy_of v.store file) x v.pulls)
 inside_fine c me book p v e (body.Pull file stamp page) here small s q k h =
     plain_site c me v.boot book (takes_inside (frame_in c me v.boot e) p.from (body.Pull file stamp page) v) s (h, refl) (factless book (pulled_page (frame_in c me v.boot e) p.from file stamp page (copy_of v.store file)) (page_factless (frame_in c me v.boot e) p.from file stamp page (copy_of v.store file))) tt
+inside_fine c me book p v e (body.Want file wanted own) here small s q k h =
+    plain_site c me v.boot book (takes_inside (frame_in c me v.boot e) p.from (body.Want file wanted own) v) s (h, refl) (factless book (wanted_delta (frame_in c me v.boot e) p.from file wanted own v.store (copy_of v.store file)) (delta_factless (frame_in c me v.boot e) p.from file wanted own v.store (copy_of v.store file))) tt
 inside_fine c me book p v e (body.Page file stamp page bytes) here small s q k h = pulls_part c me book v (on_page (frame_in c me v.boot e) file stamp page bytes v.pulls) s h (on_page_sends (frame_in c me v.boot e) stamp page bytes (pull_of v.pulls file) v.pulls)
+inside_fine c me book p v e (body.Delta file wanted pages) here small s q k h = pulls_part c me book v (on_delta (frame_in c me v.boot e) (copy_of v.store file) file wanted pages v.pulls) s h (on_delta_sends (frame_in c me v.boot e) (pages_in (copy_of v.store file)) wanted pages (pull_of v.pulls file) v.pulls)
 inside_fine c me book p v e (body.Have file stamp) here small s q k h = group_part c me book v e (on_have p.from file stamp) file.group here s h (λ t g a. on_have_fine (frame_in c me v.boot e) book p.from file stamp t s a)
 inside_fine c me book p v e body.Poll here small s q k h = quiet_site c me book v s h
 inside_fine c me book p v e (body.Promise reach) here small s q k h = quiet_site c me book v s h

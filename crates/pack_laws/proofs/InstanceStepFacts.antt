@@ -73,6 +73,7 @@ untried_fine K c me boot book links o small ok h = whole_fine K c me boot book l
 tries_fine : (c : Config) (me : ℕ) (book : Book) (x : Body) (v : SiteView) → Sound c book → ViewFact c book me v → SiteFine c me v.boot book (tries_at c me x v)
 tries_fine c me book (body.Notify file kind set size stamp vector holder) v s h = adopts_of_fine c book me v.epoch v refl s h
 tries_fine c me book (body.Page file stamp page bytes) v s h = adopts_of_fine c book me v.epoch v refl s h
+tries_fine c me book (body.Delta file wanted pages) v s h = adopts_of_fine c book me v.epoch v refl s h
 tries_fine c me book _ v s h = quiet_site c me book v s h
 
 -- ---- a packet ----
@@ -121,7 +122,9 @@ received_fine K J c me book links p (body.OpenSs inst file mode set kind base ve
 received_fine K J c me book links p (body.Opened inst answer) v small ok s k h = inside_comes J c me book p (body.Opened inst answer) v refl small s k h
 received_fine K J c me book links p (body.OpenDone serial answer) v small ok s k h = inside_comes J c me book p (body.OpenDone serial answer) v refl small s k h
 received_fine K J c me book links p (body.Op serial n o seen) v small ok s k h = inside_comes J c me book p (body.Op serial n o seen) v refl small s k h
+received_fine K J c me book links p (body.ReadHeld serial n at len) v small ok s k h = inside_comes J c me book p (body.ReadHeld serial n at len) v refl small s k h
 received_fine K J c me book links p (body.OpDone serial n result) v small ok s k h = inside_comes J c me book p (body.OpDone serial n result) v refl small s k h
+received_fine K J c me book links p (body.AsHeld serial n len) v small ok s k h = inside_comes J c me book p (body.AsHeld serial n len) v refl small s k h
 received_fine K J c me book links p (body.Close serial) v small ok s k h = inside_comes J c me book p (body.Close serial) v refl small s k h
 received_fine K J c me book links p (body.Closed inst made) v small ok s k h = inside_comes J c me book p (body.Closed inst made) v refl small s k h
 received_fine K J c me book links p (body.ClosedOk inst) v small ok s k h = inside_comes J c me book p (body.ClosedOk inst) v refl small s k h
@@ -131,7 +134,9 @@ received_fine K J c me book links p (body.LookSs us call process request take fi
 received_fine K J c me book links p (body.LookDone call request take answer) v small ok s k h = inside_comes J c me book p (body.LookDone call request take answer) v refl small s k h
 received_fine K J c me book links p (body.Notify file kind set size stamp vector holder) v small ok s k h = inside_comes J c me book p (body.Notify file kind set size stamp vector holder) v refl small s k h
 received_fine K J c me book links p (body.Pull file stamp page) v small ok s k h = inside_comes J c me book p (body.Pull file stamp page) v refl small s k h
+received_fine K J c me book links p (body.Want file wanted own) v small ok s k h = inside_comes J c me book p (body.Want file wanted own) v refl small s k h
 received_fine K J c me book links p (body.Page file stamp page bytes) v small ok s k h = inside_comes J c me book p (body.Page file stamp page bytes) v refl small s k h
+received_fine K J c me book links p (body.Delta file wanted pages) v small ok s k h = inside_comes J c me book p (body.Delta file wanted pages) v refl small s k h
 received_fine K J c me book links p (body.Have file stamp) v small ok s k h = inside_comes J c me book p (body.Have file stamp) v refl small s k h
 
 -- ---- a tick ----

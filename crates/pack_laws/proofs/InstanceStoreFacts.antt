@@ -14,6 +14,7 @@ use Rattle.trace_book.specs.declared.operation.Op.{Op}
 use Rattle.trace_book.specs.declared.operation.Op.TheVariants as op
 use Rattle.trace_book.specs.declared.operation.Outcome.{Outcome as Result}
 use Rattle.trace_book.specs.declared.operation.Outcome.TheVariants as result
+use Rattle.role_steps.specs.of_file_effects.of_file_content.Pages.{ascending}
 use Rattle.role_steps.specs.of_file_effects.Effects.{Effect}
 use Rattle.role_steps.specs.of_file_effects.Works.{counted}
 use Rattle.role_steps.specs.of_file_effects.declared.work.Work.{Work}
@@ -28,14 +29,16 @@ use Rattle.role_steps.specs.Own.{Every}
 use Rattle.role_steps.specs.Tables.{row, with_latest}
 use Rattle.role_steps.specs.Views.{Frame, Store, Told, Begins, Reserves, Outcome, quiet, sends, and_then, to_some, to_sync, sync_site, serial_key}
 use Rattle.role_steps.specs.Opens.{mode_of}
-use Rattle.role_steps.specs.Storage.{StoreRequest, copy_of, with_copy, instance_key, instance_of, is_open, own_ino, begun_instance, begins, with_instance, opened_packets, opens, opens_made, on_open_ss_of, on_open_ss, is_spent, copy_made, instance_committed, commits, next_stamp, next_vector, made_version, shut, closed_packets, shuts, shuts_again, closes_owing, closes, on_close_at, on_close_of, on_close, ends_at, on_closed_ok_of, on_closed_ok, closed_again, store_repeats}
-use Rattle.role_steps.specs.Operations.{acts, acts_committed, commits_owing, last_committed, commit_op, executes_effect, executes, op_again, by_number, on_op_at, on_op_of, on_op}
+use Rattle.role_steps.specs.Storage.{StoreRequest, copy_of, with_version, with_commit, instance_key, instance_of, is_open, own_ino, begun_instance, begins, with_instance, opened_packets, opens, opens_made, on_open_ss_of, on_open_ss, is_spent, copy_made, instance_committed, commits, next_stamp, next_vector, made_version, shut, closed_packets, shuts, shuts_again, closes_owing, closes, on_close_at, on_close_of, on_close, ends_at, on_closed_ok_of, on_closed_ok, closed_again, store_repeats}
+use Rattle.role_steps.specs.of_dir_format.Entries.{nothing_seen}
+use Rattle.role_steps.specs.Operations.{acts, acts_committed, commits_owing, last_committed, commit_op, executes_effect, executes, op_again, by_number, on_op_at, on_op_of, on_op, in_form, nothing_to_mend, on_read_held}
 use Rattle.role_steps.specs.OperationEffects.{Mending, effect_of}
 use Rattle.role_steps.specs.declared.copies.FileCopy.{FileCopy}
 use Rattle.role_steps.specs.declared.instances.Instance.{Instance}
 use Rattle.role_steps.specs.declared.instances.Stage.{Stage}
 use Rattle.role_steps.specs.declared.instances.Stage.TheVariants as stage
 use Rattle.role_steps.proofs.Rows.{passed_row, found_row}
+use Rattle.role_steps.proofs.HeldReads.{held_read_sent}
 use Rattle.role_steps.proofs.Sending.{every_append, every_cond, every_flat_map}
 use Rattle.lock_laws.specs.of_the_run.Kept.{Among}
 use Rattle.lock_laws.proofs.of_the_run.InsideSync.{Found, row_found}
@@ -94,8 +97,8 @@ puts_instance f book i s k h = record {
   has = λ inst file n. (let j : HasInstance s inst = h.has inst file n in latest_some instance_key (serial_key inst) i s.instances j.0 j.1);
 }
 
-with_copy_fact : (f : Frame) (book : Book) (x : FileCopy) (s : Store) → InStore f book s → InStore f book (with_copy x s)
-with_copy_fact f book x s h = record { instances = h.instances; has = h.has }
+with_version_fact : (f : Frame) (book : Book) (x : FileCopy) (pages : List ℕ) (s : Store) → InStore f book s → InStore f book (with_version x pages s)
+with_version_fact f book x pages s h = record { instances = h.instances; has = h.has }
 
 -- no instance is begun, and what is sent and told says nothing of one
 pub record StorePlain (f : Frame) (book : Book) (o : Outcome Store) : Type 0 where
@@ -212,7 +215,7 @@ commits_plain : (f : Frame) (book : Book) (i : Instance) (s : Store) → Here f 
 commits_plain f book i s k h =
     let vector : List ℕ = next_vector f i in
     let stamp : Stamp = next_stamp f vector in
-    record { view = puts_instance f book (instance_committed i vector stamp) (with_copy (copy_made i vector stamp) s) k (with_copy_fact f book (copy_made i vector stamp) s h); sent = tt; told = λ b. (tt, tt) }
+    record { view = puts_instance f book (instance_committed i vector stamp) (with_commit i vector stamp s) k (with_version_fact f book (copy_made i vector stamp) (ascending i.work.changed) s h); sent = tt; told = λ b. (tt, tt) }
 
 closed_factless : (f : Frame) (i : Instance) (made : Option MadeVersion) → Every Factless (closed_packets f i made)
 closed_factless f i made = sync_factless f i.file.group (body.Closed i.inst made) tt
@@ -335,6 +338,16 @@ op_of_plain f book m (Some i) n o seen s k h = op_at_plain f book m i i.stage n 
 
 pub on_op_plain : (f : Frame) (book : Book) (m : Mending) (inst : Serial) (n : ℕ) (o : Op) (seen : List ℕ) (s : Store) → InStore f book s → StorePlain f book (on_op f m inst n o seen s)
 on_op_plain f book m inst n o seen s h = op_of_plain f book m (instance_of s inst) n o seen s (found_there f book s inst h) h
+
+-- a held read is the operation that it stands for, but for the form of its answer
+form_plain : (f : Frame) (book : Book) (i : Option Instance) (o : Outcome Store) → Every Factless (in_form i o).sent → StorePlain f book o → StorePlain f book (in_form i o)
+form_plain f book None o g h = h
+form_plain f book (Some i) o g h = record { view = h.view; sent = g; told = h.told }
+
+pub on_read_held_plain : (f : Frame) (book : Book) (inst : Serial) (n at len : ℕ) (s : Store) → InStore f book s → StorePlain f book (on_read_held f inst n at len s)
+on_read_held_plain f book inst n at len s h =
+    form_plain f book (instance_of s inst) (on_op f nothing_to_mend inst n (op.Read at len) nothing_seen s)
+    (held_read_sent Factless f (λ to serial m r. tt) (λ to serial m l. tt) inst n at len s) (on_op_plain f book nothing_to_mend inst n (op.Read at len) nothing_seen s h)
 
 -- ---- repeats ----
 

@@ -10,10 +10,10 @@ use Rattle.trace_book.specs.declared.call.Call.TheVariants as call
 use Rattle.trace_book.specs.declared.descriptor.Beginning.{Beginning}
 use Rattle.trace_book.specs.declared.descriptor.Beginning.TheVariants as begins
 use Rattle.trace_book.specs.declared.operation.Op.{Op}
+use Rattle.trace_book.specs.declared.operation.Op.TheVariants as op
 use Rattle.trace_book.specs.declared.operation.Outcome.{Outcome as Result}
 use Rattle.trace_book.specs.declared.reply.Reply.{Reply}
 use Rattle.trace_book.specs.declared.reply.Reply.TheVariants as reply
-use Rattle.call_rules.specs.Descriptors.{beginning}
 use Rattle.call_rules.specs.declared.answer.Answer.{Answer}
 use Rattle.call_rules.specs.declared.want.Want.{Want}
 use Rattle.call_rules.specs.declared.want.Want.TheVariants as want
@@ -29,8 +29,8 @@ use Rattle.wire_messages.specs.declared.body.Granted.TheVariants as granted
 use Rattle.role_steps.specs.Own.{Every}
 use Rattle.role_steps.specs.Tables.{first_that}
 use Rattle.role_steps.specs.Views.{Frame, Users, Told, Outcome, quiet, packet, to_some, to_sync, sync_site}
-use Rattle.role_steps.specs.Requests.{descriptors_of, waiting_key, with_waiting, without_waiting, request_packets, asks, next_request, opening_of, made_for, asks_open, asks_op_of, asks_close_of, seen_by, user_instance, with_user_instance, without_user_instance, users_repeats}
-use Rattle.role_steps.specs.Using.{accepted, frees, is_hopeless, without_hope, after_reply, holds_again, replies, accept_record, takes_record, with_brought, content_answer, asks_want, next_want, goes_on, on_call, takes_answer, with_answer, opened_answer, kept_for, mended_file, takes_open, on_open_done_of, on_open_done, on_op_done_of, on_op_done, on_close_done_of, on_close_done, looks_again, takes_look, on_look_done_of, on_look_done, asks_open_of, asks_op_number, asks_take, reply_record, users_leave, own_call}
+use Rattle.role_steps.specs.Requests.{waiting_key, with_waiting, without_waiting, operation_body, request_packets, asks, next_request, opening_of, made_for, asks_open, asks_op_of, asks_close_of, seen_by, user_instance, with_user_instance, without_user_instance, users_repeats}
+use Rattle.role_steps.specs.Using.{frees, is_hopeless, without_hope, after_reply, holds_again, replies, accept_record, takes_record, with_brought, content_answer, asks_want, next_want, goes_on, on_call, counted_users, counted_call, accepted_call, takes_answer, takes_copied, with_answer, opened_answer, kept_for, mended_file, takes_open, version_read, on_open_done_of, on_open_done, on_op_done_of, on_as_held_of, keeps_brought, on_op_done, on_as_held, on_close_done_of, on_close_done, looks_again, takes_look, on_look_done_of, on_look_done, asks_open_of, asks_op_number, asks_held_number, asks_take, reply_record, users_leave}
 use Rattle.role_steps.specs.Using as using
 use Rattle.role_steps.specs.declared.users.Asking.{Asking}
 use Rattle.role_steps.specs.declared.users.Asking.TheVariants as asking
@@ -43,6 +43,7 @@ use Rattle.lock_laws.proofs.of_vector_laws.SyncFacts.{every_flat}
 use Rattle.pack_laws.specs.InstanceBook.{Note, Asked, Book, Sound}
 use Rattle.pack_laws.specs.InstanceFacts.{BodyFact, PacketFact, ToldFact, AskingFact, WaitingFact, UsersFact, Fine}
 use Rattle.pack_laws.proofs.InstanceBooks.{grown_same, grown_cons, sound_cons, once_asked}
+use Rattle.role_steps.proofs.Caching.{kept_only}
 
 -- a note of what this boot of the site asked
 abbrev pub AskedHere : ℕ → ℕ → Note → Type 0
@@ -71,10 +72,15 @@ some_body book f b (Some to) h = (h to, tt)
 pub sync_body : (book : Book) (f : Frame) (group : ℕ) (b : Body) → ((to : ℕ) → BodyFact book (packet f to b) b) → Every (PacketFact book) (to_sync f group b)
 sync_body book f group b h = some_body book f b (sync_site f.config f.members group) h
 
+-- a request of an operation says nothing of opens, in either form
+operation_fact : (book : Book) (f : Frame) (ss serial number : ℕ) (copied : Option (List ℕ)) (o : Op) (seen : List ℕ) → PacketFact book (packet f ss (operation_body copied serial number o seen))
+operation_fact book f ss serial number (Some bytes) (op.Read at len) seen = tt
+operation_fact book f ss serial number copied o seen = tt
+
 request_fact : (book : Book) (f : Frame) (w : WaitingCall) (a : Asking) → AskingFact book f.me f.boot a → Every (PacketFact book) (request_packets f w a)
 request_fact book f w (asking.Look file what take) h = sync_body book f file.group (body.Look w.call w.process w.request take file what) (λ to. tt)
 request_fact book f w (asking.Open serial file how) h = sync_body book f file.group (body.Open serial w.call w.process w.request file how) (λ to. h)
-request_fact book f w (asking.Op serial ss number o seen) h = (tt, tt)
+request_fact book f w (asking.Op serial ss number o seen) h = (operation_fact book f ss serial number w.copied o seen, tt)
 request_fact book f w (asking.Close serial ss) h = (tt, tt)
 
 with_waiting_fact : (book : Book) (me boot : ℕ) (w : WaitingCall) (u : Users) → WaitingFact book me boot w → UsersFact book me boot u → UsersFact book me boot (with_waiting w u)
@@ -189,9 +195,9 @@ frees_alike process _ u = record { waiting = refl; serials = refl }
 pub on_call_fine : (f : Frame) (book : Book) (now : Option EpochId) (process : ℕ) (words : Call) (u : Users) → f.me ≤ sites_max → Sound f.config book → UsersFact book f.me f.boot u → UsersFine f book (on_call f now process words u)
 on_call_fine f book now process words u small s h =
     let n : ℕ = u.calls + 1 in
-    let w : WaitingCall = accepted process n words (beginning (descriptors_of u process) now (own_call f.me f.boot n) words) in
-    let counted : Users = frees process words (record u { calls = n }) in
-    let k : UsersFact book f.me f.boot counted = alike_fact book f.me f.boot (record u { calls = n }) counted (frees_alike process words (record u { calls = n })) (record { waiting = h.waiting; counted = h.counted }) in
+    let w : WaitingCall = accepted_call f now process words u in
+    let counted : Users = counted_call f now process words u in
+    let k : UsersFact book f.me f.boot counted = alike_fact book f.me f.boot (counted_users f now process words u) counted (frees_alike process words (counted_users f now process words u)) (record { waiting = h.waiting; counted = h.counted }) in
     one_more f book (accept_record f.me f.boot process n words) (goes_on f w counted) (λ b. tt) (goes_on_fine f book w counted small s k)
 
 takes_answer_fine : (f : Frame) (book : Book) (w : WaitingCall) (a : Answer) (u : Users) → f.me ≤ sites_max → Sound f.config book → UsersFact book f.me f.boot u → UsersFine f book (takes_answer f w a u)
@@ -201,7 +207,7 @@ takes_answer_fine f book w a u small s h = one_more f book (takes_record f w a) 
 
 takes_open_fine : (f : Frame) (book : Book) (kept : FileId → List Stamp) (serial : ℕ) (w : WaitingCall) (a : Granted) (u : Users) → f.me ≤ sites_max → Sound f.config book → UsersFact book f.me f.boot u → UsersFine f book (takes_open f kept serial w a u)
 takes_open_fine f book kept serial w (granted.Open ss ino size stamp vector) u small s h =
-    takes_answer_fine f book w (opened_answer f serial ino stamp (kept_for kept (mended_file w.words)) w.words w.asking) (with_user_instance (record { serial = serial; ss = ss; vector = vector; ops = 0 }) u) small s (record { waiting = h.waiting; counted = h.counted })
+    takes_answer_fine f book w (opened_answer f serial ino stamp (kept_for kept (mended_file w.words)) w.words w.asking) (with_user_instance (record { serial = serial; ss = ss; vector = vector; ops = 0; reads = version_read size stamp w.asking }) u) small s (record { waiting = h.waiting; counted = h.counted })
 takes_open_fine f book kept serial w (granted.No why) u small s h = takes_answer_fine f book w _ u small s h
 
 open_done_fine : (f : Frame) (book : Book) (kept : FileId → List Stamp) (serial : ℕ) (a : Granted) (o : Option WaitingCall) (u : Users) → f.me ≤ sites_max → Sound f.config book → UsersFact book f.me f.boot u → UsersFine f book (on_open_done_of f kept serial a o u)
@@ -213,10 +219,21 @@ on_open_done_fine f book kept serial a u small s h = open_done_fine f book kept 
 
 op_done_fine : (f : Frame) (book : Book) (r : Result) (o : Option WaitingCall) (u : Users) → f.me ≤ sites_max → Sound f.config book → UsersFact book f.me f.boot u → UsersFine f book (on_op_done_of f r o u)
 op_done_fine f book r None u small s h = still f book (quiet u) s h tt tt
-op_done_fine f book r (Some w) u small s h = takes_answer_fine f book w _ u small s h
+op_done_fine f book r (Some w) u small s h = takes_answer_fine f book w _ (keeps_brought w.asking r u) small s (kept_only (UsersFact book f.me f.boot) w.asking r u (λ pages. record { waiting = h.waiting; counted = h.counted }))
 
 pub on_op_done_fine : (f : Frame) (book : Book) (serial n : ℕ) (r : Result) (u : Users) → f.me ≤ sites_max → Sound f.config book → UsersFact book f.me f.boot u → UsersFine f book (on_op_done f serial n r u)
 on_op_done_fine f book serial n r u small s h = op_done_fine f book r (first_that (asks_op_number serial n r) u.waiting) u small s h
+
+copied_fine : (f : Frame) (book : Book) (w : WaitingCall) (copied : Option (List ℕ)) (u : Users) → f.me ≤ sites_max → Sound f.config book → UsersFact book f.me f.boot u → UsersFine f book (takes_copied f w copied u)
+copied_fine f book w None u small s h = still f book (quiet u) s h tt tt
+copied_fine f book w (Some bytes) u small s h = takes_answer_fine f book w _ u small s h
+
+as_held_fine : (f : Frame) (book : Book) (o : Option WaitingCall) (u : Users) → f.me ≤ sites_max → Sound f.config book → UsersFact book f.me f.boot u → UsersFine f book (on_as_held_of f o u)
+as_held_fine f book None u small s h = still f book (quiet u) s h tt tt
+as_held_fine f book (Some w) u small s h = copied_fine f book w w.copied u small s h
+
+pub on_as_held_fine : (f : Frame) (book : Book) (serial n : ℕ) (u : Users) → f.me ≤ sites_max → Sound f.config book → UsersFact book f.me f.boot u → UsersFine f book (on_as_held f serial n u)
+on_as_held_fine f book serial n u small s h = as_held_fine f book (first_that (asks_held_number serial n) u.waiting) u small s h
 
 close_done_fine : (f : Frame) (book : Book) (serial : ℕ) (a : CloseAnswer) (o : Option WaitingCall) (u : Users) → f.me ≤ sites_max → Sound f.config book → UsersFact book f.me f.boot u → UsersFine f book (on_close_done_of f serial a o u)
 close_done_fine f book serial a None u small s h = still f book (quiet u) s h tt tt

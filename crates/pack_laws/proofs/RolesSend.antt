@@ -16,15 +16,15 @@ use Rattle.wire_messages.specs.declared.body.Body.TheVariants as body
 use Rattle.role_steps.specs.Own.{Every}
 use Rattle.role_steps.specs.Views.{Frame, Store, Users, Outcome, Told, Shown, Takes, LooksAgain}
 use Rattle.role_steps.specs.Looks.{LookRequest}
-use Rattle.role_steps.specs.Storage.{on_look_ss, on_pull}
-use Rattle.role_steps.specs.Pulling.{on_notify, on_page, pull_repeats}
+use Rattle.role_steps.specs.Storage.{on_look_ss, on_pull, on_want}
+use Rattle.role_steps.specs.Pulling.{on_notify, on_page, on_delta, pull_repeats}
 use Rattle.role_steps.specs.Requests.{users_repeats}
-use Rattle.role_steps.specs.Using.{on_call, on_open_done, on_op_done, on_close_done, on_look_done}
+use Rattle.role_steps.specs.Using.{on_call, on_open_done, on_op_done, on_as_held, on_close_done, on_look_done}
 use Rattle.role_steps.specs.declared.copies.FileCopy.{FileCopy}
 use Rattle.role_steps.specs.declared.pulls.Pull.{Pull}
 use Rattle.lock_laws.specs.of_law_walks.Kinds.{IsOfReader, IsUserRequest, IsOfUser, IsCallRecord, TellsCall}
 use Rattle.lock_laws.specs.of_law_walks.Laws.{Law, frame_law, ReadersKeep, UsersKeep, Part}
-use Rattle.lock_laws.proofs.of_law_walks.RoleWalks.{on_look_ss_walk, on_pull_walk, on_notify_walk, on_page_walk, pull_repeats_walk, users_repeats_walk, on_call_walk, on_open_done_walk, on_op_done_walk, on_close_done_walk, on_look_done_walk}
+use Rattle.lock_laws.proofs.of_law_walks.RoleWalks.{on_look_ss_walk, on_pull_walk, on_want_walk, on_notify_walk, on_page_walk, on_delta_walk, pull_repeats_walk, users_repeats_walk, on_call_walk, on_open_done_walk, on_op_done_walk, on_as_held_walk, on_close_done_walk, on_look_done_walk}
 use Rattle.pack_laws.specs.Packs.{RecordPacked, HasPack, ToldPacked}
 use Rattle.pack_laws.specs.Packed.{BodyPacked, PacketPacked}
 
@@ -41,12 +41,14 @@ request_packed c from to _ h = absurd h
 
 user_packed : (c : Config) (from to : ℕ) (b : Body) → IsOfUser b → BodyPacked c from to b
 user_packed c from to (body.Op serial n o seen) h = tt
+user_packed c from to (body.ReadHeld serial n at len) h = tt
 user_packed c from to (body.Close serial) h = tt
 user_packed c from to _ h = absurd h
 
 reader_packed : (c : Config) (from to : ℕ) (b : Body) → IsOfReader b → BodyPacked c from to b
 reader_packed c from to (body.LookDone call request take answer) h = tt
 reader_packed c from to (body.Pull file stamp page) h = tt
+reader_packed c from to (body.Want file wanted own) h = tt
 reader_packed c from to _ h = absurd h
 
 call_packed : (c : Config) (r : Record) → IsCallRecord r → RecordPacked c r
@@ -80,11 +82,17 @@ on_look_ss_packed c f us l stamp s = both c (on_look_ss f us l stamp s) (on_look
 pub on_pull_packed : (c : Config) (f : Frame) (from : ℕ) (file : FileId) (stamp : Stamp) (page : ℕ) (s : Store) → AllPacked c (on_pull f from file stamp page s)
 on_pull_packed c f from file stamp page s = both c (on_pull f from file stamp page s) (on_pull_walk (carrying c) f (readers c f) from file stamp page (λ bytes. tt) s)
 
+pub on_want_packed : (c : Config) (f : Frame) (from : ℕ) (file : FileId) (wanted own : Stamp) (s : Store) → AllPacked c (on_want f from file wanted own s)
+on_want_packed c f from file wanted own s = both c (on_want f from file wanted own s) (on_want_walk (carrying c) f (readers c f) from file wanted own (λ pages. tt) s)
+
 pub on_notify_packed : (c : Config) (f : Frame) (from : ℕ) (o : Option FileCopy) (p : Pull) (ps : List Pull) → HasPack c p.file.group f.me → AllPacked c (on_notify f from o p ps)
 on_notify_packed c f from o p ps h = both c (on_notify f from o p ps) (on_notify_walk (carrying c) f (readers c f) from o p h ps)
 
 pub on_page_packed : (c : Config) (f : Frame) (file : FileId) (stamp : Stamp) (page : ℕ) (bytes : List ℕ) (ps : List Pull) → AllPacked c (on_page f file stamp page bytes ps)
 on_page_packed c f file stamp page bytes ps = both c (on_page f file stamp page bytes ps) (on_page_walk (carrying c) f (readers c f) file stamp page bytes ps)
+
+pub on_delta_packed : (c : Config) (f : Frame) (own : Option FileCopy) (file : FileId) (stamp : Stamp) (pages : List ℕ) (ps : List Pull) → AllPacked c (on_delta f own file stamp pages ps)
+on_delta_packed c f own file stamp pages ps = both c (on_delta f own file stamp pages ps) (on_delta_walk (carrying c) f (readers c f) own file stamp pages ps)
 
 pub pull_repeats_packed : (c : Config) (f : Frame) (ps : List Pull) → Every (PacketPacked c) (pull_repeats f ps)
 pull_repeats_packed c f ps = pull_repeats_walk (carrying c) f (readers c f) ps
@@ -97,6 +105,9 @@ on_open_done_packed c f kept serial a u = both c (on_open_done f kept serial a u
 
 pub on_op_done_packed : (c : Config) (f : Frame) (serial n : ℕ) (r : Result) (u : Users) → AllPacked c (on_op_done f serial n r u)
 on_op_done_packed c f serial n r u = both c (on_op_done f serial n r u) (on_op_done_walk (carrying c) f (users c f) serial n r u)
+
+pub on_as_held_packed : (c : Config) (f : Frame) (serial n : ℕ) (u : Users) → AllPacked c (on_as_held f serial n u)
+on_as_held_packed c f serial n u = both c (on_as_held f serial n u) (on_as_held_walk (carrying c) f (users c f) serial n u)
 
 pub on_close_done_packed : (c : Config) (f : Frame) (serial : ℕ) (a : CloseAnswer) (u : Users) → AllPacked c (on_close_done f serial a u)
 on_close_done_packed c f serial a u = both c (on_close_done f serial a u) (on_close_done_walk (carrying c) f (users c f) serial a u)

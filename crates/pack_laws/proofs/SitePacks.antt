@@ -20,12 +20,12 @@ use Rattle.role_steps.specs.Views.{Frame, Store, Users, SiteView, Promises, Outc
 use Rattle.role_steps.specs.Versions.{is_below, file_row}
 use Rattle.role_steps.specs.Reports.{new_table, on_report, on_open, on_look, on_closed, on_have, on_have_of, sync_repeats}
 use Rattle.role_steps.specs.Opens.{on_opened}
-use Rattle.role_steps.specs.Storage.{copy_key, copy_of, with_copy, instance_of, on_pull, report_of, reported, on_open_ss, store_repeats}
-use Rattle.role_steps.specs.Pulling.{pull_key, pull_of, goes_on, begins_pull, replaces_pull, on_notify, is_awaited, on_page_of, on_page, pull_repeats}
+use Rattle.role_steps.specs.Storage.{copy_key, copy_of, instance_of, on_pull, on_want, report_of, reported, on_open_ss, store_repeats}
+use Rattle.role_steps.specs.Pulling.{pull_key, pull_of, goes_on, pull_over, begins_pull, replaces_pull, on_notify, is_awaited, pages_in, is_delta, on_page_of, on_delta_of, on_page, on_delta, pull_repeats}
 use Rattle.role_steps.specs.Requests.{users_repeats}
-use Rattle.role_steps.specs.Using.{on_call, on_open_done, on_op_done, on_close_done, on_look_done}
+use Rattle.role_steps.specs.Using.{on_call, on_open_done, on_op_done, on_as_held, on_close_done, on_look_done}
 use Rattle.role_steps.specs.Epochs.{is_epoch_below, frame_in, with_users, leaves_of, leaves, promises, promised_view, reached, poll_packet, polled_sites, polls, round_id, begins_round, boots_where, merge_boot, starts_merge, part_boot, starts_part_of, starts_part, promise_packet, refuse_packet, on_poll, on_promise_of, on_refuse_of, report_packets, all_reports, joined_view, joins, may_install, is_in, joined_packet, on_install, on_joined, passed_over, unanswered, chosen_set, chosen_members, others_of, install_packet, installs_all, decides_if, passes_over_of, passes_over, poll_repeats, install_repeats}
-use Rattle.role_steps.specs.Adoption.{notes_own_at, copy_adopted, table_group, with_store, without_pull, is_ready, is_above_own, adopts_pull, adopts_first}
+use Rattle.role_steps.specs.Adoption.{notes_own_at, copy_adopted, table_group, with_store, without_pull, is_ready, adopts_pull, adopts_first, with_adopted, fits_own, content_under}
 use Rattle.role_steps.specs.Mends.{mending, kept_stamps, has_mend_in, wants_mend, starts_mend_of, starts_mend, starts_mends_in, row_file}
 use Rattle.role_steps.specs.declared.copies.FileCopy.{FileCopy}
 use Rattle.role_steps.specs.declared.pulls.Pull.{Pull}
@@ -33,6 +33,7 @@ use Rattle.role_steps.specs.declared.rounds.InEpoch.{InEpoch}
 use Rattle.role_steps.specs.declared.rounds.Round.{Round}
 use Rattle.role_steps.specs.declared.synchronizing.SyncTable.{SyncTable}
 use Rattle.role_steps.specs.declared.synchronizing.FileRow.{FileRow}
+use Rattle.role_steps.proofs.Fitting.{over_any}
 use Rattle.role_steps.proofs.Sending.{every_append, every_cond, every_map}
 use Rattle.lock_laws.specs.of_the_run.Steps.{in_order, from_user, group_of, at_table_of, is_opened_in, takes_inside, takes_framed, takes, is_dropped, adopts_of, adopts_in, tries_at, starts_mends_of, ends_event, whole, repeats_inside, repeats_of, repeats, ticks_after, call_frame, epoch_id, takes_call, step}
 use Rattle.lock_laws.proofs.of_the_run.InsideSync.{every_row, every_without, Found, row_found, first_found}
@@ -52,8 +53,8 @@ use Rattle.lock_laws.proofs.of_vector_laws.SyncFacts.{FoundAt, row_at}
 use Rattle.pack_laws.specs.Packs.{HasPack, InPacks, CopyPacked, ToldPacked}
 use Rattle.pack_laws.specs.Packed.{ReportedPacked, BodyPacked, PacketPacked, PullPacked, TablePacked, ReportPacked, ViewPacked, TableCloses, BodyCloses, OutPacked}
 use Rattle.pack_laws.proofs.Sets.{every_filter, passing, every_and}
-use Rattle.pack_laws.proofs.RolesSend.{AllPacked, on_pull_packed, on_notify_packed, on_page_packed, pull_repeats_packed, users_repeats_packed, on_call_packed, on_open_done_packed, on_op_done_packed, on_close_done_packed, on_look_done_packed}
-use Rattle.pack_laws.proofs.StorePacks.{StoreOut, sync_packed, on_open_ss_packed, on_close_packed, on_closed_ok_packed, on_op_packed, store_repeats_packed}
+use Rattle.pack_laws.proofs.RolesSend.{AllPacked, on_pull_packed, on_want_packed, on_notify_packed, on_page_packed, on_delta_packed, pull_repeats_packed, users_repeats_packed, on_call_packed, on_open_done_packed, on_op_done_packed, on_as_held_packed, on_close_done_packed, on_look_done_packed}
+use Rattle.pack_laws.proofs.StorePacks.{StoreOut, sync_packed, on_open_ss_packed, on_close_packed, on_closed_ok_packed, on_op_packed, on_read_held_packed, store_repeats_packed}
 use Rattle.pack_laws.proofs.RowPacks.{InTable}
 use Rattle.pack_laws.proofs.SyncPacks.{TableOut, on_report_packed, on_open_packed, on_look_packed, on_opened_packed, on_closed_packed, on_have_packed, sync_repeats_packed}
 
@@ -99,16 +100,20 @@ users_part c me v o h k = record { view = record { store = h.store; pulls = h.pu
 abbrev PullsPacked : Config → ℕ → Outcome (List Pull) → Type 0
 PullsPacked c me o = Every (PullPacked c me) o.view
 
-begins_pull_keeps : (c : Config) (me : ℕ) (f : Frame) (p : Pull) (ps : List Pull) → PullPacked c me p → Every (PullPacked c me) ps → PullsPacked c me (begins_pull f p ps)
-begins_pull_keeps c me f p ps k h = elim (replaces_pull p (pull_of ps p.file)) as (λ b. PullsPacked c me (elim b [ true ↦ goes_on f p ps | false ↦ quiet ps ])) [ true ↦ every_row (PullPacked c me) pull_key p ps k h | false ↦ h ]
+begins_pull_keeps : (c : Config) (me : ℕ) (f : Frame) (own : Option FileCopy) (p : Pull) (ps : List Pull) → PullPacked c me p → Every (PullPacked c me) ps → PullsPacked c me (begins_pull f own p ps)
+begins_pull_keeps c me f own p ps k h = elim (replaces_pull own p (pull_of ps p.file)) as (λ b. PullsPacked c me (elim b [ true ↦ goes_on f (pull_over own p) ps | false ↦ quiet ps ])) [ true ↦ every_row (PullPacked c me) pull_key (pull_over own p) ps (over_any (PullPacked c me) own p (λ base wanted. k)) h | false ↦ h ]
 
 notify_keeps : (c : Config) (me : ℕ) (f : Frame) (from : ℕ) (o : Option FileCopy) (p : Pull) (ps : List Pull) → PullPacked c me p → Every (PullPacked c me) ps → PullsPacked c me (on_notify f from o p ps)
-notify_keeps c me f from None p ps k h = begins_pull_keeps c me f p ps k h
+notify_keeps c me f from None p ps k h = begins_pull_keeps c me f None p ps k h
 notify_keeps c me f from (Some own) p ps k h =
-    elim (same_stamp own.stamp p.stamp) as (λ b. PullsPacked c me (elim b [ true ↦ sends (packet f from (body.Have p.file p.stamp) ∷ []) ps | false ↦ elim (is_below own.vector p.vector) [ true ↦ begins_pull f p ps | false ↦ quiet ps ] ])) [
+    elim (same_stamp own.stamp p.stamp) as (λ b. PullsPacked c me (elim b [ true ↦ sends (packet f from (body.Have p.file p.stamp) ∷ []) ps | false ↦ elim (is_below own.vector p.vector) [ true ↦ begins_pull f (Some own) p ps | false ↦ quiet ps ] ])) [
       | true ↦ h
-      | false ↦ elim (is_below own.vector p.vector) as (λ b. PullsPacked c me (elim b [ true ↦ begins_pull f p ps | false ↦ quiet ps ])) [ true ↦ begins_pull_keeps c me f p ps k h | false ↦ h ]
+      | false ↦ elim (is_below own.vector p.vector) as (λ b. PullsPacked c me (elim b [ true ↦ begins_pull f (Some own) p ps | false ↦ quiet ps ])) [ true ↦ begins_pull_keeps c me f (Some own) p ps k h | false ↦ h ]
     ]
+
+delta_keeps : (c : Config) (me : ℕ) (f : Frame) (own : ℕ) (stamp : Stamp) (pages : List ℕ) (o : Option Pull) (ps : List Pull) → Found (PullPacked c me) o → Every (PullPacked c me) ps → PullsPacked c me (on_delta_of f own stamp pages o ps)
+delta_keeps c me f own stamp pages None ps k h = h
+delta_keeps c me f own stamp pages (Some p) ps k h = elim (is_delta own p stamp pages) as (λ b. PullsPacked c me (elim b [ true ↦ goes_on f (record p { wanted = Some pages }) ps | false ↦ quiet ps ])) [ true ↦ every_row (PullPacked c me) pull_key (record p { wanted = Some pages }) ps k h | false ↦ h ]
 
 page_keeps : (c : Config) (me : ℕ) (f : Frame) (stamp : Stamp) (page : ℕ) (bytes : List ℕ) (o : Option Pull) (ps : List Pull) → Found (PullPacked c me) o → Every (PullPacked c me) ps → PullsPacked c me (on_page_of f stamp page bytes o ps)
 page_keeps c me f stamp page bytes None ps k h = h
@@ -134,7 +139,9 @@ inside_packed f from (body.OpenSs inst file mode set kind base vector parents) v
 inside_packed f from (body.Opened inst answer) v k d h = with_part f (λ (t : SyncTable). Unit {0}) (on_opened f inst answer) (is_opened_in inst) v h (always v.tables) (λ t g u. on_opened_packed f inst answer t g)
 inside_packed f from (body.OpenDone serial answer) v k d h = users_part f.config f.me v (on_open_done f (kept_stamps v) serial answer v.users) h (on_open_done_packed f.config f (kept_stamps v) serial answer v.users)
 inside_packed f from (body.Op serial n o seen) v k d h = store_part f v _ h (on_op_packed f (mending v (group_of (instance_of v.store (from_user from serial)))) (from_user from serial) n o seen v.store h.store)
+inside_packed f from (body.ReadHeld serial n at len) v k d h = store_part f v _ h (on_read_held_packed f (from_user from serial) n at len v.store h.store)
 inside_packed f from (body.OpDone serial n result) v k d h = users_part f.config f.me v (on_op_done f serial n result v.users) h (on_op_done_packed f.config f serial n result v.users)
+inside_packed f from (body.AsHeld serial n len) v k d h = users_part f.config f.me v (on_as_held f serial n v.users) h (on_as_held_packed f.config f serial n v.users)
 inside_packed f from (body.Close serial) v k d h = store_part f v _ h (on_close_packed f (from_user from serial) v.store h.store)
 inside_packed f from (body.Closed inst made) v k d h = with_part f (TableCloses f.config from (serial_key inst)) (on_closed f from inst made) (is_opened_in inst) v h d (λ t g u. on_closed_packed f from inst made t u g)
 inside_packed f from (body.ClosedOk inst) v k d h = store_part f v _ h (on_closed_ok_packed f inst v.store h.store)
@@ -143,13 +150,17 @@ inside_packed f from (body.Look call process request take file what) v k d h = g
 inside_packed f from (body.LookSs us call process request take file what serve) v k d h = record { view = h; sent = (tt, tt); told = tt }
 inside_packed f from (body.LookDone call request take answer) v k d h = users_part f.config f.me v (on_look_done f call request take answer v.users) h (on_look_done_packed f.config f call request take answer v.users)
 inside_packed f from (body.Notify file kind set size stamp vector holder) v k d h =
-    let p : Pull = record { file = file; kind = kind; set = set; size = size; stamp = stamp; vector = vector; holder = holder; content = [] } in
+    let p : Pull = record { file = file; kind = kind; set = set; size = size; stamp = stamp; vector = vector; holder = holder; base = None; wanted = None; content = [] } in
     let q : AllPacked f.config (on_notify f from (copy_of v.store file) p v.pulls) = on_notify_packed f.config f from (copy_of v.store file) p v.pulls k.here in
     record { view = record { store = h.store; pulls = notify_keeps f.config f.me f from (copy_of v.store file) p v.pulls k h.pulls; tables = h.tables; reports = h.reports }; sent = q.0; told = q.1 }
 inside_packed f from (body.Pull file stamp page) v k d h = let q : AllPacked f.config (on_pull f from file stamp page v.store) = on_pull_packed f.config f from file stamp page v.store in record { view = h; sent = q.0; told = q.1 }
+inside_packed f from (body.Want file wanted own) v k d h = let q : AllPacked f.config (on_want f from file wanted own v.store) = on_want_packed f.config f from file wanted own v.store in record { view = h; sent = q.0; told = q.1 }
 inside_packed f from (body.Page file stamp page bytes) v k d h =
     let q : AllPacked f.config (on_page f file stamp page bytes v.pulls) = on_page_packed f.config f file stamp page bytes v.pulls in
     record { view = record { store = h.store; pulls = page_keeps f.config f.me f stamp page bytes (pull_of v.pulls file) v.pulls (row_found (PullPacked f.config f.me) pull_key _ v.pulls h.pulls) h.pulls; tables = h.tables; reports = h.reports }; sent = q.0; told = q.1 }
+inside_packed f from (body.Delta file wanted pages) v k d h =
+    let q : AllPacked f.config (on_delta f (copy_of v.store file) file wanted pages v.pulls) = on_delta_packed f.config f (copy_of v.store file) file wanted pages v.pulls in
+    record { view = record { store = h.store; pulls = delta_keeps f.config f.me f (pages_in (copy_of v.store file)) wanted pages (pull_of v.pulls file) v.pulls (row_found (PullPacked f.config f.me) pull_key _ v.pulls h.pulls) h.pulls; tables = h.tables; reports = h.reports }; sent = q.0; told = q.1 }
 inside_packed f from (body.Have file stamp) v k d h = group_part f (on_have from file stamp) file.group v h (λ t q g. on_have_packed f from file stamp t (regroup f.config t.group file.group from q k) g)
 inside_packed f from body.Poll v k d h = quiet_site f.config f.me v h
 inside_packed f from (body.Promise reach) v k d h = quiet_site f.config f.me v h
@@ -171,15 +182,15 @@ without_packed c me p v h = record { store = h.store; pulls = every_without (Pul
 
 adopts_pull_packed : (f : Frame) (p : Pull) (v : SiteView) → PullPacked f.config f.me p → ViewPacked f.config f.me v → SiteOut f.config f.me (adopts_pull f p v)
 adopts_pull_packed f p v k h =
-    let w : SiteView = without_pull p (with_store v (with_copy (copy_adopted p) v.store)) in
-    let g : ViewPacked f.config f.me w = record { store = record { copies = every_row (CopyPacked f.config f.me) copy_key (copy_adopted p) v.store.copies k h.store.copies; instances = h.store.instances }; pulls = every_without (PullPacked f.config f.me) pull_key (pull_key p) v.pulls h.pulls; tables = h.tables; reports = h.reports } in
+    let w : SiteView = with_adopted p v in
+    let g : ViewPacked f.config f.me w = record { store = record { copies = every_row (CopyPacked f.config f.me) copy_key (copy_adopted p (content_under v p)) v.store.copies k h.store.copies; instances = h.store.instances }; pulls = every_without (PullPacked f.config f.me) pull_key (pull_key p) v.pulls h.pulls; tables = h.tables; reports = h.reports } in
     record { view = noted_packed f p (row table_group p.file.group v.tables) w k.here (row_at (TablePacked f.config f.me) table_group p.file.group v.tables h.tables) g; sent = sync_packed f p.file.group (body.Have p.file p.stamp) (λ to. k.here); told = (k.here, tt) }
 
 adopts_first_packed : (f : Frame) (ps : List Pull) (v : SiteView) → Every (PullPacked f.config f.me) ps → ViewPacked f.config f.me v → SiteOut f.config f.me (adopts_first f ps v)
 adopts_first_packed f [] v k h = quiet_site f.config f.me v h
 adopts_first_packed f (p ∷ ps) v k h =
-    elim (is_ready v p) as (λ t. SiteOut f.config f.me (elim t [ true ↦ elim (is_above_own p (copy_of v.store p.file)) [ true ↦ adopts_pull f p v | false ↦ adopts_first f ps (without_pull p v) ] | false ↦ adopts_first f ps v ])) [
-      | true ↦ elim (is_above_own p (copy_of v.store p.file)) as (λ t. SiteOut f.config f.me (elim t [ true ↦ adopts_pull f p v | false ↦ adopts_first f ps (without_pull p v) ])) [
+    elim (is_ready v p) as (λ t. SiteOut f.config f.me (elim t [ true ↦ elim (fits_own p (copy_of v.store p.file)) [ true ↦ adopts_pull f p v | false ↦ adopts_first f ps (without_pull p v) ] | false ↦ adopts_first f ps v ])) [
+      | true ↦ elim (fits_own p (copy_of v.store p.file)) as (λ t. SiteOut f.config f.me (elim t [ true ↦ adopts_pull f p v | false ↦ adopts_first f ps (without_pull p v) ])) [
         | true ↦ adopts_pull_packed f p v k.0 h
         | false ↦ adopts_first_packed f ps (without_pull p v) k.1 (without_packed f.config f.me p v h)
       ]
@@ -193,6 +204,7 @@ adopts_of_packed c me (Some e) v h = adopts_first_packed (frame_in c me v.boot e
 tries_packed : (c : Config) (me : ℕ) (x : Body) (v : SiteView) → ViewPacked c me v → SiteOut c me (tries_at c me x v)
 tries_packed c me (body.Notify file kind set size stamp vector holder) v h = adopts_of_packed c me v.epoch v h
 tries_packed c me (body.Page file stamp page bytes) v h = adopts_of_packed c me v.epoch v h
+tries_packed c me (body.Delta file wanted pages) v h = adopts_of_packed c me v.epoch v h
 tries_packed c me _ v h = quiet_site c me v h
 
 -- ---- mends ----

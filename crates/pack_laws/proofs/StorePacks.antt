@@ -25,7 +25,8 @@ use Rattle.wire_messages.specs.declared.body.CloseAnswer.TheVariants as closing
 use Rattle.role_steps.specs.Own.{Every}
 use Rattle.role_steps.specs.Views.{Frame, Store, Told, Begins, Reserves, Outcome, quiet, sends, and_then, to_some, to_sync, sync_site, serial_key}
 use Rattle.role_steps.specs.Storage.{StoreRequest, copy_key, copy_of, instance_key, instance_of, is_open, own_ino, next_ino, is_used, begun_instance, begins, with_instance, opened_packets, opens, opens_made, on_open_ss_of, on_open_ss, is_spent, copy_made, instance_committed, commits, next_stamp, next_vector, made_version, shut, closed_packets, shuts, shuts_again, closes_owing, closes, on_close_at, on_close_of, on_close, ends_at, on_closed_ok_of, on_closed_ok, closed_again, store_repeats}
-use Rattle.role_steps.specs.Operations.{acts, acts_committed, commits_owing, last_committed, commit_op, executes_effect, executes, op_again, by_number, on_op_at, on_op_of, on_op}
+use Rattle.role_steps.specs.of_dir_format.Entries.{nothing_seen}
+use Rattle.role_steps.specs.Operations.{acts, acts_committed, commits_owing, last_committed, commit_op, executes_effect, executes, op_again, by_number, on_op_at, on_op_of, on_op, in_form, nothing_to_mend, on_read_held}
 use Rattle.role_steps.specs.OperationEffects.{Mending, effect_of}
 use Rattle.role_steps.specs.declared.instances.Instance.{Instance}
 use Rattle.role_steps.specs.declared.instances.Stage.{Stage}
@@ -36,6 +37,7 @@ use Rattle.lock_laws.proofs.of_vector_laws.SyncFacts.{every_latest}
 use Rattle.pack_laws.specs.Packs.{LiesAt, CopyPacked, ToldPacked}
 use Rattle.pack_laws.specs.Making.{IsOwnNumber, NotEmpty}
 use Rattle.pack_laws.specs.Packed.{Follows, BodyPacked, PacketPacked, InstancePacked, StorePacked, OutPacked}
+use Rattle.role_steps.proofs.HeldReads.{held_read_sent}
 
 abbrev pub InStore : Frame → Store → Type 0
 InStore f s = StorePacked f.config f.me s
@@ -247,6 +249,16 @@ op_of_packed f m (Some i) n o seen s k h = op_at_packed f m i i.stage n o seen s
 
 pub on_op_packed : (f : Frame) (m : Mending) (inst : Serial) (n : ℕ) (o : Op) (seen : List ℕ) (s : Store) → InStore f s → StoreOut f (on_op f m inst n o seen s)
 on_op_packed f m inst n o seen s h = op_of_packed f m (instance_of s inst) n o seen s (found_packed f s inst h) h
+
+-- a held read is the operation that it stands for, but for the form of its answer
+form_packed : (f : Frame) (i : Option Instance) (o : Outcome Store) → Every (PacketPacked f.config) (in_form i o).sent → StoreOut f o → StoreOut f (in_form i o)
+form_packed f None o g h = h
+form_packed f (Some i) o g h = record { view = h.view; sent = g; told = h.told }
+
+pub on_read_held_packed : (f : Frame) (inst : Serial) (n at len : ℕ) (s : Store) → InStore f s → StoreOut f (on_read_held f inst n at len s)
+on_read_held_packed f inst n at len s h =
+    let o : Outcome Store = on_op f nothing_to_mend inst n (op.Read at len) nothing_seen s in
+    form_packed f (instance_of s inst) o (held_read_sent (PacketPacked f.config) f (λ to serial m r. tt) (λ to serial m l. tt) inst n at len s) (on_op_packed f nothing_to_mend inst n (op.Read at len) nothing_seen s h)
 
 -- ---- repeats ----
 

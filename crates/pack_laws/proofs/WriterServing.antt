@@ -17,10 +17,10 @@ use Rattle.role_steps.specs.Looks.{LookRequest}
 use Rattle.role_steps.specs.Reports.{on_open, on_look, on_report, on_closed, on_have_of, on_have, sync_repeats}
 use Rattle.role_steps.specs.declared.synchronizing.SyncTable.{SyncTable}
 use Rattle.role_steps.specs.declared.synchronizing.FileRow.{FileRow}
-use Rattle.role_steps.specs.Storage.{StoreRequest, on_open_ss, on_close, on_closed_ok, on_look_ss, on_pull, store_repeats}
-use Rattle.role_steps.specs.Operations.{on_op}
+use Rattle.role_steps.specs.Storage.{StoreRequest, on_open_ss, on_close, on_closed_ok, on_look_ss, on_pull, on_want, store_repeats}
+use Rattle.role_steps.specs.Operations.{on_op, on_read_held}
 use Rattle.role_steps.specs.OperationEffects.{Mending}
-use Rattle.role_steps.specs.Pulling.{on_notify, on_page, pull_repeats}
+use Rattle.role_steps.specs.Pulling.{on_notify, on_page, on_delta, pull_repeats}
 use Rattle.role_steps.specs.declared.copies.FileCopy.{FileCopy}
 use Rattle.role_steps.specs.declared.pulls.Pull.{Pull}
 use Rattle.lock_laws.specs.of_the_run.Joins.{NoJoin, NoWrite}
@@ -28,7 +28,7 @@ use Rattle.lock_laws.specs.of_law_walks.Kinds.{IsOfTable, IsStoreRequest, IsOfSt
 use Rattle.lock_laws.specs.of_law_walks.Laws.{Law, body_law, TablesKeep, StoresKeep, VersionsKeep, TableAnswers, TablePart}
 use Rattle.lock_laws.proofs.of_law_walks.Premises.{table_tells, store_tells, plain_no_join, version_no_join, body_tables, body_stores}
 use Rattle.lock_laws.proofs.of_law_walks.SyncWalks.{sync_repeats_walk, on_opened_walk, on_open_walk, on_look_walk, on_report_walk, on_closed_walk}
-use Rattle.lock_laws.proofs.of_law_walks.RoleWalks.{asks_walk, on_open_ss_walk, on_close_walk, on_closed_ok_walk, on_look_ss_walk, on_pull_walk, on_op_walk, on_notify_walk, on_page_walk, store_repeats_walk, pull_repeats_walk}
+use Rattle.lock_laws.proofs.of_law_walks.RoleWalks.{asks_walk, on_open_ss_walk, on_close_walk, on_closed_ok_walk, on_look_ss_walk, on_pull_walk, on_want_walk, on_op_walk, on_read_held_walk, on_notify_walk, on_page_walk, on_delta_walk, store_repeats_walk, pull_repeats_walk}
 use Rattle.pack_laws.specs.WriterAsking.{NoAsk, Askless, TableOk, StillTable, Still}
 
 -- ---- the law, kind by kind ----
@@ -118,14 +118,23 @@ on_look_ss_still f us l stamp s = on_look_ss_walk asking f (stores f).reads us l
 pub on_pull_still : (f : Frame) (from : ℕ) (file : FileId) (stamp : Stamp) (page : ℕ) (s : Store) → Still (on_pull f from file stamp page s)
 on_pull_still f from file stamp page s = on_pull_walk asking f (stores f).reads from file stamp page (λ bytes. tt) s
 
+pub on_want_still : (f : Frame) (from : ℕ) (file : FileId) (wanted own : Stamp) (s : Store) → Still (on_want f from file wanted own s)
+on_want_still f from file wanted own s = on_want_walk asking f (stores f).reads from file wanted own (λ pages. tt) s
+
 pub on_op_still : (f : Frame) (m : Mending) (inst : Serial) (n : ℕ) (o : Op) (seen : List ℕ) (s : Store) → Still (on_op f m inst n o seen s)
 on_op_still f m inst n o seen s = on_op_walk asking f (stores f) versions m inst n o seen s
+
+pub on_read_held_still : (f : Frame) (inst : Serial) (n at len : ℕ) (s : Store) → Still (on_read_held f inst n at len s)
+on_read_held_still f inst n at len s = on_read_held_walk asking f (stores f) inst n at len s
 
 pub on_notify_still : (f : Frame) (from : ℕ) (o : Option FileCopy) (p : Pull) (ps : List Pull) → Still (on_notify f from o p ps)
 on_notify_still f from o p ps = on_notify_walk asking f (stores f).reads from o p tt ps
 
 pub on_page_still : (f : Frame) (file : FileId) (stamp : Stamp) (page : ℕ) (bytes : List ℕ) (ps : List Pull) → Still (on_page f file stamp page bytes ps)
 on_page_still f file stamp page bytes ps = on_page_walk asking f (stores f).reads file stamp page bytes ps
+
+pub on_delta_still : (f : Frame) (own : Option FileCopy) (file : FileId) (stamp : Stamp) (pages : List ℕ) (ps : List Pull) → Still (on_delta f own file stamp pages ps)
+on_delta_still f own file stamp pages ps = on_delta_walk asking f (stores f).reads own file stamp pages ps
 
 pub store_repeats_plain : (f : Frame) (s : Store) → Every Askless (store_repeats f s)
 store_repeats_plain f s = store_repeats_walk asking f (stores f) s

@@ -17,13 +17,13 @@ use Rattle.role_steps.specs.Tables.{row, without_row, first_that, sorted_onto, p
 use Rattle.role_steps.specs.Views.{Frame, Users, SiteView, Promises, Outcome, Event, Calls, Receives, Ticks, Parts, Merges, GivesUp, quiet, sends, tells, and_then, joined_to}
 use Rattle.role_steps.specs.Reports.{new_table, on_report, on_closed, on_have, sync_repeats}
 use Rattle.role_steps.specs.Opens.{on_opened}
-use Rattle.role_steps.specs.Storage.{with_copy, copy_of, instance_of, store_repeats}
+use Rattle.role_steps.specs.Storage.{copy_of, instance_of, store_repeats}
 use Rattle.role_steps.specs.Pulling.{pull_repeats}
 use Rattle.role_steps.specs.Requests.{users_repeats}
-use Rattle.role_steps.specs.Using.{on_call, on_open_done, on_op_done, on_close_done, on_look_done}
+use Rattle.role_steps.specs.Using.{on_call, on_open_done, on_op_done, on_close_done, on_look_done, on_as_held}
 use Rattle.role_steps.specs.Versions.{file_row}
 use Rattle.role_steps.specs.Epochs.{is_epoch_below, frame_in, with_users, leaves_of, leaves, promised_view, promises, reached, poll_packet, polled_sites, polls, round_id, begins_round, starts_merge, boots_where, merge_boot, part_boot, starts_part_of, starts_part, promise_packet, refuse_packet, on_poll, on_promise_of, on_refuse_of, joined_view, report_packets, all_reports, joins, may_install, is_in, joined_packet, on_install, on_joined, passed_over, unanswered, chosen_set, chosen_members, others_of, install_packet, installs_all, decides_if, passes_over_of, passes_over, poll_repeats, install_repeats}
-use Rattle.role_steps.specs.Adoption.{notes_own_at, copy_adopted, with_store, table_group, is_ready, is_above_own, adopts_pull, without_pull, adopts_first}
+use Rattle.role_steps.specs.Adoption.{notes_own_at, table_group, is_ready, adopts_pull, without_pull, adopts_first, with_adopted, fits_own}
 use Rattle.role_steps.specs.Mends.{mending, kept_stamps, has_mend_in, wants_mend, row_file, starts_mend_of, starts_mend, starts_mends_in}
 use Rattle.role_steps.specs.declared.pulls.Pull.{Pull}
 use Rattle.role_steps.specs.declared.rounds.InEpoch.{InEpoch}
@@ -36,8 +36,8 @@ use Rattle.lock_laws.proofs.of_the_run.Boots.{every_weaker}
 use Rattle.lock_laws.proofs.of_the_run.InsideSync.{every_row, Found, row_found, first_found}
 use Rattle.lock_laws.proofs.of_the_run.StepSends.{order_sent}
 use Rattle.pack_laws.specs.WriterAsking.{Serials, UsersFact, Noted, PacketFact, BodyFact, NoAsk, Askless, TableOk, StillTable, ViewFact, Fine}
-use Rattle.pack_laws.proofs.WriterServing.{sync_plain, sync_repeats_plain, on_opened_still, on_open_still, on_look_still, on_report_still, on_closed_still, have_ok, on_have_still, on_open_ss_still, on_close_still, on_closed_ok_still, on_look_ss_still, on_pull_still, on_op_still, on_notify_still, on_page_still, store_repeats_plain, pull_repeats_plain}
-use Rattle.pack_laws.proofs.WriterUserAsks.{UsersFine, Gives, users_repeats_fact, on_call_gives, on_open_done_gives, on_op_done_gives, on_close_done_gives, on_look_done_gives, users_left}
+use Rattle.pack_laws.proofs.WriterServing.{sync_plain, sync_repeats_plain, on_opened_still, on_open_still, on_look_still, on_report_still, on_closed_still, have_ok, on_have_still, on_open_ss_still, on_close_still, on_closed_ok_still, on_look_ss_still, on_pull_still, on_op_still, on_notify_still, on_page_still, store_repeats_plain, pull_repeats_plain, on_read_held_still, on_want_still, on_delta_still}
+use Rattle.pack_laws.proofs.WriterUserAsks.{UsersFine, Gives, users_repeats_fact, on_call_gives, on_open_done_gives, on_op_done_gives, on_close_done_gives, on_look_done_gives, users_left, on_as_held_gives}
 
 -- ---- lists ----
 
@@ -122,7 +122,7 @@ noted_users f p (Some t) v = refl
 
 adopts_pull_keeps : (c : Config) (G : Serials) (f : Frame) (p : Pull) (v : SiteView) → Keeps c G v (adopts_pull f p v)
 adopts_pull_keeps c G f p v =
-    let now : SiteView = without_pull p (with_store v (with_copy (copy_adopted p) v.store)) in
+    let now : SiteView = with_adopted p v in
     record {
       view = λ h. record { users = subst (UsersFact c G) (sym (noted_users f p (row table_group p.file.group v.tables) now)) h.users; tables = noted_tables f p (row table_group p.file.group v.tables) now (row_found TableOk table_group p.file.group v.tables h.tables) h.tables };
       sent = sync_plain f p.file.group _ tt;
@@ -131,8 +131,8 @@ adopts_pull_keeps c G f p v =
 adopts_first_keeps : (c : Config) (G : Serials) (f : Frame) (ps : List Pull) (v : SiteView) → Keeps c G v (adopts_first f ps v)
 adopts_first_keeps c G f [] v = quiet_keeps c G v
 adopts_first_keeps c G f (p ∷ ps) v =
-    elim (is_ready v p) as (λ t. Keeps c G v (elim t [ true ↦ elim (is_above_own p (copy_of v.store p.file)) [ true ↦ adopts_pull f p v | false ↦ adopts_first f ps (without_pull p v) ] | false ↦ adopts_first f ps v ])) [
-      | true ↦ elim (is_above_own p (copy_of v.store p.file)) as (λ t. Keeps c G v (elim t [ true ↦ adopts_pull f p v | false ↦ adopts_first f ps (without_pull p v) ])) [
+    elim (is_ready v p) as (λ t. Keeps c G v (elim t [ true ↦ elim (fits_own p (copy_of v.store p.file)) [ true ↦ adopts_pull f p v | false ↦ adopts_first f ps (without_pull p v) ] | false ↦ adopts_first f ps v ])) [
+      | true ↦ elim (fits_own p (copy_of v.store p.file)) as (λ t. Keeps c G v (elim t [ true ↦ adopts_pull f p v | false ↦ adopts_first f ps (without_pull p v) ])) [
         | true ↦ adopts_pull_keeps c G f p v
         | false ↦ (let g : Keeps c G (without_pull p v) (adopts_first f ps (without_pull p v)) = adopts_first_keeps c G f ps (without_pull p v) in record { view = λ h. g.view (record { users = h.users; tables = h.tables }); sent = g.sent })
       ]
@@ -146,6 +146,7 @@ adopts_keeps c G me (Some e) v = adopts_first_keeps c G (frame_in c me v.boot e)
 tries_keeps : (c : Config) (G : Serials) (me : ℕ) (x : Body) (v : SiteView) → Keeps c G v (tries_at c me x v)
 tries_keeps c G me (body.Notify file kind set size stamp vector holder) v = adopts_keeps c G me v.epoch v
 tries_keeps c G me (body.Page file stamp page bytes) v = adopts_keeps c G me v.epoch v
+tries_keeps c G me (body.Delta file wanted pages) v = adopts_keeps c G me v.epoch v
 tries_keeps c G me _ v = quiet_keeps c G v
 
 -- ---- the users of a site ----
@@ -274,7 +275,9 @@ inside_gives G f from (body.OpenSs inst file mode set kind base vector parents) 
 inside_gives G f from (body.Opened inst answer) v h = table_keeps f.config G (on_opened f inst answer) (first_that (is_opened_in inst) v.tables) v (first_found TableOk (is_opened_in inst) v.tables) (on_opened_still f inst answer) h
 inside_gives G f from (body.OpenDone serial answer) v h = users_gives f.config G v (on_open_done f (kept_stamps v) serial answer v.users) (on_open_done_gives G f (kept_stamps v) serial answer v.users h.users) h
 inside_gives G f from (body.Op serial n o seen) v h = part_gives f.config G v _ refl refl (on_op_still f (mending v (group_of (instance_of v.store (from_user from serial)))) (from_user from serial) n o seen v.store).0 h
+inside_gives G f from (body.ReadHeld serial n at len) v h = part_gives f.config G v _ refl refl (on_read_held_still f (from_user from serial) n at len v.store).0 h
 inside_gives G f from (body.OpDone serial n result) v h = users_gives f.config G v (on_op_done f serial n result v.users) (on_op_done_gives G f serial n result v.users h.users) h
+inside_gives G f from (body.AsHeld serial n len) v h = users_gives f.config G v (on_as_held f serial n v.users) (on_as_held_gives G f serial n v.users h.users) h
 inside_gives G f from (body.Close serial) v h = part_gives f.config G v _ refl refl (on_close_still f (from_user from serial) v.store).0 h
 inside_gives G f from (body.Closed inst made) v h = table_keeps f.config G (on_closed f from inst made) (first_that (is_opened_in inst) v.tables) v (first_found TableOk (is_opened_in inst) v.tables) (on_closed_still f from inst made) h
 inside_gives G f from (body.ClosedOk inst) v h = part_gives f.config G v _ refl refl (on_closed_ok_still f inst v.store).0 h
@@ -282,9 +285,11 @@ inside_gives G f from (body.CloseDone serial answer) v h = users_gives f.config 
 inside_gives G f from (body.Look call process request take file what) v h = group_keeps f.config G _ file.group v (on_look_still f from (record { call = call; process = process; request = request; take = take; file = file; what = what })) h
 inside_gives G f from (body.LookSs us call process request take file what serve) v h = part_gives f.config G v _ refl refl (on_look_ss_still f us (record { call = call; process = process; request = request; take = take; file = file; what = what }) serve v.store).0 h
 inside_gives G f from (body.LookDone call request take answer) v h = users_gives f.config G v (on_look_done f call request take answer v.users) (on_look_done_gives G f call request take answer v.users h.users) h
-inside_gives G f from (body.Notify file kind set size stamp vector holder) v h = part_gives f.config G v _ refl refl (on_notify_still f from (copy_of v.store file) (record { file = file; kind = kind; set = set; size = size; stamp = stamp; vector = vector; holder = holder; content = [] }) v.pulls).0 h
+inside_gives G f from (body.Notify file kind set size stamp vector holder) v h = part_gives f.config G v _ refl refl (on_notify_still f from (copy_of v.store file) (record { file = file; kind = kind; set = set; size = size; stamp = stamp; vector = vector; holder = holder; base = None; wanted = None; content = [] }) v.pulls).0 h
 inside_gives G f from (body.Pull file stamp page) v h = part_gives f.config G v _ refl refl (on_pull_still f from file stamp page v.store).0 h
+inside_gives G f from (body.Want file wanted own) v h = part_gives f.config G v _ refl refl (on_want_still f from file wanted own v.store).0 h
 inside_gives G f from (body.Page file stamp page bytes) v h = part_gives f.config G v _ refl refl (on_page_still f file stamp page bytes v.pulls).0 h
+inside_gives G f from (body.Delta file wanted pages) v h = part_gives f.config G v _ refl refl (on_delta_still f (copy_of v.store file) file wanted pages v.pulls).0 h
 inside_gives G f from (body.Have file stamp) v h = group_keeps f.config G (on_have from file stamp) file.group v (on_have_still from file stamp) h
 inside_gives G f from body.Poll v h = kept_gives f.config G v (quiet v) (quiet_keeps f.config G v) h
 inside_gives G f from (body.Promise reach) v h = kept_gives f.config G v (quiet v) (quiet_keeps f.config G v) h

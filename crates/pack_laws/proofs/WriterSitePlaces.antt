@@ -30,11 +30,11 @@ use Rattle.role_steps.specs.Looks.{LookRequest, is_look_before, is_same_look, ne
 use Rattle.role_steps.specs.Reports.{waits_early, on_open, on_look, takes_early, takes_all_early, starts, starts_if, have_all_reported, counts_report, with_report, on_report, closes_at, on_closed_of, on_closed, on_have}
 use Rattle.role_steps.specs.Notices.{notices}
 use Rattle.role_steps.specs.Storage.{copy_of, instance_of}
-use Rattle.role_steps.specs.Pulling.{pull_of}
+use Rattle.role_steps.specs.Pulling.{pull_of, pages_in}
 use Rattle.role_steps.specs.Using.{on_call, reply_record}
 use Rattle.role_steps.specs.Versions.{file_row}
 use Rattle.role_steps.specs.Epochs.{is_epoch_below, frame_in, leaves_of, leaves, promised_view, promises, reached, polls, round_id, begins_round, starts_merge, boots_where, merge_boot, part_boot, starts_part_of, starts_part, promise_packet, refuse_packet, on_poll, on_promise_of, on_refuse_of, joins, may_install, is_in, joined_packet, on_install, on_joined, passed_over, unanswered, decides_if, passes_over_of, passes_over}
-use Rattle.role_steps.specs.Adoption.{table_group, is_ready, is_above_own, adopts_pull, without_pull, adopts_first}
+use Rattle.role_steps.specs.Adoption.{table_group, is_ready, adopts_pull, without_pull, adopts_first, fits_own}
 use Rattle.role_steps.specs.Mends.{mending, kept_stamps, has_mend_in, wants_mend, row_file, starts_mend_of, starts_mend, starts_mends_in}
 use Rattle.role_steps.specs.declared.pulls.Pull.{Pull}
 use Rattle.role_steps.specs.declared.rounds.InEpoch.{InEpoch}
@@ -52,9 +52,9 @@ use Rattle.lock_laws.specs.of_the_run.Steps.{from_user, group_of, in_order, at_t
 use Rattle.lock_laws.proofs.of_the_run.Boots.{every_weaker}
 use Rattle.lock_laws.proofs.of_run_laws.Telling.{on_opened_talks, on_open_talks, on_look_talks, on_report_talks, on_closed_talks}
 use Rattle.lock_laws.specs.Locks.{IsOfAFile}
-use Rattle.lock_laws.proofs.StepFacts.{notify_silent, page_silent}
+use Rattle.lock_laws.proofs.StepFacts.{notify_silent, page_silent, delta_silent}
 use Rattle.lock_laws.proofs.GrantTold.{BareRecord, Bare}
-use Rattle.lock_laws.proofs.BareRoles.{BareWrite, on_call_bare, on_open_done_bare, on_op_done_bare, on_close_done_bare, on_look_done_bare, on_open_ss_bare, on_close_bare, on_closed_ok_bare, on_op_bare}
+use Rattle.lock_laws.proofs.BareRoles.{BareWrite, on_call_bare, on_open_done_bare, on_op_done_bare, on_as_held_bare, on_close_done_bare, on_look_done_bare, on_open_ss_bare, on_close_bare, on_closed_ok_bare, on_op_bare, on_read_held_bare}
 use Rattle.lock_laws.proofs.GrantSites.{none_bare, first_bare}
 use Rattle.pack_laws.specs.WriterGranting.{Places, Noted, PlacedRecord, PlacedTold}
 use Rattle.pack_laws.proofs.WriterSiteAsks.{every_first, every_last, order_back}
@@ -209,8 +209,8 @@ quiet_tells P v noted = record { told = tt; written = tt }
 first_tells : (P : Places) (f : Frame) (ps : List Pull) (v : SiteView) → SiteTells P (adopts_first f ps v)
 first_tells P f [] v = quiet_tells P v
 first_tells P f (p ∷ ps) v =
-    elim (is_ready v p) as (λ t. SiteTells P (elim t [ true ↦ elim (is_above_own p (copy_of v.store p.file)) [ true ↦ adopts_pull f p v | false ↦ adopts_first f ps (without_pull p v) ] | false ↦ adopts_first f ps v ])) [
-      | true ↦ elim (is_above_own p (copy_of v.store p.file)) as (λ t. SiteTells P (elim t [ true ↦ adopts_pull f p v | false ↦ adopts_first f ps (without_pull p v) ])) [
+    elim (is_ready v p) as (λ t. SiteTells P (elim t [ true ↦ elim (fits_own p (copy_of v.store p.file)) [ true ↦ adopts_pull f p v | false ↦ adopts_first f ps (without_pull p v) ] | false ↦ adopts_first f ps v ])) [
+      | true ↦ elim (fits_own p (copy_of v.store p.file)) as (λ t. SiteTells P (elim t [ true ↦ adopts_pull f p v | false ↦ adopts_first f ps (without_pull p v) ])) [
         | true ↦ λ noted. record { told = (tt, tt); written = tt }
         | false ↦ first_tells P f ps (without_pull p v)
       ]
@@ -224,6 +224,7 @@ adopts_tells P c me (Some e) v = first_tells P (frame_in c me v.boot e) v.pulls 
 tries_tells : (P : Places) (c : Config) (me : ℕ) (x : Body) (v : SiteView) → SiteTells P (tries_at c me x v)
 tries_tells P c me (body.Notify file kind set size stamp vector holder) v = adopts_tells P c me v.epoch v
 tries_tells P c me (body.Page file stamp page bytes) v = adopts_tells P c me v.epoch v
+tries_tells P c me (body.Delta file wanted pages) v = adopts_tells P c me v.epoch v
 tries_tells P c me _ v = quiet_tells P v
 
 mend_tells : (P : Places) (f : Frame) (t : SyncTable) (o : Option FileRow) (v : SiteView) → SiteTells P (starts_mend_of f t o v)
@@ -317,7 +318,9 @@ inside_tells P f from (body.OpenSs inst file mode set kind base vector parents) 
 inside_tells P f from (body.Opened inst answer) v = table_tells P (on_opened f inst answer) (first_that (is_opened_in inst) v.tables) v (on_opened_tells P f inst answer) (λ t. (on_opened_talks f inst answer t).1)
 inside_tells P f from (body.OpenDone serial answer) v = none_tells P _ (on_open_done_bare f (kept_stamps v) serial answer v.users).0 (on_open_done_bare f (kept_stamps v) serial answer v.users).1
 inside_tells P f from (body.Op serial n o seen) v = bare_tells P _ (on_op_bare f (mending v (group_of (instance_of v.store (from_user from serial)))) (from_user from serial) n o seen v.store).0 (on_op_bare f (mending v (group_of (instance_of v.store (from_user from serial)))) (from_user from serial) n o seen v.store).1
+inside_tells P f from (body.ReadHeld serial n at len) v = bare_tells P _ (on_read_held_bare f (from_user from serial) n at len v.store).0 (on_read_held_bare f (from_user from serial) n at len v.store).1
 inside_tells P f from (body.OpDone serial n result) v = none_tells P _ (on_op_done_bare f serial n result v.users).0 (on_op_done_bare f serial n result v.users).1
+inside_tells P f from (body.AsHeld serial n len) v = none_tells P _ (on_as_held_bare f serial n v.users).0 (on_as_held_bare f serial n v.users).1
 inside_tells P f from (body.Close serial) v = bare_tells P _ (on_close_bare f (from_user from serial) v.store).0 (on_close_bare f (from_user from serial) v.store).1
 inside_tells P f from (body.Closed inst made) v = table_tells P (on_closed f from inst made) (first_that (is_opened_in inst) v.tables) v (on_closed_tells P f from inst made) (λ t. (on_closed_talks f from inst made t).1)
 inside_tells P f from (body.ClosedOk inst) v = bare_tells P _ (on_closed_ok_bare f inst v.store).0 (on_closed_ok_bare f inst v.store).1
@@ -326,11 +329,15 @@ inside_tells P f from (body.Look call process request take file what) v = table_
 inside_tells P f from (body.LookSs us call process request take file what serve) v = bare_tells P _ tt tt
 inside_tells P f from (body.LookDone call request take answer) v = none_tells P _ (on_look_done_bare f call request take answer v.users).0 (on_look_done_bare f call request take answer v.users).1
 inside_tells P f from (body.Notify file kind set size stamp vector holder) v =
-    let s : _ × _ = notify_silent f from (copy_of v.store file) (record { file = file; kind = kind; set = set; size = size; stamp = stamp; vector = vector; holder = holder; content = [] }) v.pulls in
+    let s : _ × _ = notify_silent f from (copy_of v.store file) (record { file = file; kind = kind; set = set; size = size; stamp = stamp; vector = vector; holder = holder; base = None; wanted = None; content = [] }) v.pulls in
     none_tells P _ (subst (λ (xs : List Told). Every Bare xs) (sym s.0) tt) s.1
 inside_tells P f from (body.Pull file stamp page) v = bare_tells P _ tt tt
+inside_tells P f from (body.Want file wanted own) v = bare_tells P _ tt tt
 inside_tells P f from (body.Page file stamp page bytes) v =
     let s : _ × _ = page_silent f stamp page bytes (pull_of v.pulls file) v.pulls in
+    none_tells P _ (subst (λ (xs : List Told). Every Bare xs) (sym s.0) tt) s.1
+inside_tells P f from (body.Delta file wanted pages) v =
+    let s : _ × _ = delta_silent f (pages_in (copy_of v.store file)) wanted pages (pull_of v.pulls file) v.pulls in
     none_tells P _ (subst (λ (xs : List Told). Every Bare xs) (sym s.0) tt) s.1
 inside_tells P f from (body.Have file stamp) v = table_tells P (on_have from file stamp) (row table_group file.group v.tables) v (λ t noted. tt) (λ t. refl)
 inside_tells P f from body.Poll v = quiet_tells P v

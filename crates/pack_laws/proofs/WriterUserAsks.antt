@@ -20,6 +20,7 @@ use Rattle.call_rules.specs.Opening.{is_steady}
 use Rattle.trace_book.specs.declared.descriptor.Beginning.{Beginning}
 use Rattle.trace_book.specs.declared.descriptor.Beginning.TheVariants as begins
 use Rattle.trace_book.specs.declared.operation.Op.{Op}
+use Rattle.trace_book.specs.declared.operation.Op.TheVariants as op
 use Rattle.trace_book.specs.declared.operation.Outcome.{Outcome as Result}
 use Rattle.trace_book.specs.declared.operation.Outcome.TheVariants as result
 use Rattle.trace_book.specs.declared.operation.What.TheVariants as what
@@ -43,8 +44,8 @@ use Rattle.wire_messages.specs.declared.body.Granted.TheVariants as granted
 use Rattle.role_steps.specs.Own.{Every}
 use Rattle.role_steps.specs.Tables.{row, first_that}
 use Rattle.role_steps.specs.Views.{Frame, Users, Told, Outcome, quiet, tells, and_then, to_some, to_sync, sync_site}
-use Rattle.role_steps.specs.Requests.{waiting_key, instance_serial, without_waiting, user_instance, with_user_instance, without_user_instance, descriptor_in, descriptor_key, fd_key, descriptors_of, request_packets, asks, asks_open, opening_of, made_for, next_request, asks_op_of, asks_close_of, seen_by, users_repeats}
-use Rattle.role_steps.specs.Using.{is_some_site, is_packed, is_hopeless, without_hope, opened_row, last_version, mode_asked, holds_again, asked_answer, after_reply, replies, asks_want, next_want, goes_on, frees, accepted, accept_record, on_call, takes_record, with_answer, takes_answer, takes_open, on_open_done_of, on_open_done, on_op_done_of, on_op_done, on_close_done_of, on_close_done, looks_again, with_brought, content_answer, takes_look, on_look_done_of, on_look_done, asks_open_of, asks_op_number, asks_take, users_leave, op_answer, close_answer, opened_answer, kept_for, mended_file, own_call}
+use Rattle.role_steps.specs.Requests.{waiting_key, instance_serial, without_waiting, user_instance, with_user_instance, without_user_instance, descriptor_in, descriptor_key, fd_key, descriptors_of, operation_body, request_packets, asks, asks_open, opening_of, made_for, next_request, asks_op_of, asks_close_of, seen_by, users_repeats}
+use Rattle.role_steps.specs.Using.{is_some_site, is_packed, is_hopeless, without_hope, opened_row, last_version, mode_asked, holds_again, asked_answer, after_reply, replies, asks_want, next_want, goes_on, frees, accept_record, on_call, counted_users, counted_call, accepted_call, takes_record, with_answer, takes_answer, takes_copied, takes_open, version_read, on_open_done_of, on_open_done, on_op_done_of, on_as_held_of, keeps_brought, on_op_done, on_as_held, on_close_done_of, on_close_done, looks_again, with_brought, content_answer, takes_look, on_look_done_of, on_look_done, asks_open_of, asks_op_number, asks_held_number, asks_take, users_leave, op_answer, close_answer, opened_answer, kept_for, mended_file}
 use Rattle.role_steps.specs.Using as using
 use Rattle.role_steps.specs.declared.users.Asking.{Asking}
 use Rattle.role_steps.specs.declared.users.Asking.TheVariants as asking
@@ -56,6 +57,7 @@ use Rattle.lock_laws.proofs.of_vector_laws.SyncFacts.{every_flat}
 use Rattle.lock_laws.specs.Writing.{changes, ToWrite, OpensToWrite, IsWrite, IsWriteOn}
 use Rattle.pack_laws.specs.WriterAsking.{Brings, NotToRead, Serials, AskingFact, script_of, CallFact, WaitingFact, DescriptorFact, UsersFact, Noted, PacketFact, BodyFact}
 use Rattle.pack_laws.proofs.WriterLeads.{answer_added, ReplyLeads, Leads, leads}
+use Rattle.role_steps.proofs.Caching.{kept_only}
 
 -- ---- tables ----
 
@@ -90,10 +92,15 @@ some_fact G f b (Some to) h = (h, tt)
 sync_fact : (G : Serials) (f : Frame) (group : ℕ) (b : Body) → BodyFact G b → Every (PacketFact G) (to_sync f group b)
 sync_fact G f group b h = some_fact G f b (sync_site f.config f.members group) h
 
+-- a read that asks for the number of its bytes alone changes nothing
+operation_fact : (G : Serials) (serial number : ℕ) (copied : Option (List ℕ)) (o : Op) (seen : List ℕ) → (changes o ≡ true → G serial) → BodyFact G (operation_body copied serial number o seen)
+operation_fact G serial number (Some bytes) (op.Read at len) seen h = tt
+operation_fact G serial number copied o seen h = h
+
 request_fact : (G : Serials) (f : Frame) (w : WaitingCall) (x : Want) (a : Asking) → AskingFact G x a → Every (PacketFact G) (request_packets f w a)
 request_fact G f w x (asking.Look file what take) h = sync_fact G f file.group _ tt
 request_fact G f w x (asking.Open serial file how) h = sync_fact G f file.group _ tt
-request_fact G f w x (asking.Op serial ss number o seen) h = (h, tt)
+request_fact G f w x (asking.Op serial ss number o seen) h = (operation_fact G serial number w.copied o seen h, tt)
 request_fact G f w x (asking.Close serial ss) h = (tt, tt)
 
 pub users_repeats_fact : (c : Config) (G : Serials) (f : Frame) (u : Users) → UsersFact c G u → Every (PacketFact G) (users_repeats f u)
@@ -220,10 +227,10 @@ told_more c G x u g h noted = let k : UsersFine c G (g u) = h noted in record { 
 pub on_call_gives : (G : Serials) (f : Frame) (now : Option EpochId) (process : ℕ) (words : Call) (u : Users) → UsersFact f.config G u → Gives f.config G (on_call f now process words u)
 on_call_gives G f now process words u h =
     let n : ℕ = u.calls + 1 in
-    let w : WaitingCall = accepted process n words (beginning (descriptors_of u process) now (own_call f.me f.boot n) words) in
-    let counted : Users = frees process words (record u { calls = n }) in
+    let w : WaitingCall = accepted_call f now process words u in
+    let counted : Users = counted_call f now process words u in
     told_more f.config G (accept_record f.me f.boot process n words) counted (goes_on f w)
-    (goes_fine G f w counted (record { begins = λ i k. accepts_asked f.config G u process now _ words i h k; answers = λ free. tt }) (frees_fact f.config G process words (record u { calls = n }) (record { waiting = h.waiting; descriptors = h.descriptors })))
+    (goes_fine G f w counted (record { begins = λ i k. accepts_asked f.config G u process now _ words i h k; answers = λ free. tt }) (frees_fact f.config G process words (counted_users f now process words u) (record { waiting = h.waiting; descriptors = h.descriptors })))
 
 -- ---- answers ----
 
@@ -259,7 +266,7 @@ opens_own f serial ino stamp kept _ a i h = asked_own f serial ino stamp a i h
 
 takes_open_gives : (G : Serials) (f : Frame) (kept : FileId → List Stamp) (serial : ℕ) (w : WaitingCall) (a : Granted) (u : Users) → WaitingFact f.config G w → asks_open_of serial w ≡ true → UsersFact f.config G u → Gives f.config G (takes_open f kept serial w a u)
 takes_open_gives G f kept serial w (granted.Open ss ino size stamp vector) u k e h =
-    takes_answer_gives G f w (opened_answer f serial ino stamp (kept_for kept (mended_file w.words)) w.words w.asking) (with_user_instance (record { serial = serial; ss = ss; vector = vector; ops = 0 }) u) k.call_so
+    takes_answer_gives G f w (opened_answer f serial ino stamp (kept_for kept (mended_file w.words)) w.words w.asking) (with_user_instance (record { serial = serial; ss = ss; vector = vector; ops = 0; reads = version_read size stamp w.asking }) u) k.call_so
     (λ free i to opened. subst G (opens_own f serial ino stamp (kept_for kept (mended_file w.words)) w.words w.asking i opened) (asked_of f.config G serial w free k e to)) (record { waiting = h.waiting; descriptors = h.descriptors })
 takes_open_gives G f kept serial w (granted.No why) u k e h = plain_answer G f w _ u (λ i o. o) k.call_so h
 
@@ -279,10 +286,21 @@ op_answer_opens _ i h = h
 
 op_done_gives : (G : Serials) (f : Frame) (r : Result) (test : WaitingCall → Bool) (o : Option WaitingCall) (u : Users) → FoundCall f.config G test o → UsersFact f.config G u → Gives f.config G (on_op_done_of f r o u)
 op_done_gives G f r test None u k h noted = quiet_fine f.config G u h
-op_done_gives G f r test (Some w) u k h noted = plain_answer G f w (op_answer r) u (op_answer_opens r) k.0.call_so h noted
+op_done_gives G f r test (Some w) u k h noted = plain_answer G f w (op_answer r) (keeps_brought w.asking r u) (op_answer_opens r) k.0.call_so (kept_only (UsersFact f.config G) w.asking r u (λ pages. record { waiting = h.waiting; descriptors = h.descriptors })) noted
 
 pub on_op_done_gives : (G : Serials) (f : Frame) (serial n : ℕ) (r : Result) (u : Users) → UsersFact f.config G u → Gives f.config G (on_op_done f serial n r u)
 on_op_done_gives G f serial n r u h = op_done_gives G f r (asks_op_number serial n r) (first_that (asks_op_number serial n r) u.waiting) u (first_passes (WaitingFact f.config G) (asks_op_number serial n r) u.waiting h.waiting) h
+
+copied_gives : (G : Serials) (f : Frame) (w : WaitingCall) (copied : Option (List ℕ)) (u : Users) → CallFact f.config G w → UsersFact f.config G u → Gives f.config G (takes_copied f w copied u)
+copied_gives G f w None u k h noted = quiet_fine f.config G u h
+copied_gives G f w (Some bytes) u k h noted = plain_answer G f w _ u (op_answer_opens (result.Data bytes)) k h noted
+
+as_held_gives : (G : Serials) (f : Frame) (test : WaitingCall → Bool) (o : Option WaitingCall) (u : Users) → FoundCall f.config G test o → UsersFact f.config G u → Gives f.config G (on_as_held_of f o u)
+as_held_gives G f test None u k h noted = quiet_fine f.config G u h
+as_held_gives G f test (Some w) u k h noted = copied_gives G f w w.copied u k.0.call_so h noted
+
+pub on_as_held_gives : (G : Serials) (f : Frame) (serial n : ℕ) (u : Users) → UsersFact f.config G u → Gives f.config G (on_as_held f serial n u)
+on_as_held_gives G f serial n u h = as_held_gives G f (asks_held_number serial n) (first_that (asks_held_number serial n) u.waiting) u (first_passes (WaitingFact f.config G) (asks_held_number serial n) u.waiting h.waiting) h
 
 close_answer_opens : (a : CloseAnswer) → OpensNothing (close_answer a)
 close_answer_opens closing.Nothing i h = h

@@ -9,15 +9,16 @@ use crate::fields::{
     is_epoch, is_file, is_file_or_new, is_instance, is_number, is_process, is_site, is_size,
     is_some_set, is_stamp, is_vector, is_version,
 };
-use crate::lists::{are_ascending, are_copies};
+use crate::lists::{are_ascending, are_copies, are_page_numbers};
 use crate::memberships::are_members;
-use crate::operations::{is_kind, is_operation, is_outcome, is_what};
+use crate::operations::{is_kind, is_operation, is_outcome, is_read, is_what};
 use locus_ids::sizes::{PAGE_BYTES, SITES};
 use locus_ids::{Bytes, EpochId, FileId, Kind, Mode, Serial, SiteId, Sites, Stamp, Stamps};
 use trace_book::{Op, Outcome, What};
 use version_vector::Vector;
 use wire_messages::{
-    Body, CloseAnswer, Granted, LookAnswer, MadeVersion, OpenedAs, Opening, ReportedCopies,
+    Body, CloseAnswer, Granted, LookAnswer, MadeVersion, OpenedAs, Opening, PageNumbers,
+    ReportedCopies,
 };
 
 fn is_promise(reach: Sites) -> bool
@@ -94,6 +95,18 @@ fn is_op_done(serial: u32, number: u32, outcome: &Outcome) -> bool
     ensures { IsTrue result ↔ FitsBody (Body.OpDone serial number outcome.now) }
 {
     is_number(serial) && is_outcome(outcome)
+}
+
+fn is_read_held(serial: u32, number: u32, at: u32, len: u16) -> bool
+    ensures { IsTrue result ↔ FitsBody (Body.ReadHeld serial number at len) }
+{
+    is_number(serial) && is_read(at, len)
+}
+
+fn is_as_held(serial: u32, number: u32, len: u16) -> bool
+    ensures { IsTrue result ↔ FitsBody (Body.AsHeld serial number len) }
+{
+    is_number(serial)
 }
 
 fn is_close(serial: u32) -> bool
@@ -184,6 +197,18 @@ fn is_have(file: FileId, stamp: Stamp) -> bool
     is_file(file) && is_stamp(stamp)
 }
 
+fn is_want(file: FileId, wanted: Stamp, own: Stamp) -> bool
+    ensures { IsTrue result ↔ FitsBody (Body.Want file wanted own) }
+{
+    is_file(file) && is_stamp(wanted) && is_stamp(own)
+}
+
+fn is_delta(file: FileId, wanted: Stamp, pages: &PageNumbers) -> bool
+    ensures { IsTrue result ↔ FitsBody (Body.Delta file wanted pages.now) }
+{
+    is_file(file) && is_stamp(wanted) && are_page_numbers(pages)
+}
+
 /// Each field of the body is one of its format.
 pub fn is_body(body: &Body) -> bool
     ensures { IsTrue result ↔ FitsBody body.now }
@@ -227,6 +252,17 @@ pub fn is_body(body: &Body) -> bool
             number,
             outcome,
         } => is_op_done(*serial, *number, outcome),
+        Body::ReadHeld {
+            serial,
+            number,
+            at,
+            len,
+        } => is_read_held(*serial, *number, *at, *len),
+        Body::AsHeld {
+            serial,
+            number,
+            len,
+        } => is_as_held(*serial, *number, *len),
         Body::Close { serial } => is_close(*serial),
         Body::Closed { inst, made } => is_closed(*inst, made),
         Body::ClosedOk { inst } => is_closed_ok(*inst),
@@ -272,5 +308,11 @@ pub fn is_body(body: &Body) -> bool
             bytes,
         } => is_page(*file, *stamp, *page, bytes),
         Body::Have { file, stamp } => is_have(*file, *stamp),
+        Body::Want { file, wanted, own } => is_want(*file, *wanted, *own),
+        Body::Delta {
+            file,
+            wanted,
+            pages,
+        } => is_delta(*file, *wanted, pages),
     }
 }

@@ -1,12 +1,14 @@
-ghost use Rattle.std.specs.Prelude.{◌↔◌, ◌≤◌, ◌+◌, IsTrue, Some, None};
+ghost use Rattle.std.specs.Prelude.{◌↔◌, ◌≤◌, ◌+◌, nat_le, IsTrue, Some, None};
+ghost use Rattle.field_codec.specs.Codec.{u16, within};
 ghost use Rattle.field_codec.specs.Lists.{AllFit};
 ghost use Rattle.wire_fields.specs.Parts.{stamps_after, ascending_stamps};
 ghost use Rattle.wire_messages.specs.Answers.{copies_from, reported_copies};
+ghost use Rattle.wire_messages.specs.Bodies.{page_numbers};
 
 use crate::answers::is_copy_from;
 use locus_ids::sizes::{INODES, SITES};
 use locus_ids::{Stamp, Stamps};
-use wire_messages::{ReportedCopies, ReportedCopy};
+use wire_messages::{PageNumbers, ReportedCopies, ReportedCopy};
 
 /// Copies whose inodes ascend from this one on.
 fn are_copies_from(least: u16, copies: &[ReportedCopy]) -> bool
@@ -27,6 +29,23 @@ pub fn are_copies(copies: &ReportedCopies) -> bool
     ensures { IsTrue result ↔ reported_copies.Fits copies.now }
 {
     copies.len() < 65_536 && are_copies_from(1, copies.as_slice())
+}
+
+/// Numbers of pages that ascend from this one on.
+fn are_pages_from(least: u32, pages: &[u16]) -> bool
+    ensures { IsTrue result ↔ AllFit (λ floor. within (λ page. nat_le floor page) u16) (λ _ page. page + 1) least pages.now }
+{
+    match pages {
+        [] => true,
+        [first, rest @ ..] => { least <= *first as u32 && are_pages_from(*first as u32 + 1, rest) }
+    }
+}
+
+/// Numbers of pages, ascending.
+pub fn are_page_numbers(pages: &PageNumbers) -> bool
+    ensures { IsTrue result ↔ page_numbers.Fits pages.now }
+{
+    pages.len() < 65_536 && are_pages_from(0, pages.as_slice())
 }
 
 /// A stamp that may stand after the last one.

@@ -2,7 +2,8 @@ ghost use Rattle.std.specs.Prelude.{◌↔◌, IsTrue, length};
 ghost use Rattle.field_codec.specs.Codec.{pair};
 ghost use Rattle.field_codec.specs.Shapes.{IsInRange};
 ghost use Rattle.wire_fields.specs.Parts.{inodes, sizes, kinds, vectors, no_vector, names, components};
-ghost use Rattle.wire_fields.specs.Operations.{op_fields, outcome_fields, what_fields, writes, reads, inserts, data_bytes};
+ghost use Rattle.wire_fields.specs.declared.asked.Gave.TheVariants as Gave;
+ghost use Rattle.wire_fields.specs.Operations.{seeing_fields, outcome_fields, what_fields, writes, reads, inserts, data_bytes};
 
 use crate::fields::{
     is_component_field, is_inode, is_name_field, is_no_vector, is_size, is_stamp, is_vector,
@@ -23,7 +24,7 @@ fn is_write(at: u32, bytes: &Bytes) -> bool
         && bytes.len() + at as usize <= FILE_BYTES
 }
 
-fn is_read(at: u32, len: u16) -> bool
+pub fn is_read(at: u32, len: u16) -> bool
     ensures { IsTrue result ↔ reads.Fits (at, len) }
 {
     is_size(at) && len <= 4_096
@@ -88,7 +89,7 @@ fn is_cut(len: u32, seen: &Vector<SITES>) -> bool
 
 /// An operation, with the vector of an entry that a remove has seen.
 pub fn is_operation(op: &Op, seen: &Vector<SITES>) -> bool
-    ensures { IsTrue result ↔ IsInRange (op_fields (op.now, seen.now)) }
+    ensures { IsTrue result ↔ IsInRange (seeing_fields op.now seen.now) }
 {
     match op {
         Op::Probe { name } => is_probe(name, seen),
@@ -120,7 +121,7 @@ pub fn is_found(ino: u16, kind: Kind) -> bool
 
 /// What an operation gave, or its refusal.
 pub fn is_outcome(outcome: &Outcome) -> bool
-    ensures { IsTrue result ↔ IsInRange (outcome_fields outcome.now) }
+    ensures { IsTrue result ↔ IsInRange (outcome_fields (Gave.Outcome outcome.now)) }
 {
     match outcome {
         Outcome::Done => true,

@@ -14,7 +14,7 @@ use Rattle.trace_book.specs.declared.descriptor.Beginning.{Beginning}
 use Rattle.trace_book.specs.declared.descriptor.Beginning.TheVariants as begins
 use Rattle.trace_book.specs.declared.operation.Op.{Op}
 use Rattle.trace_book.specs.declared.operation.Outcome.{Outcome as Result}
-use Rattle.call_rules.specs.Descriptors.{beginning, lowest_free}
+use Rattle.call_rules.specs.Descriptors.{lowest_free}
 use Rattle.call_rules.specs.Scripts.{named_wants, where_packed, in_group}
 use Rattle.call_rules.specs.declared.answer.Answer.{Answer}
 use Rattle.call_rules.specs.declared.want.Want.{Want}
@@ -30,7 +30,7 @@ use Rattle.wire_messages.specs.declared.body.Opening.{Opening}
 use Rattle.role_steps.specs.Tables.{total, first_that}
 use Rattle.role_steps.specs.Views.{Frame, Users, Shown, Outcome, joined_to, to_some, to_sync, sync_site}
 use Rattle.role_steps.specs.Requests.{descriptors_of, user_instance, asks_op_of, asks_close_of, asks_open}
-use Rattle.role_steps.specs.Using.{is_some_site, is_packed, is_hopeless, without_hope, after_reply, holds_again, replies, asks_want, next_want, goes_on, frees, accepted, on_call, with_answer, takes_answer, takes_open, on_open_done_of, on_open_done, on_op_done_of, on_op_done, on_close_done_of, on_close_done, with_brought, content_answer, looks_again, takes_look, on_look_done_of, on_look_done, asks_open_of, asks_op_number, asks_take, own_call}
+use Rattle.role_steps.specs.Using.{is_some_site, is_packed, is_hopeless, without_hope, after_reply, holds_again, replies, asks_want, next_want, goes_on, frees, on_call, counted_users, counted_call, accepted_call, with_answer, takes_answer, takes_copied, takes_open, on_open_done_of, on_open_done, on_op_done_of, on_as_held_of, keeps_brought, on_op_done, on_as_held, on_close_done_of, on_close_done, with_brought, content_answer, looks_again, takes_look, on_look_done_of, on_look_done, asks_open_of, asks_op_number, asks_held_number, asks_take}
 use Rattle.role_steps.specs.Using as using
 use Rattle.role_steps.specs.declared.users.Asking.{Asking}
 use Rattle.role_steps.specs.declared.users.Asking.TheVariants as asking
@@ -39,6 +39,7 @@ use Rattle.role_steps.specs.declared.users.WaitingCall.{WaitingCall}
 use Rattle.the_run.specs.Worlds.{told_size}
 use Rattle.run_laws.proofs.Boots.{some_text}
 use Rattle.packet_fit_laws.proofs.Costs.{append_length, append_total}
+use Rattle.role_steps.proofs.Caching.{kept_only}
 
 -- the packets and the text of an outcome
 abbrev pub spent : {V : Type 0} → ℕ → Outcome V → ℕ
@@ -130,11 +131,11 @@ frees_counts process _ u = (refl, refl)
 
 pub call_rise : (n : ℕ) (f : Frame) (now : Option EpochId) (process : ℕ) (words : Call) (u : Users) → Rises n u (on_call f now process words u).view (spent n (on_call f now process words u))
 call_rise n f now process words u =
-    let w : WaitingCall = accepted process (u.calls + 1) words (beginning (descriptors_of u process) now (own_call f.me f.boot (u.calls + 1)) words) in
-    let counted : Users = frees process words (record u { calls = u.calls + 1 }) in
+    let w : WaitingCall = accepted_call f now process words u in
+    let counted : Users = counted_call f now process words u in
     let o : Outcome Users = goes_on f w counted in
     let h : UsersRise n counted o = goes_rise n f w counted in
-    let k : (counted.calls ≡ u.calls + 1) × (counted.serials ≡ u.serials) = frees_counts process words (record u { calls = u.calls + 1 }) in
+    let k : (counted.calls ≡ u.calls + 1) × (counted.serials ≡ u.serials) = frees_counts process words (counted_users f now process words u) in
     let t : 1 ≤ told_size n (Shown (says.Accept f.me process (record { site = f.me; boot = f.boot; n = u.calls + 1 }) words)) = some_text n (says.Accept f.me process (record { site = f.me; boot = f.boot; n = u.calls + 1 }) words) in
     record { calls = omega (arith, h.calls, k.0, t); serials = omega (arith, h.serials, k.1) }
 
@@ -154,10 +155,21 @@ open_done_rise n f kept serial a u = open_done_of_rise n f kept serial a (first_
 
 op_done_of_rise : (n : ℕ) (f : Frame) (r : Result) (o : Option WaitingCall) (u : Users) → UsersRise n u (on_op_done_of f r o u)
 op_done_of_rise n f r None u = same_counts n u u _ refl refl
-op_done_of_rise n f r (Some w) u = answer_rise n f w _ u u refl refl
+op_done_of_rise n f r (Some w) u = answer_rise n f w _ u (keeps_brought w.asking r u) (kept_only (λ (v : Users). v.calls ≡ u.calls) w.asking r u (λ pages. refl)) (kept_only (λ (v : Users). v.serials ≡ u.serials) w.asking r u (λ pages. refl))
 
 pub op_done_rise : (n : ℕ) (f : Frame) (serial number : ℕ) (r : Result) (u : Users) → Rises n u (on_op_done f serial number r u).view (spent n (on_op_done f serial number r u))
 op_done_rise n f serial number r u = op_done_of_rise n f r (first_that (asks_op_number serial number r) u.waiting) u
+
+copied_rise : (n : ℕ) (f : Frame) (w : WaitingCall) (copied : Option (List ℕ)) (u : Users) → UsersRise n u (takes_copied f w copied u)
+copied_rise n f w None u = same_counts n u u _ refl refl
+copied_rise n f w (Some bytes) u = answer_rise n f w _ u u refl refl
+
+as_held_of_rise : (n : ℕ) (f : Frame) (o : Option WaitingCall) (u : Users) → UsersRise n u (on_as_held_of f o u)
+as_held_of_rise n f None u = same_counts n u u _ refl refl
+as_held_of_rise n f (Some w) u = copied_rise n f w w.copied u
+
+pub as_held_rise : (n : ℕ) (f : Frame) (serial number : ℕ) (u : Users) → Rises n u (on_as_held f serial number u).view (spent n (on_as_held f serial number u))
+as_held_rise n f serial number u = as_held_of_rise n f (first_that (asks_held_number serial number) u.waiting) u
 
 close_done_of_rise : (n : ℕ) (f : Frame) (serial : ℕ) (a : CloseAnswer) (o : Option WaitingCall) (u : Users) → UsersRise n u (on_close_done_of f serial a o u)
 close_done_of_rise n f serial a None u = same_counts n u u _ refl refl

@@ -17,9 +17,9 @@ use Rattle.role_steps.specs.Tables.{row, total, first_that, without_row}
 use Rattle.role_steps.specs.Views.{Frame, SiteView, Told, Outcome, Event, Calls, Receives, Ticks, Parts, Merges, GivesUp, quiet, sends, and_then}
 use Rattle.role_steps.specs.Opens.{on_opened}
 use Rattle.role_steps.specs.Reports.{on_report, on_open, on_look, on_closed, on_have}
-use Rattle.role_steps.specs.Storage.{copy_of, with_copy}
+use Rattle.role_steps.specs.Storage.{copy_of}
 use Rattle.role_steps.specs.Epochs.{is_epoch_below, frame_in, leaves_of, leaves, promises, reached, begins_round, starts_merge, boots_where, merge_boot, part_boot, starts_part_of, starts_part, promise_packet, refuse_packet, on_poll, on_promise_of, on_refuse_of, joins, may_install, is_in, joined_packet, on_install, on_joined, passed_over, unanswered, decides_if, passes_over_of, passes_over}
-use Rattle.role_steps.specs.Adoption.{table_group, with_store, copy_adopted, is_ready, notes_own_at, without_pull, adopts_pull, is_above_own, adopts_first}
+use Rattle.role_steps.specs.Adoption.{table_group, is_ready, notes_own_at, without_pull, adopts_pull, adopts_first, with_adopted, fits_own}
 use Rattle.role_steps.specs.Mends.{kept_stamps, has_mend_in, wants_mend, row_file, starts_mend_of, starts_mend, starts_mends_in}
 use Rattle.role_steps.specs.declared.pulls.Pull.{Pull}
 use Rattle.role_steps.specs.declared.rounds.InEpoch.{InEpoch}
@@ -37,7 +37,7 @@ use Rattle.the_run.proofs.Runs.{every_run}
 use Rattle.epoch_laws.proofs.Run.{running_view, stopped_never, none_never, place_there}
 use Rattle.packet_fit_laws.specs.Counts.{CountsAreLow}
 use Rattle.packet_fit_laws.proofs.Costs.{order_length, append_length, append_total}
-use Rattle.packet_fit_laws.proofs.Counts.{spent, Rises, spent_both, rises_then, same_counts, call_rise, open_done_rise, op_done_rise, close_done_rise, look_done_rise}
+use Rattle.packet_fit_laws.proofs.Counts.{spent, Rises, spent_both, rises_then, same_counts, call_rise, open_done_rise, op_done_rise, close_done_rise, look_done_rise, as_held_rise}
 
 -- ---- a site ----
 
@@ -117,9 +117,9 @@ noted_stays f p (Some t) v = (refl, refl)
 first_stays : (f : Frame) (ps : List Pull) (v : SiteView) → Stays v (adopts_first f ps v).view
 first_stays f [] v = (refl, refl)
 first_stays f (p ∷ ps) v =
-    elim (is_ready v p) as (λ t. Stays v (elim t as (λ (x : Bool). Outcome SiteView) [ true ↦ elim (is_above_own p (copy_of v.store p.file)) as (λ (x : Bool). Outcome SiteView) [ true ↦ adopts_pull f p v | false ↦ adopts_first f ps (without_pull p v) ] | false ↦ adopts_first f ps v ]).view) [
-      | true ↦ elim (is_above_own p (copy_of v.store p.file)) as (λ t. Stays v (elim t as (λ (x : Bool). Outcome SiteView) [ true ↦ adopts_pull f p v | false ↦ adopts_first f ps (without_pull p v) ]).view) [
-        | true ↦ noted_stays f p (row table_group p.file.group v.tables) (without_pull p (with_store v (with_copy (copy_adopted p) v.store)))
+    elim (is_ready v p) as (λ t. Stays v (elim t as (λ (x : Bool). Outcome SiteView) [ true ↦ elim (fits_own p (copy_of v.store p.file)) as (λ (x : Bool). Outcome SiteView) [ true ↦ adopts_pull f p v | false ↦ adopts_first f ps (without_pull p v) ] | false ↦ adopts_first f ps v ]).view) [
+      | true ↦ elim (fits_own p (copy_of v.store p.file)) as (λ t. Stays v (elim t as (λ (x : Bool). Outcome SiteView) [ true ↦ adopts_pull f p v | false ↦ adopts_first f ps (without_pull p v) ]).view) [
+        | true ↦ noted_stays f p (row table_group p.file.group v.tables) (with_adopted p v)
         | false ↦ first_stays f ps (without_pull p v)
       ]
       | false ↦ first_stays f ps v
@@ -132,6 +132,7 @@ adopts_stay c me (Some e) v = first_stays (frame_in c me v.boot e) v.pulls v
 tries_stay : (c : Config) (me : ℕ) (x : Body) (v : SiteView) → Stays v (tries_at c me x v).view
 tries_stay c me (body.Notify file kind set size stamp vector holder) v = adopts_stay c me v.epoch v
 tries_stay c me (body.Page file stamp page bytes) v = adopts_stay c me v.epoch v
+tries_stay c me (body.Delta file wanted pages) v = adopts_stay c me v.epoch v
 tries_stay c me _ v = (refl, refl)
 
 mend_of_rise : (n : ℕ) (f : Frame) (t : SyncTable) (o : Option FileRow) (v : SiteView) → SiteRises n v (starts_mend_of f t o v)
@@ -170,6 +171,7 @@ table_rise n g o v = stays_rise n v (at_table_of g o v) (table_stays g o v)
 inside_rise : (n : ℕ) (f : Frame) (from : ℕ) (x : Body) (v : SiteView) → SiteRises n v (takes_inside f from x v)
 inside_rise n f from (body.OpenDone serial answer) v = open_done_rise n f (kept_stamps v) serial answer v.users
 inside_rise n f from (body.OpDone serial number result) v = op_done_rise n f serial number result v.users
+inside_rise n f from (body.AsHeld serial number len) v = as_held_rise n f serial number v.users
 inside_rise n f from (body.CloseDone serial answer) v = close_done_rise n f serial answer v.users
 inside_rise n f from (body.LookDone number request take answer) v = look_done_rise n f number request take answer v.users
 inside_rise n f from (body.Report group copies) v = table_rise n (on_report f from copies) (row table_group group v.tables) v
@@ -186,12 +188,15 @@ inside_rise n f from body.Joined v = stays_rise n v (quiet v) (refl, refl)
 inside_rise n f from (body.ReportOk group) v = stays_rise n v (takes_inside f from (body.ReportOk group) v) (refl, refl)
 inside_rise n f from (body.OpenSs inst file mode set kind base vector parents) v = stays_rise n v (takes_inside f from (body.OpenSs inst file mode set kind base vector parents) v) (refl, refl)
 inside_rise n f from (body.Op serial number o seen) v = stays_rise n v (takes_inside f from (body.Op serial number o seen) v) (refl, refl)
+inside_rise n f from (body.ReadHeld serial number at len) v = stays_rise n v (takes_inside f from (body.ReadHeld serial number at len) v) (refl, refl)
 inside_rise n f from (body.Close serial) v = stays_rise n v (takes_inside f from (body.Close serial) v) (refl, refl)
 inside_rise n f from (body.ClosedOk inst) v = stays_rise n v (takes_inside f from (body.ClosedOk inst) v) (refl, refl)
 inside_rise n f from (body.LookSs us call process request take file what serve) v = stays_rise n v (takes_inside f from (body.LookSs us call process request take file what serve) v) (refl, refl)
 inside_rise n f from (body.Notify file kind set size stamp vector holder) v = stays_rise n v (takes_inside f from (body.Notify file kind set size stamp vector holder) v) (refl, refl)
 inside_rise n f from (body.Pull file stamp page) v = stays_rise n v (takes_inside f from (body.Pull file stamp page) v) (refl, refl)
+inside_rise n f from (body.Want file wanted own) v = stays_rise n v (takes_inside f from (body.Want file wanted own) v) (refl, refl)
 inside_rise n f from (body.Page file stamp page bytes) v = stays_rise n v (takes_inside f from (body.Page file stamp page bytes) v) (refl, refl)
+inside_rise n f from (body.Delta file wanted pages) v = stays_rise n v (takes_inside f from (body.Delta file wanted pages) v) (refl, refl)
 
 framed_rise : (n : ℕ) (c : Config) (me : ℕ) (p : Packet) (e : Option InEpoch) (v : SiteView) → SiteRises n v (takes_framed c me p e v)
 framed_rise n c me p None v = stays_rise n v (quiet v) (refl, refl)

@@ -90,6 +90,7 @@ by_end p (body.Closed inst made) h k = end_fits p h
 by_end p (body.ClosedOk inst) h k = end_fits p h
 by_end p (body.Look call process request take file what) h k = end_fits p h
 by_end p (body.Page file stamp page bytes) h k = end_fits p h
+by_end p (body.Delta file wanted pages) h k = end_fits p h
 by_end p (body.Have file stamp) h k = end_fits p h
 by_end p _ h k = absurd k
 

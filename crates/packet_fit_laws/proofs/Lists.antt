@@ -57,6 +57,7 @@ Forms p (body.Closed inst made) = IsAddressed p
 Forms p (body.ClosedOk inst) = IsAddressed p
 Forms p (body.Look call process request take file what) = IsAddressed p
 Forms p (body.Page file stamp page bytes) = IsAddressed p
+Forms p (body.Delta file wanted pages) = IsAddressed p
 Forms p (body.Have file stamp) = IsAddressed p
 Forms p _ = Unit {0}
 
@@ -153,6 +154,7 @@ forms_none p (body.Closed inst made) h k = k
 forms_none p (body.ClosedOk inst) h k = k
 forms_none p (body.Look call process request take file what) h k = k
 forms_none p (body.Page file stamp page bytes) h k = k
+forms_none p (body.Delta file wanted pages) h k = k
 forms_none p (body.Have file stamp) h k = k
 forms_none p _ h k = tt
 

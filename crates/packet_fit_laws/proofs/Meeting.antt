@@ -70,6 +70,7 @@ Meant p (body.Closed inst made) = IsAddressed p
 Meant p (body.ClosedOk inst) = IsAddressed p
 Meant p (body.Look call process request take file what) = IsAddressed p
 Meant p (body.Page file stamp page bytes) = IsAddressed p
+Meant p (body.Delta file wanted pages) = IsAddressed p
 Meant p (body.Have file stamp) = IsAddressed p
 Meant p _ = Unit {0}
 
@@ -86,6 +87,7 @@ MeetsNone (body.Closed inst made) = ⊥
 MeetsNone (body.ClosedOk inst) = ⊥
 MeetsNone (body.Look call process request take file what) = ⊥
 MeetsNone (body.Page file stamp page bytes) = ⊥
+MeetsNone (body.Delta file wanted pages) = ⊥
 MeetsNone (body.Have file stamp) = ⊥
 MeetsNone _ = Unit {0}
 
@@ -98,6 +100,7 @@ meets_none p (body.Closed inst made) h = absurd h
 meets_none p (body.ClosedOk inst) h = absurd h
 meets_none p (body.Look call process request take file what) h = absurd h
 meets_none p (body.Page file stamp page bytes) h = absurd h
+meets_none p (body.Delta file wanted pages) h = absurd h
 meets_none p (body.Have file stamp) h = absurd h
 meets_none p _ h = tt
 
@@ -115,6 +118,7 @@ meets_any p (body.Closed inst made) n h = h
 meets_any p (body.ClosedOk inst) n h = h
 meets_any p (body.Look call process request take file what) n h = h
 meets_any p (body.Page file stamp page bytes) n h = h
+meets_any p (body.Delta file wanted pages) n h = h
 meets_any p (body.Have file stamp) n h = h
 meets_any p _ n h = tt
 

@@ -33,16 +33,19 @@ table_meets_none _ h = absurd h
 
 store_meets_none : (b : Body) → IsOfStore b → MeetsNone b
 store_meets_none (body.OpDone serial n result) h = tt
+store_meets_none (body.AsHeld serial n len) h = tt
 store_meets_none (body.CloseDone serial answer) h = tt
 store_meets_none _ h = absurd h
 
 reader_meets_none : (b : Body) → IsOfReader b → MeetsNone b
 reader_meets_none (body.LookDone call request take answer) h = tt
 reader_meets_none (body.Pull file stamp page) h = tt
+reader_meets_none (body.Want file wanted own) h = tt
 reader_meets_none _ h = absurd h
 
 user_meets_none : (b : Body) → IsOfUser b → MeetsNone b
 user_meets_none (body.Op serial n o seen) h = tt
+user_meets_none (body.ReadHeld serial n at len) h = tt
 user_meets_none (body.Close serial) h = tt
 user_meets_none _ h = absurd h
 

@@ -45,6 +45,7 @@ GoesBack (body.Closed inst made) = Unit {0}
 GoesBack (body.ClosedOk inst) = Unit {0}
 GoesBack (body.Look call process request take file what) = Unit {0}
 GoesBack (body.Page file stamp page bytes) = Unit {0}
+GoesBack (body.Delta file wanted pages) = Unit {0}
 GoesBack (body.Have file stamp) = Unit {0}
 GoesBack _ = ⊥
 

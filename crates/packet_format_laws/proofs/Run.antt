@@ -48,7 +48,7 @@ use Rattle.rest_laws.specs.of_one_tree_laws.Rest.{IsRest, Past}
 use Rattle.rest_laws.specs.of_one_tree_laws.Roles.{EventFact, RolesDo}
 use Rattle.rest_laws.proofs.of_one_tree_laws.Composing.{rest_before}
 use Rattle.rest_laws.proofs.of_one_tree_laws.Rising.{every_among, row_key}
-use Rattle.rest_laws.proofs.of_one_tree_laws.Run.{event_fact, first_holds, kept, sent_fact}
+use Rattle.rest_laws.proofs.of_one_tree_laws.Run.{arrives_fact, event_fact, first_holds, kept}
 use Rattle.rest_laws.proofs.of_one_tree_laws.Staying.{stays}
 use Rattle.rest_laws.proofs.of_one_tree_laws.Worlds.{Holds}
 use Rattle.rest_laws.proofs.Resting.{run_low, run_rests}
@@ -244,7 +244,7 @@ kept_stand c lines fit roles few = record {
     good = (good_kept c).receives n x v w here sent g.good;
     counts = (counted_kept c).receives n x v w here sent g.counts;
     calling = (calling_kept c).receives n x v w here sent g.calling;
-    values = does c few n x.packet.to (Receives x.packet) v (passed x.number w) here (sent_comes w x sent g.good) (λ r. (sent_stands c w (g.values r (g.holds r).followed) x sent, (refl, sent_fact c w x (g.holds r) sent))) (one.passes n x.number w g.holds) ((good_kept c).passes x.number w g.good) ((calling_kept c).passes x.number w g.calling) (pass_fits c x.number w g.values);
+    values = does c few n x.packet.to (Receives x.packet) v (passed x.number w) here (sent_comes w x sent g.good) (λ r. (sent_stands c w (g.values r (g.holds r).followed) x sent, (refl, arrives_fact c w x v (g.holds r) sent here))) (one.passes n x.number w g.holds) ((good_kept c).passes x.number w g.good) ((calling_kept c).passes x.number w g.calling) (pass_fits c x.number w g.values);
   };
   passes = λ n k w g. record { holds = one.passes n k w g.holds; good = (good_kept c).passes k w g.good; counts = (counted_kept c).passes k w g.counts; calling = (calling_kept c).passes k w g.calling; values = pass_fits c k w g.values };
   drops = λ n k w g. record { holds = one.drops n k w g.holds; good = (good_kept c).drops k w g.good; counts = (counted_kept c).drops k w g.counts; calling = (calling_kept c).drops k w g.calling; values = drop_fits c k w g.values };

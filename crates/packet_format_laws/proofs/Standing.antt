@@ -227,7 +227,7 @@ module _ (c : Config) (w : World) (past : Past c w.trace) (few : length c.packs 
 
   comes_fit : (e : Event) → Comes e → EventStands w.trace e → EventFact c w.trace s v e → EventFits c v e
   comes_fit (Calls process words) comes stands k = call_fits process words k
-  comes_fit (Receives p) comes stands k = (stands.body, λ q. (names_here v.epoch p its_site q stands.names, kept_here v.epoch p refl its_site q comes.1 stands.body k.1))
+  comes_fit (Receives p) comes stands k = (stands.body, λ q. (names_here v.epoch p its_site q stands.names, kept_here v.epoch p refl its_site q comes.1 stands.body k.1.fact))
   comes_fit Ticks comes stands k = tt
   comes_fit Parts comes stands k = tt
   comes_fit Merges comes stands k = tt

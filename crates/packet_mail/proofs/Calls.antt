@@ -163,6 +163,8 @@ kind_back (body.Opened _ _) = refl
 kind_back (body.OpenDone _ _) = refl
 kind_back (body.Op _ _ _ _) = refl
 kind_back (body.OpDone _ _ _) = refl
+kind_back (body.ReadHeld _ _ _ _) = refl
+kind_back (body.AsHeld _ _ _) = refl
 kind_back (body.Close _) = refl
 kind_back (body.Closed _ _) = refl
 kind_back (body.ClosedOk _) = refl
@@ -174,6 +176,8 @@ kind_back (body.Notify _ _ _ _ _ _ _) = refl
 kind_back (body.Pull _ _ _) = refl
 kind_back (body.Page _ _ _ _) = refl
 kind_back (body.Have _ _) = refl
+kind_back (body.Want _ _ _) = refl
+kind_back (body.Delta _ _ _) = refl
 
 -- the kind stands in the second byte
 pub kind_is : (bytes : List ℕ) (k : PacketKind) (o : Option Numbered) → IfSome o (λ x. IsPacket bytes x.packet) → k ≡ kind_numbered (get_or bytes 1 0) → IfSome o (λ x. k ≡ kind_of x.packet.body)

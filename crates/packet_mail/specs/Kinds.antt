@@ -28,4 +28,6 @@ kind_numbered n =
     cond (n == 20) packet.LookDone (
     cond (n == 21) packet.Notify (
     cond (n == 22) packet.Pull (
-    cond (n == 23) packet.Page packet.Have))))))))))))))))))))))
+    cond (n == 23) packet.Page (
+    cond (n == 24) packet.Have (
+    cond (n == 25) packet.Want packet.Delta))))))))))))))))))))))))

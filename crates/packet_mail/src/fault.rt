@@ -2,7 +2,7 @@ use locus_ids::NoMemory;
 use thiserror::Error;
 
 /// Why a packet is not sent.
-#[derive(Clone, Copy, Debug, PartialEq, Eq, Error)]
+#[derive(Clone, Copy, Debug, Error)]
 pub enum MailFault {
     #[error("no memory")]
     NoMemory,

@@ -34,7 +34,9 @@ fn kind_numbered(number: u8) -> PacketKind
         21 => PacketKind::Notify,
         22 => PacketKind::Pull,
         23 => PacketKind::Page,
-        _ => PacketKind::Have,
+        24 => PacketKind::Have,
+        25 => PacketKind::Want,
+        _ => PacketKind::Delta,
     }
 }
 
@@ -44,6 +46,6 @@ pub fn kind_of_letter(bytes: &[u8]) -> PacketKind
 {
     match bytes.get(KIND_AT) {
         Some(number) => kind_numbered(*number),
-        None => PacketKind::Have,
+        None => PacketKind::Delta,
     }
 }

@@ -11,7 +11,7 @@ use wire_messages::{Body, Packet};
 use wire_writing::{Encoder, kind_number};
 
 /// Where the bytes of a packet stand.
-#[derive(Clone, Copy, PartialEq, Eq)]
+#[derive(Clone, Copy)]
 pub(crate) struct Span {
     start: usize,
     end: usize,

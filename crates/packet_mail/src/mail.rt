@@ -22,7 +22,7 @@ use wire_messages::Packet;
 pub const MOST_PACKETS: u32 = 262_144;
 
 /// A packet under way, as the schedule's listing tells it.
-#[derive(Clone, Copy, PartialEq, Eq)]
+#[derive(Clone, Copy)]
 pub struct PendingPacket {
     pub number: u32,
     pub from: SiteId,

@@ -44,6 +44,14 @@ pub(crate) fn count(body: &Body)
             let _serial = *serial;
             let _number = *number;
         }
+        Body::ReadHeld { serial, number, .. } => {
+            let _serial = *serial;
+            let _number = *number;
+        }
+        Body::AsHeld { serial, number, .. } => {
+            let _serial = *serial;
+            let _number = *number;
+        }
         Body::Close { serial } => {
             let _serial = *serial;
         }

@@ -2,7 +2,7 @@ use locus_ids::NoMemory;
 use thiserror::Error;
 
 /// Why packets aren't brought into their order.
-#[derive(Clone, Copy, Debug, PartialEq, Eq, Error)]
+#[derive(Clone, Copy, Debug, Error)]
 pub enum OrderFault {
     #[error("no memory")]
     NoMemory,

@@ -1,13 +1,18 @@
 -- Copies of files, as they are stored and reported.
-use Rattle.std.proofs.Common.{◌≡◌, ◌≤◌, ◌<◌, ◌^◌, ℕ, ◌+◌, ◌*◌, ◌==◌, nat_lt, Bool, true, false, cond, List, [], ◌∷◌, length, Option, None, Some, refl, sym, subst, arith}
+use Rattle.std.proofs.Common.{◌≡◌, ◌≤◌, ◌<◌, ◌^◌, ℕ, zero, suc, ◌+◌, ◌*◌, ◌==◌, min, nat_lt, Bool, true, false, cond, List, [], ◌∷◌, ◌++◌, drop, length, take, length-append, Option, None, Some, refl, sym, subst, arith}
 use Rattle.std.proofs.lemmas.Bool.Decides.{nat_tests}
-use Rattle.locus_ids.specs.Sizes.{file_bytes_max, inode_span, inodes_max}
+use Rattle.std.proofs.lemmas.List.{length-take}
+use Rattle.std.specs.List.{flat_map}
+use Rattle.locus_ids.specs.Sizes.{file_bytes_max, inode_span, inodes_max, page_bytes}
+use Rattle.file_content.specs.Pages.{page_of, pages_from, pages_of}
 use Rattle.field_codec.specs.Lists.{AllFit}
 use Rattle.wire_fields.specs.Parts.{sizes}
 use Rattle.wire_fields.proofs.Members.{in_range, range}
 use Rattle.wire_messages.specs.Answers.{copies_from, reported_copies}
 use Rattle.wire_messages.specs.declared.body.ReportedCopy.{ReportedCopy}
+use Rattle.role_steps.specs.Adoption.{content_laid, page_laid, page_laid_at, place_from}
 use Rattle.role_steps.specs.Own.{Every}
+use Rattle.role_steps.specs.Pulling.{bytes_in}
 use Rattle.role_steps.specs.Storage.{content_of, copy_key, report_of, reported}
 use Rattle.role_steps.specs.Tables.{row, with_row}
 use Rattle.role_steps.specs.Views.{Store}
@@ -39,6 +44,30 @@ rises_row least x (y ∷ ys) le h = over (λ k. rises_row (copy_key y + 1) x ys 
 
 pub with_copy_fits : (x : FileCopy) (xs : List FileCopy) → CopyFits x → CopiesFit xs → CopiesFit (with_row copy_key x xs)
 with_copy_fits x xs k h = record { each = every_row CopyFits copy_key x xs k h.each; rise = rises_row 0 x xs (omega arith) h.rise }
+
+-- ---- a version that is laid over a copy ----
+
+module _ (size : ℕ) (numbers came under : List ℕ) where
+  part_short : (content : List ℕ) (page : ℕ) → length (page_of content page) ≤ page_bytes
+  part_short content page = let e : length (page_of content page) ≡ min page_bytes (length (drop (page_bytes * page) content)) = length-take page_bytes (drop (page_bytes * page) content) in omega (arith, e)
+
+  page_short : (page : ℕ) (o : Option ℕ) → length (page_laid_at size numbers came under page o) ≤ page_bytes
+  page_short page (Some k) = part_short came k
+  page_short page None = let e : length (take (bytes_in size page) (page_of under page)) ≡ min (bytes_in size page) (length (page_of under page)) = length-take (bytes_in size page) (page_of under page) in omega (arith, e, part_short under page)
+
+  pages_short : (first count : ℕ) → length (flat_map (page_laid size numbers came under) (pages_from first count)) ≤ page_bytes * count
+  pages_short first zero = omega arith
+  pages_short first (suc more) =
+      let one : List ℕ = page_laid size numbers came under first in
+      let rest : List ℕ = flat_map (page_laid size numbers came under) (pages_from (first + 1) more) in
+      let e : length (one ++ rest) ≡ length one + length rest = length-append one rest in
+      omega (arith, e, page_short first (place_from 0 numbers first), pages_short (first + 1) more)
+
+  pub laid_short : size ≤ file_bytes_max → length (content_laid size numbers came under) ≤ file_bytes_max
+  laid_short most = all (length (content_laid size numbers came under)) (pages_short 0 (pages_of size))
+    where
+      all : (n : ℕ) → n ≤ page_bytes * pages_of size → n ≤ file_bytes_max
+      all n few = omega (arith, most, few)
 
 -- ---- the copy of a file ----
 

@@ -26,6 +26,8 @@ use Rattle.trace_book.specs.declared.operation.Op.TheVariants as op
 use Rattle.trace_book.specs.declared.operation.Outcome.{Outcome}
 use Rattle.trace_book.specs.declared.operation.Outcome.TheVariants as outcome
 use Rattle.wire_fields.specs.Parts.{components}
+use Rattle.wire_fields.specs.declared.asked.Asked.TheVariants as asked
+use Rattle.wire_fields.specs.declared.asked.Gave.TheVariants as gave
 use Rattle.wire_fields.specs.Operations.{ops, outcomes}
 use Rattle.wire_fields.proofs.Members.{range}
 use Rattle.role_steps.specs.OperationEffects.{Mending, effect_of, or_spent}
@@ -35,7 +37,7 @@ use Rattle.packet_value_laws.proofs.Entries.{ResultFits, entries_fit, entry_ino,
 use Rattle.packet_value_laws.proofs.Fields.{kind_fits}
 
 pub record EffectFits (e : Effect) : Type 0 where
-  pub result : outcomes.Fits e.result
+  pub result : outcomes.Fits (gave.Outcome e.result)
   pub size : length e.content ≤ file_bytes_max
   pub pages : length e.pages ≤ 65535
 
@@ -45,11 +47,11 @@ EffectIfAny (Some e) = EffectFits e
 
 -- ---- pages ----
 
-from_length : (first count : ℕ) → length (pages_from first count) ≡ count
+pub from_length : (first count : ℕ) → length (pages_from first count) ≡ count
 from_length first zero = refl
 from_length first (suc more) = let h : length (pages_from (first + 1) more) ≡ more = from_length (first + 1) more in omega (arith, h)
 
-filter_most : (test : ℕ → Bool) (xs : List ℕ) → length (filter test xs) ≤ length xs
+pub filter_most : (test : ℕ → Bool) (xs : List ℕ) → length (filter test xs) ≤ length xs
 filter_most test [] = omega arith
 filter_most test (x ∷ xs) = over (test x) (filter_most test xs)
   where
@@ -79,7 +81,7 @@ between_few from end small = over (nat_lt from end)
 -- ---- directories ----
 
 abbrev DirFits : DirEffect → Type 0
-DirFits d = outcomes.Fits d.outcome
+DirFits d = outcomes.Fits (gave.Outcome d.outcome)
 
 abbrev DirIfAny : Option DirEffect → Type 0
 DirIfAny None = Unit {0}
@@ -133,7 +135,7 @@ empty_fits ds (shown ∷ others) h = h.0
 -- ---- one operation ----
 
 module _ (content : List ℕ) (small : length content ≤ file_bytes_max) where
-  tells_fit : (r : Outcome) → outcomes.Fits r → EffectFits (tells content r)
+  tells_fit : (r : Outcome) → outcomes.Fits (gave.Outcome r) → EffectFits (tells content r)
   tells_fit r h = record { result = h; size = small; pages = omega arith }
 
   puts_fit : (new : List ℕ) (counts : Bool) → EffectFits (puts content new counts)
@@ -171,7 +173,7 @@ module _ (content : List ℕ) (small : length content ≤ file_bytes_max) where
       over true = in_directory_fits (dir_effect o [] (entries_of content)) bounded h
       over false = tt
 
-  read_fits : (at len : ℕ) → len ≤ 4096 → outcomes.Fits (outcome.Data (take len (drop at content)))
+  read_fits : (at len : ℕ) → len ≤ 4096 → outcomes.Fits (gave.Outcome (outcome.Data (take len (drop at content))))
   read_fits at len le = let e : length (take len (drop at content)) ≡ min len (length (drop at content)) = length-take len (drop at content) in omega (arith, e, le)
 
   written_small : (at : ℕ) (bytes : List ℕ) → at + length bytes ≤ file_bytes_max → length (take at (content ++ replicate (at - length content) 0) ++ bytes ++ drop (at + length bytes) content) ≤ file_bytes_max
@@ -206,7 +208,7 @@ module _ (content : List ℕ) (small : length content ≤ file_bytes_max) where
   spent_fits spent None h = tt
   spent_fits spent (Some e) h = record { result = h.result; size = h.size; pages = h.pages }
 
-  pub effect_of_fits : ((ds : List Entry) → Every IsEntry ds → Every components.Fits (shown_names ds)) → (o : Op) (seen : List ℕ) (m : Mending) → ops.Fits (o, seen) → EffectIfAny (effect_of o seen m content)
+  pub effect_of_fits : ((ds : List Entry) → Every IsEntry ds → Every components.Fits (shown_names ds)) → (o : Op) (seen : List ℕ) (m : Mending) → ops.Fits (asked.Op o seen) → EffectIfAny (effect_of o seen m content)
   effect_of_fits shown (op.Probe name) seen m k = worded_fits (op.Probe name) (bounded_probe name (entries_of content)) (probe_fits name (entries_of content) (find (has_name name) (entries_of content)) (find_fits (has_name name) (entries_of content) (entries_fit content)))
   effect_of_fits shown (op.Find component) seen m k = worded_fits (op.Find component) (bounded_find component (entries_of content)) (find_by_fits component (entries_of content) (lookup (entries_of content) component) k.0 (lookup_fits (entries_of content) component (entries_fit content)))
   effect_of_fits shown (op.Insert name ino kind) seen m k = worded_fits (op.Insert name ino kind) (bounded_insert name ino kind (entries_of content)) (insert_fits name ino kind (entries_of content) (pair_in name ino (entries_of content)))
@@ -222,13 +224,13 @@ module _ (content : List ℕ) (small : length content ≤ file_bytes_max) where
 
 -- ---- in the room that is left ----
 
-pub result_fits : (free : ℕ) (changed : List ℕ) (e : Effect) → free ≤ pack_pages → EffectFits e → outcomes.Fits (result_in free changed e)
+pub result_fits : (free : ℕ) (changed : List ℕ) (e : Effect) → free ≤ pack_pages → EffectFits e → outcomes.Fits (gave.Outcome (result_in free changed e))
 result_fits free changed e low h =
-    (elim (is_refusal e.result) as (λ a. is_refusal e.result ≡ a → outcomes.Fits (result_in free changed e)) [
+    (elim (is_refusal e.result) as (λ a. is_refusal e.result ≡ a → outcomes.Fits (gave.Outcome (result_in free changed e))) [
       | true ↦ λ p. rw p h.result
-      | false ↦ λ p. (elim (nat_lt free (pages_needed e.pages changed)) as (λ b. nat_lt free (pages_needed e.pages changed) ≡ b → outcomes.Fits (result_in free changed e)) [
+      | false ↦ λ p. (elim (nat_lt free (pages_needed e.pages changed)) as (λ b. nat_lt free (pages_needed e.pages changed) ≡ b → outcomes.Fits (gave.Outcome (result_in free changed e))) [
         | true ↦ λ q. rw (p, q) (few, least)
-        | false ↦ λ q. (elim e.spent as (λ d. e.spent ≡ d → outcomes.Fits (result_in free changed e)) [
+        | false ↦ λ q. (elim e.spent as (λ d. e.spent ≡ d → outcomes.Fits (gave.Outcome (result_in free changed e))) [
           | true ↦ λ r. rw (p, q, r) tt
           | false ↦ λ r. rw (p, q, r) h.result
         ]) refl

@@ -18,20 +18,20 @@ use Rattle.wire_fields.specs.Parts.{processes, stamps}
 use Rattle.wire_messages.specs.declared.body.Body.{Body}
 use Rattle.wire_messages.specs.declared.body.Body.TheVariants as body
 use Rattle.wire_messages.specs.declared.packet.Packet.{Packet}
-use Rattle.role_steps.specs.Adoption.{adopts_first, adopts_pull, copy_adopted, is_above_own, is_ready, notes_own_at, table_group, with_store, without_pull}
+use Rattle.role_steps.specs.Adoption.{adopts_first, adopts_pull, content_adopted, copy_adopted, is_ready, notes_own_at, table_group, with_store, without_pull, with_adopted, fits_own, content_under}
 use Rattle.role_steps.specs.Epochs.{all_reports, report_packets, with_users}
 use Rattle.role_steps.specs.Mends.{has_mend_in, kept_stamps, mending, row_file, stamps_in, starts_mend, starts_mend_of, starts_mends_in, wants_mend}
 use Rattle.role_steps.specs.Opens.{on_opened}
 use Rattle.role_steps.specs.Own.{Every}
-use Rattle.role_steps.specs.Pulling.{on_notify, on_page, pull_key, pull_repeats}
+use Rattle.role_steps.specs.Pulling.{on_delta, on_notify, on_page, pull_key, pull_repeats, wanted_pages}
 use Rattle.role_steps.specs.Reports.{on_closed, on_have, on_look, on_open, on_report, sync_repeats}
 use Rattle.role_steps.specs.Requests.{descriptors_of, users_repeats}
-use Rattle.role_steps.specs.Storage.{on_close, on_closed_ok, on_look_ss, on_open_ss, on_pull, copy_of, instance_of, report_of, store_repeats, with_copy}
+use Rattle.role_steps.specs.Storage.{on_close, on_closed_ok, on_look_ss, on_open_ss, on_pull, on_want, copy_of, instance_of, report_of, store_repeats}
 use Rattle.role_steps.specs.Tables.{first_that, row}
-use Rattle.role_steps.specs.Operations.{on_op}
-use Rattle.role_steps.specs.Using.{on_call, on_close_done, on_look_done, on_op_done, on_open_done, own_call}
+use Rattle.role_steps.specs.Operations.{on_op, on_read_held}
+use Rattle.role_steps.specs.Using.{on_as_held, on_call, on_close_done, on_look_done, on_op_done, on_open_done, own_call}
 use Rattle.role_steps.specs.Versions.{file_row, kept}
-use Rattle.role_steps.specs.Views.{Frame, Outcome, SiteView, Store, Users, quiet, within}
+use Rattle.role_steps.specs.Views.{Frame, Outcome, SiteView, Store, Users, file_key, quiet, within}
 use Rattle.role_steps.specs.declared.pulls.Pull.{Pull}
 use Rattle.role_steps.specs.declared.rounds.InEpoch.{InEpoch}
 use Rattle.role_steps.specs.declared.synchronizing.FileRow.{FileRow}
@@ -51,14 +51,14 @@ use Rattle.the_run.proofs.StepSends.{order_sent}
 use Rattle.packet_fit_laws.specs.Fields.{AreBoots, IsSite}
 use Rattle.packet_value_laws.specs.Bodies.{FitsBut, IsListed, NamesListed}
 use Rattle.packet_value_laws.specs.Values.{KeptFits, CallFits, FileFits, Grounds, KeptAt, PullFits, SentFits, SiteValues, TableFits}
-use Rattle.packet_value_laws.proofs.Copies.{report_fits, with_copy_fits}
+use Rattle.packet_value_laws.proofs.Copies.{found_copy, laid_short, report_fits, with_copy_fits}
 use Rattle.packet_value_laws.proofs.Fields.{AskedFits, every_flat, size_fits, size_most, sync_asks}
 use Rattle.packet_value_laws.proofs.Files.{found_file}
-use Rattle.packet_value_laws.proofs.Operating.{on_look_ss_fits, on_op_fits, on_pull_fits}
-use Rattle.packet_value_laws.proofs.Pulls.{PullsDone, on_notify_fits, on_page_fits, pull_repeats_fit}
+use Rattle.packet_value_laws.proofs.Operating.{on_look_ss_fits, on_op_fits, on_pull_fits, on_read_held_fits, on_want_fits}
+use Rattle.packet_value_laws.proofs.Pulls.{PullsDone, on_delta_fits, on_notify_fits, on_page_fits, pull_repeats_fit}
 use Rattle.packet_value_laws.proofs.Store.{StoreDone, on_close_fits, on_closed_ok_fits, on_open_ss_fits, store_repeats_fit}
 use Rattle.packet_value_laws.proofs.Sync.{TableDone, have_fits, kept_of_fit, on_closed_fits, on_look_fits, on_open_fits, on_opened_fits, on_report_fits, sync_repeats_fit}
-use Rattle.packet_value_laws.proofs.Users.{EntryFits, UsersDone, on_call_fits, on_close_done_fits, on_look_done_fits, on_op_done_fits, on_open_done_fits, users_repeats_fit}
+use Rattle.packet_value_laws.proofs.Users.{EntryFits, UsersDone, on_as_held_fits, on_call_fits, on_close_done_fits, on_look_done_fits, on_op_done_fits, on_open_done_fits, users_repeats_fit}
 
 pub record SiteDone (c : Config) (boots : List ℕ) (o : Outcome SiteView) : Type 0 where
   pub sent : Every (SentFits boots) o.sent
@@ -125,6 +125,10 @@ module _ (f : Frame) (fit : AreBoots f.members.boot) (own : IsListed f.members.b
       store_done f.config f.members.boot (on_op f (mending v (group_of (instance_of v.store (from_user from serial)))) (from_user from serial) n o seen v.store) v h (on_op_fits f site g.shown (mending v (group_of (instance_of v.store (from_user from serial)))) (from_user from serial) n o seen v.store k.1 h.store)
   inside_done from (body.OpDone serial n result) v listed k names kept h =
       asking_done f.config f.members.boot (within (with_users v) (on_op_done f serial n result v.users)) (users_done f.config f.members.boot (on_op_done f serial n result v.users) v h (on_op_done_fits f g.scripts g.packs serial n result v.users k.1 h.users))
+  inside_done from (body.ReadHeld serial n at len) v listed k names kept h =
+      store_done f.config f.members.boot (on_read_held f (from_user from serial) n at len v.store) v h (on_read_held_fits f site g.shown (from_user from serial) n at len v.store k.1 h.store)
+  inside_done from (body.AsHeld serial n len) v listed k names kept h =
+      asking_done f.config f.members.boot (within (with_users v) (on_as_held f serial n v.users)) (users_done f.config f.members.boot (on_as_held f serial n v.users) v h (on_as_held_fits f g.scripts g.packs serial n v.users h.users))
   inside_done from (body.Close serial) v listed k names kept h =
       store_done f.config f.members.boot (on_close f (from_user from serial) v.store) v h (on_close_fits f site (from_user from serial) v.store h.store)
   inside_done from (body.Closed inst made) v listed k names kept h =
@@ -140,11 +144,15 @@ module _ (f : Frame) (fit : AreBoots f.members.boot) (own : IsListed f.members.b
   inside_done from (body.LookDone call request take answer) v listed k names kept h =
       asking_done f.config f.members.boot (within (with_users v) (on_look_done f call request take answer v.users)) (users_done f.config f.members.boot (on_look_done f call request take answer v.users) v h (on_look_done_fits f g.scripts g.packs call request take answer v.users k h.users))
   inside_done from (body.Notify file kind set size stamp vector holder) v listed k names kept h =
-      pulls_done f.config f.members.boot (on_notify f from (copy_of v.store file) (record { file = file; kind = kind; set = set; size = size; stamp = stamp; vector = vector; holder = holder; content = [] }) v.pulls) v h (on_notify_fits f from (copy_of v.store file) (record { file = file; kind = kind; set = set; size = size; stamp = stamp; vector = vector; holder = holder; content = [] }) v.pulls listed (record { file = k.0; set = k.1.1.0; size = k.1.1.1.0; version = k.1.1.1.1.0; holder = names; most = omega arith }) h.pulls)
+      pulls_done f.config f.members.boot (on_notify f from (copy_of v.store file) (record { file = file; kind = kind; set = set; size = size; stamp = stamp; vector = vector; holder = holder; base = None; wanted = None; content = [] }) v.pulls) v h (on_notify_fits f from (copy_of v.store file) (record { file = file; kind = kind; set = set; size = size; stamp = stamp; vector = vector; holder = holder; base = None; wanted = None; content = [] }) v.pulls listed (found_copy v.store (file_key file) h.store.copies) (record { file = k.0; set = k.1.1.0; size = k.1.1.1.0; version = k.1.1.1.1.0; holder = names; base = tt; pages = tt }) h.pulls)
   inside_done from (body.Pull file stamp page) v listed k names kept h =
       store_done f.config f.members.boot (on_pull f from file stamp page v.store) v h (on_pull_fits f from file stamp page v.store listed k.0 k.1.0 h.store)
   inside_done from (body.Page file stamp page bytes) v listed k names kept h =
       pulls_done f.config f.members.boot (on_page f file stamp page bytes v.pulls) v h (on_page_fits f file stamp page bytes v.pulls h.pulls)
+  inside_done from (body.Want file wanted own) v listed k names kept h =
+      store_done f.config f.members.boot (on_want f from file wanted own v.store) v h (on_want_fits f from file wanted own v.store listed k.0 k.1.0 h.store)
+  inside_done from (body.Delta file wanted pages) v listed k names kept h =
+      pulls_done f.config f.members.boot (on_delta f (copy_of v.store file) file wanted pages v.pulls) v h (on_delta_fits f (copy_of v.store file) file wanted pages v.pulls h.pulls)
   inside_done from (body.Have file stamp) v listed k names kept h =
       group_done f.config f.members.boot (on_have from file stamp) file.group v h (λ t e t_fits. (tt, have_fits f.members.boot from stamp (file_row t file.ino) t listed (found_file f.members.boot t file.ino t_fits) t_fits))
   inside_done from body.Poll v listed k names kept h =
@@ -170,23 +178,20 @@ module _ (f : Frame) (fit : AreBoots f.members.boot) (own : IsListed f.members.b
 
   adopts_pull_done : (p : Pull) (v : SiteView) → PullFits f.members.boot p → SiteValues f.config f.members.boot v → AskingDone f.config f.members.boot (adopts_pull f p v)
   adopts_pull_done p v k h =
-      let now : SiteView = without_pull p (with_store v (with_copy (copy_adopted p) v.store)) in
+      let now : SiteView = with_adopted p v in
       let now_fits : SiteValues f.config f.members.boot now = record {
-        store = record { copies = with_copy_fits (copy_adopted p) v.store.copies (record { file = k.file; set = k.set; size = size_fits (length p.content) (small (length p.content) p.size k.most (size_most p.size k.size)); version = k.version }) h.store.copies; instances = h.store.instances };
+        store = record { copies = with_copy_fits (copy_adopted p (content_under v p)) v.store.copies (record { file = k.file; set = k.set; size = size_fits (length (content_adopted p (content_under v p))) (laid_short p.size (wanted_pages p) p.content (content_under v p) (size_most p.size k.size)); version = k.version }) h.store.copies; instances = h.store.instances };
         users = h.users;
         tables = h.tables;
         pulls = every_without (PullFits f.members.boot) pull_key (pull_key p) v.pulls h.pulls;
         reports = h.reports;
       } in
       record { sent = sync_asks f p.file.group (body.Have p.file p.stamp) (k.file, k.version.0) (λ boots. tt); view = noted_view p (row table_group p.file.group now.tables) now (row_found (TableFits f.members.boot) table_group p.file.group now.tables now_fits.tables) now_fits }
-    where
-      small : (n m : ℕ) → n ≤ m → m ≤ file_bytes_max → n ≤ file_bytes_max
-      small n m a b = omega (arith, a, b)
 
   pub adopts_first_done : (ps : List Pull) (v : SiteView) → Every (PullFits f.members.boot) ps → SiteValues f.config f.members.boot v → AskingDone f.config f.members.boot (adopts_first f ps v)
   adopts_first_done [] v k h = quiet_asking f.config f.members.boot v h
   adopts_first_done (p ∷ ps) v k h =
-      over (adopts_first_done ps (without_pull p v) k.1 (record { store = h.store; users = h.users; tables = h.tables; pulls = every_without (PullFits f.members.boot) pull_key (pull_key p) v.pulls h.pulls; reports = h.reports })) (adopts_first_done ps v k.1 h) (is_ready v p) (is_above_own p (copy_of v.store p.file))
+      over (adopts_first_done ps (without_pull p v) k.1 (record { store = h.store; users = h.users; tables = h.tables; pulls = every_without (PullFits f.members.boot) pull_key (pull_key p) v.pulls h.pulls; reports = h.reports })) (adopts_first_done ps v k.1 h) (is_ready v p) (fits_own p (copy_of v.store p.file))
     where
       over : AskingDone f.config f.members.boot (adopts_first f ps (without_pull p v)) → AskingDone f.config f.members.boot (adopts_first f ps v) → (a b : Bool) → AskingDone f.config f.members.boot (elim a as (λ (t : Bool). Outcome SiteView) [ true ↦ elim b as (λ (t : Bool). Outcome SiteView) [ true ↦ adopts_pull f p v | false ↦ adopts_first f ps (without_pull p v) ] | false ↦ adopts_first f ps v ])
       over less rest true true = adopts_pull_done p v k.0 h

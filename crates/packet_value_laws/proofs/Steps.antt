@@ -352,11 +352,13 @@ module _ (c : Config) (me : ℕ) (site : IsSite me) (g : Grounds c) where
   abbrev OwnAt : Body → SiteView → Type 0
   OwnAt (body.Notify file kind set size stamp vector holder) u = HasOwn me u.epoch
   OwnAt (body.Page file stamp page bytes) u = HasOwn me u.epoch
+  OwnAt (body.Delta file wanted pages) u = HasOwn me u.epoch
   OwnAt _ u = Unit {0}
 
   tries_done : (o0 : Option InEpoch) (x : Body) (u : SiteView) → Site u → Apart u → OwnAt x u → SiteValues c (boots_in u.epoch) u → Done c o0 (tries_at c me x u)
   tries_done o0 (body.Notify file kind set size stamp vector holder) u s apart own h = adopts_done o0 u s apart own h
   tries_done o0 (body.Page file stamp page bytes) u s apart own h = adopts_done o0 u s apart own h
+  tries_done o0 (body.Delta file wanted pages) u s apart own h = adopts_done o0 u s apart own h
   tries_done o0 _ u s apart own h = still c me o0 u apart h
 
   own_stays : (v u : SiteView) → u.epoch ≡ v.epoch → HasOwn me v.epoch → HasOwn me u.epoch
@@ -365,6 +367,7 @@ module _ (c : Config) (me : ℕ) (site : IsSite me) (g : Grounds c) where
   own_at : (links : Links) (p : Packet) (x : Body) (v : SiteView) → Site v → HasOwn me v.epoch → OwnAt x (takes c me links p x v).view
   own_at links p (body.Notify file kind set size stamp vector holder) v s own = own_stays v (takes_framed c me p v.epoch v).view (framed_formless c me p v.epoch v s.tables).epoch own
   own_at links p (body.Page file stamp page bytes) v s own = own_stays v (takes_framed c me p v.epoch v).view (framed_formless c me p v.epoch v s.tables).epoch own
+  own_at links p (body.Delta file wanted pages) v s own = own_stays v (takes_framed c me p v.epoch v).view (framed_formless c me p v.epoch v s.tables).epoch own
   own_at links p _ v s own = tt
 
   -- what a packet has to say in the epoch, or as one that forms an epoch

@@ -25,6 +25,8 @@ use Rattle.call_rules.specs.declared.answer.Answer.TheVariants as answer
 use Rattle.call_rules.specs.declared.want.Want.{Want}
 use Rattle.call_rules.specs.declared.want.Want.TheVariants as want
 use Rattle.wire_fields.specs.Parts.{files, files_or_new, inodes, kind_number, processes, some_set, stamps, vectors}
+use Rattle.wire_fields.specs.declared.asked.Asked.TheVariants as asked
+use Rattle.wire_fields.specs.declared.asked.Gave.TheVariants as gave
 use Rattle.wire_fields.specs.Operations.{ops, outcomes}
 use Rattle.wire_messages.specs.Answers.{is_new, openings, look_answers}
 use Rattle.wire_messages.specs.declared.body.Body.TheVariants as body
@@ -36,10 +38,11 @@ use Rattle.wire_messages.specs.declared.body.LookAnswer.{LookAnswer}
 use Rattle.wire_messages.specs.declared.body.LookAnswer.TheVariants as looked
 use Rattle.wire_messages.specs.declared.body.Opening.TheVariants as how
 use Rattle.role_steps.specs.Own.{Every}
-use Rattle.role_steps.specs.Requests.{descriptor_in, descriptor_key, fd_key, asks_open, asks_make, descriptors_of, asks, asks_close_of, asks_op_of, instance_serial, made_for, next_request, opened_serial, opening_of, request_packets, seen_by, user_instance, users_repeats, vector_in, vector_opened, waiting_key, with_user_instance, without_user_instance, without_waiting}
+use Rattle.role_steps.specs.Requests.{descriptor_in, descriptor_key, fd_key, asks_open, asks_make, descriptors_of, asks, asks_close_of, asks_op_of, instance_serial, made_for, next_request, opened_serial, operation_body, opening_of, request_packets, seen_by, user_instance, users_repeats, vector_in, vector_opened, waiting_key, with_user_instance, without_user_instance, without_waiting}
 use Rattle.role_steps.specs.Tables.{first_that, row}
-use Rattle.role_steps.specs.Using.{asked_answer, holds_again, last_version, opened_row, is_some_site, asks_close_of as asks_close_serial, asks_open_of, asks_op_number, asks_take, close_answer, is_hopeless, is_packed, accepted, after_reply, asks_want, content_answer, frees, goes_on, kept_for, looks_again, mended_file, next_want, on_call, on_close_done, on_close_done_of, on_look_done, on_look_done_of, on_op_done, on_op_done_of, on_open_done, on_open_done_of, op_answer, opened_answer, replies, takes_answer, takes_look, takes_open, with_answer, with_brought, without_hope, own_call}
-use Rattle.role_steps.specs.Views.{sync_site, Frame, Outcome, Users}
+use Rattle.role_steps.specs.Using.{asked_answer, holds_again, last_version, opened_row, is_some_site, asks_close_of as asks_close_serial, asks_open_of, asks_op_number, asks_take, close_answer, is_hopeless, is_packed, after_reply, asks_want, content_answer, frees, goes_on, kept_for, looks_again, mended_file, next_want, on_call, counted_users, counted_call, accepted_call, on_close_done, on_close_done_of, on_look_done, on_look_done_of, on_op_done, on_op_done_of, on_open_done, on_open_done_of, op_answer, opened_answer, replies, takes_answer, takes_look, takes_open, version_read, with_answer, with_brought, without_hope, own_call, asks_held_number, keeps_brought, keeps_part, on_as_held, on_as_held_of, part_of_instance, takes_copied}
+use Rattle.role_steps.specs.of_page_cache.declared.part.Part.{Part}
+use Rattle.role_steps.specs.Views.{packet, sync_site, Frame, Outcome, Users}
 use Rattle.role_steps.specs.declared.users.Asking.{Asking}
 use Rattle.role_steps.specs.declared.users.Asking.TheVariants as asking
 use Rattle.role_steps.specs.declared.users.DescriptorRow.{DescriptorRow}
@@ -54,7 +57,7 @@ use Rattle.locus_ids.specs.Sizes.{inodes_max}
 use Rattle.wire_messages.specs.declared.body.Opening.{Opening}
 use Rattle.role_steps.proofs.Sending.{every_append}
 use Rattle.the_run.proofs.InsideSync.{Found, every_row, every_without, first_found, row_found}
-use Rattle.packet_value_laws.specs.Bodies.{FitsBut, NamesListed}
+use Rattle.packet_value_laws.specs.Bodies.{FitsBut, IsListed, NamesListed}
 use Rattle.packet_value_laws.specs.Values.{CallFits, DescriptorFits, KeptFits, PackFits, PacksFit, ScriptsFit, AnswerFits, AskingFits, HasOpen, OpFits, UsersFit, WaitingFits, WantFits}
 use Rattle.packet_value_laws.proofs.Store.{read_file}
 use Rattle.packet_value_laws.proofs.Fields.{AskedFits, every_flat, ino_range, nothing_fits, one_asks, sync_asks}
@@ -73,10 +76,14 @@ packed_fit f packs group e = over (sync_site f.config f.members group) refl e
 
 -- ---- requests ----
 
+operation_fits : (f : Frame) (ss : ℕ) (copied : Option (List ℕ)) (serial number : ℕ) (o : Op) (seen : List ℕ) → IsListed f.members.boot ss → 1 ≤ serial → ops.Fits (asked.Op o seen) → AskedFits f.members.boot (packet f ss (operation_body copied serial number o seen))
+operation_fits f ss (Some bytes) serial number (op.Read at len) seen listed low h = one_asks f ss (body.ReadHeld serial number at len) listed (low, h.0) (λ boots. tt)
+operation_fits f ss copied serial number o seen listed low h = one_asks f ss (body.Op serial number o seen) listed (low, h) (λ boots. tt)
+
 request_fits : (f : Frame) (w : WaitingCall) (a : Asking) → processes.Fits w.process → AskingFits f.members.boot a → Every (AskedFits f.members.boot) (request_packets f w a)
 request_fits f w (asking.Look file what take) p h = sync_asks f file.group (body.Look w.call w.process w.request take file what) (p, h.0, h.1) (λ boots. tt)
 request_fits f w (asking.Open serial file it) p h = sync_asks f file.group (body.Open serial w.call w.process w.request file it) (h.0, p, h.1, h.2) (λ boots. tt)
-request_fits f w (asking.Op serial ss number o seen) p h = (one_asks f ss (body.Op serial number o seen) h.1 (h.0, h.2) (λ boots. tt), tt)
+request_fits f w (asking.Op serial ss number o seen) p h = (operation_fits f ss w.copied serial number o seen h.1 h.0 h.2, tt)
 request_fits f w (asking.Close serial ss) p h = (one_asks f ss (body.Close serial) h.1 h.0 (λ boots. tt), tt)
 
 pub users_repeats_fit : (f : Frame) (u : Users) → UsersFit f.config f.members.boot u → Every (AskedFits f.members.boot) (users_repeats f u)
@@ -146,7 +153,7 @@ vector_opened_fits : (f : Frame) (u : Users) (o : Option ℕ) → UsersFit f.con
 vector_opened_fits f u None h = nothing_fits
 vector_opened_fits f u (Some serial) h = vector_in_fits f.members.boot (user_instance u serial) (found_instance f u serial h)
 
-seen_fits : (f : Frame) (u : Users) (answers : List Answer) (o : Op) → OpFits o → UsersFit f.config f.members.boot u → ops.Fits (o, seen_by u answers o)
+seen_fits : (f : Frame) (u : Users) (answers : List Answer) (o : Op) → OpFits o → UsersFit f.config f.members.boot u → ops.Fits (asked.Op o (seen_by u answers o))
 seen_fits f u answers (op.Remove name ino) k h = k (vector_opened u (opened_serial ino answers)) (vector_opened_fits f u (opened_serial ino answers) h)
 seen_fits f u answers (op.Probe name) k h = k
 seen_fits f u answers (op.Find component) k h = k
@@ -214,6 +221,16 @@ asks_want_fits f w (want.Close inst) u caller k h = close_of_fits f w (user_inst
 asks_want_fits f w (want.Give r) u caller k h = replies_fit f w r u caller h
 asks_want_fits f w want.Never u caller k h = (tt, h)
 
+-- ---- pages that are kept ----
+
+part_kept : (c : Config) (boots : List ℕ) (bytes : List ℕ) (o : Option Part) (u : Users) → UsersFit c boots u → UsersFit c boots (keeps_part bytes o u)
+part_kept c boots bytes None u h = h
+part_kept c boots bytes (Some p) u h = record { waiting = h.waiting; instances = h.instances; descriptors = h.descriptors }
+
+brought_kept : (c : Config) (boots : List ℕ) (a : Asking) (r : Result) (u : Users) → UsersFit c boots u → UsersFit c boots (keeps_brought a r u)
+brought_kept c boots (asking.Op s ss number (op.Read at len) seen) (result.Data bytes) u h = part_kept c boots bytes (part_of_instance at len (user_instance u s)) u h
+brought_kept c boots a r u h = h
+
 module _ (f : Frame) (scripts : ScriptsFit f.config) (packs : PacksFit f.config) where
   goes_on_fits : (w : WaitingCall) (u : Users) → CallerFits f.config w → UsersFit f.config f.members.boot u → UsersDone f.config f.members.boot (goes_on f w u)
   goes_on_fits w u caller h = asks_want_fits f w (next_want f w u) u caller (scripts (is_packed f) (lowest_free (descriptors_of u w.process)) w.words w.begins w.answers (packed_fit f packs) caller.words caller.answers) h
@@ -226,8 +243,8 @@ module _ (f : Frame) (scripts : ScriptsFit f.config) (packs : PacksFit f.config)
 
   pub on_call_fits : (now : Option EpochId) (process : ℕ) (words : Call) (u : Users) → processes.Fits process → CallFits f.config words (beginning (descriptors_of u process) now (own_call f.me f.boot (u.calls + 1)) words) → UsersFit f.config f.members.boot u → UsersDone f.config f.members.boot (on_call f now process words u)
   on_call_fits now process words u p k h =
-      goes_on_fits (accepted process (u.calls + 1) words (beginning (descriptors_of u process) now (own_call f.me f.boot (u.calls + 1)) words)) (frees process words (record u { calls = u.calls + 1 })) (record { process = p; words = k; answers = tt })
-      (frees_fit process words (record u { calls = u.calls + 1 }) (record { waiting = h.waiting; instances = h.instances; descriptors = h.descriptors }))
+      goes_on_fits (accepted_call f now process words u) (counted_call f now process words u) (record { process = p; words = k; answers = tt })
+      (frees_fit process words (counted_users f now process words u) (record { waiting = h.waiting; instances = h.instances; descriptors = h.descriptors }))
 
   -- ---- answers ----
 
@@ -251,9 +268,9 @@ module _ (f : Frame) (scripts : ScriptsFit f.config) (packs : PacksFit f.config)
 
   takes_open_fits : (kept : FileId → List Stamp) (serial : ℕ) (w : WaitingCall) (a : Granted) (u : Users) → ((file : FileId) → Every stamps.Fits (kept file)) → FitsBut (body.OpenDone serial a) → NamesListed f.members.boot (body.OpenDone serial a) → WaitingFits f.config f.members.boot w → UsersFit f.config f.members.boot u → UsersDone f.config f.members.boot (takes_open f kept serial w a u)
   takes_open_fits kept serial w (granted.Open ss ino size stamp vector) u ks k listed waits h =
-      answered w (opened_answer f serial ino stamp (kept_for kept (mended_file w.words)) w.words w.asking) (with_user_instance (record { serial = serial; ss = ss; vector = vector; ops = 0 }) u) (caller_of w waits)
+      answered w (opened_answer f serial ino stamp (kept_for kept (mended_file w.words)) w.words w.asking) (with_user_instance (record { serial = serial; ss = ss; vector = vector; ops = 0; reads = version_read size stamp w.asking }) u) (caller_of w waits)
       (opened_fits serial ino stamp (kept_for kept (mended_file w.words)) w.words w.asking waits.asking k.1.1.0 (kept_for_fits kept (mended_file w.words) ks))
-      (with_instance_fits f.config f.members.boot (record { serial = serial; ss = ss; vector = vector; ops = 0 }) u (record { serial = k.0; ss = listed; vector = k.1.1.1.1.1 }) h)
+      (with_instance_fits f.config f.members.boot (record { serial = serial; ss = ss; vector = vector; ops = 0; reads = version_read size stamp w.asking }) u (record { serial = k.0; ss = listed; vector = k.1.1.1.1.1 }) h)
   takes_open_fits kept serial w (granted.No why) u ks k listed waits h = answered w (answer.Refused why) u (caller_of w waits) tt h
 
   on_open_done_of_fits : (kept : FileId → List Stamp) (serial : ℕ) (a : Granted) (o : Option WaitingCall) (u : Users) → ((file : FileId) → Every stamps.Fits (kept file)) → FitsBut (body.OpenDone serial a) → NamesListed f.members.boot (body.OpenDone serial a) → Found (WaitingFits f.config f.members.boot) o → UsersFit f.config f.members.boot u → UsersDone f.config f.members.boot (on_open_done_of f kept serial a o u)
@@ -263,19 +280,30 @@ module _ (f : Frame) (scripts : ScriptsFit f.config) (packs : PacksFit f.config)
   pub on_open_done_fits : (kept : FileId → List Stamp) (serial : ℕ) (a : Granted) (u : Users) → ((file : FileId) → Every stamps.Fits (kept file)) → FitsBut (body.OpenDone serial a) → NamesListed f.members.boot (body.OpenDone serial a) → UsersFit f.config f.members.boot u → UsersDone f.config f.members.boot (on_open_done f kept serial a u)
   on_open_done_fits kept serial a u ks k listed h = on_open_done_of_fits kept serial a (first_that (asks_open_of serial) u.waiting) u ks k listed (first_found (WaitingFits f.config f.members.boot) (asks_open_of serial) u.waiting h.waiting) h
 
-  op_answer_fits : (r : Result) → outcomes.Fits r → AnswerFits (op_answer r)
+  op_answer_fits : (r : Result) → outcomes.Fits (gave.Outcome r) → AnswerFits (op_answer r)
   op_answer_fits (result.No why) k = tt
   op_answer_fits result.Done k = tt
   op_answer_fits (result.Data bytes) k = tt
   op_answer_fits (result.Found ino kind) k = k.0
   op_answer_fits (result.Committed stamp) k = tt
 
-  on_op_done_of_fits : (r : Result) (o : Option WaitingCall) (u : Users) → outcomes.Fits r → Found (WaitingFits f.config f.members.boot) o → UsersFit f.config f.members.boot u → UsersDone f.config f.members.boot (on_op_done_of f r o u)
+  on_op_done_of_fits : (r : Result) (o : Option WaitingCall) (u : Users) → outcomes.Fits (gave.Outcome r) → Found (WaitingFits f.config f.members.boot) o → UsersFit f.config f.members.boot u → UsersDone f.config f.members.boot (on_op_done_of f r o u)
   on_op_done_of_fits r None u k found h = (tt, h)
-  on_op_done_of_fits r (Some w) u k found h = answered w (op_answer r) u (caller_of w found) (op_answer_fits r k) h
+  on_op_done_of_fits r (Some w) u k found h = answered w (op_answer r) (keeps_brought w.asking r u) (caller_of w found) (op_answer_fits r k) (brought_kept f.config f.members.boot w.asking r u h)
 
-  pub on_op_done_fits : (serial n : ℕ) (r : Result) (u : Users) → outcomes.Fits r → UsersFit f.config f.members.boot u → UsersDone f.config f.members.boot (on_op_done f serial n r u)
+  pub on_op_done_fits : (serial n : ℕ) (r : Result) (u : Users) → outcomes.Fits (gave.Outcome r) → UsersFit f.config f.members.boot u → UsersDone f.config f.members.boot (on_op_done f serial n r u)
   on_op_done_fits serial n r u k h = on_op_done_of_fits r (first_that (asks_op_number serial n r) u.waiting) u k (first_found (WaitingFits f.config f.members.boot) (asks_op_number serial n r) u.waiting h.waiting) h
+
+  copied_fits : (w : WaitingCall) (o : Option (List ℕ)) (u : Users) → WaitingFits f.config f.members.boot w → UsersFit f.config f.members.boot u → UsersDone f.config f.members.boot (takes_copied f w o u)
+  copied_fits w None u waits h = (tt, h)
+  copied_fits w (Some bytes) u waits h = answered w (answer.Did (result.Data bytes)) u (caller_of w waits) tt h
+
+  on_as_held_of_fits : (o : Option WaitingCall) (u : Users) → Found (WaitingFits f.config f.members.boot) o → UsersFit f.config f.members.boot u → UsersDone f.config f.members.boot (on_as_held_of f o u)
+  on_as_held_of_fits None u found h = (tt, h)
+  on_as_held_of_fits (Some w) u found h = copied_fits w w.copied u found h
+
+  pub on_as_held_fits : (serial n : ℕ) (u : Users) → UsersFit f.config f.members.boot u → UsersDone f.config f.members.boot (on_as_held f serial n u)
+  on_as_held_fits serial n u h = on_as_held_of_fits (first_that (asks_held_number serial n) u.waiting) u (first_found (WaitingFits f.config f.members.boot) (asks_held_number serial n) u.waiting h.waiting) h
 
   close_answer_fits : (a : CloseAnswer) → AnswerFits (close_answer a)
   close_answer_fits closing.Nothing = tt

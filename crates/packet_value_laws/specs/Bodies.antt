@@ -3,6 +3,8 @@ use Rattle.std.specs.Prelude.{ℕ, ◌≤◌, List}
 use Rattle.locus_ids.specs.declared.ids.Serial.{Serial}
 use Rattle.field_codec.specs.Codec.{followed_by}
 use Rattle.wire_fields.specs.Parts.{sites, processes, files, files_or_new, some_set, stamps, ascending_stamps, vectors}
+use Rattle.wire_fields.specs.declared.asked.Asked.TheVariants as asked
+use Rattle.wire_fields.specs.declared.asked.Gave.TheVariants as gave
 use Rattle.wire_fields.specs.Operations.{ops, outcomes, whats}
 use Rattle.wire_messages.specs.Answers.{is_new, modes, openings, opened_answers, granted_answers, made_answers, close_answers, look_answers}
 use Rattle.wire_messages.specs.Bodies.{FitsBody}
@@ -21,8 +23,10 @@ FitsBut (body.Open serial call process request file how) = (1 ≤ serial) × pro
 FitsBut (body.OpenSs inst file mode set k base vector parents) = IsNamed inst × (followed_by files_or_new (λ f. modes (is_new f))).Fits (file, mode) × some_set.Fits set × stamps.Fits base × vectors.Fits vector × ascending_stamps.Fits parents
 FitsBut (body.Opened inst answer) = IsNamed inst × opened_answers.Fits answer
 FitsBut (body.OpenDone serial answer) = (1 ≤ serial) × granted_answers.Fits answer
-FitsBut (body.Op serial number op seen) = (1 ≤ serial) × ops.Fits (op, seen)
-FitsBut (body.OpDone serial number outcome) = (1 ≤ serial) × outcomes.Fits outcome
+FitsBut (body.Op serial number op seen) = (1 ≤ serial) × ops.Fits (asked.Op op seen)
+FitsBut (body.OpDone serial number outcome) = (1 ≤ serial) × outcomes.Fits (gave.Outcome outcome)
+FitsBut (body.ReadHeld serial number at len) = (1 ≤ serial) × ops.Fits (asked.Held at len)
+FitsBut (body.AsHeld serial number len) = (1 ≤ serial) × outcomes.Fits (gave.AsHeld len)
 FitsBut (body.Close serial) = 1 ≤ serial
 FitsBut (body.Closed inst version) = IsNamed inst × made_answers.Fits version
 FitsBut (body.ClosedOk inst) = IsNamed inst

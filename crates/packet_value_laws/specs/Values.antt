@@ -26,6 +26,8 @@ use Rattle.dir_format.specs.Entries.{IsEntry, nothing_seen}
 use Rattle.dir_format.specs.Lookups.{shown_names}
 use Rattle.dir_format.specs.declared.entry.Entry.{Entry}
 use Rattle.wire_fields.specs.Parts.{components, processes, inodes, sizes, files, files_or_new, some_set, stamps, ascending_stamps, vectors}
+use Rattle.wire_fields.specs.declared.asked.Asked.TheVariants as asked
+use Rattle.wire_fields.specs.declared.asked.Gave.TheVariants as gave
 use Rattle.wire_fields.specs.Operations.{ops, outcomes, whats}
 use Rattle.wire_fields.specs.Refusals.{refusals}
 use Rattle.wire_messages.specs.Answers.{is_new, openings, versions, made_answers, close_answers}
@@ -40,6 +42,7 @@ use Rattle.role_steps.specs.Tables.{row}
 use Rattle.role_steps.specs.Opens.{stamp_or_none}
 use Rattle.role_steps.specs.Requests.{made_for, opening_of}
 use Rattle.role_steps.specs.Storage.{copy_key}
+use Rattle.role_steps.specs.Pulling.{wanted_pages}
 use Rattle.role_steps.specs.Versions.{stamps_of}
 use Rattle.role_steps.specs.Views.{boot_in, pack_sites, sync_site, SiteView, Store, Users}
 use Rattle.role_steps.specs.declared.copies.FileCopy.{FileCopy}
@@ -100,7 +103,7 @@ VersionIfAny (Some s) vector = versions.Fits (s, vector)
 
 abbrev pub ResultIfAny : Option Result → Type 0
 ResultIfAny None = Unit {0}
-ResultIfAny (Some r) = outcomes.Fits r
+ResultIfAny (Some r) = outcomes.Fits (gave.Outcome r)
 
 abbrev pub StageFits : Stage → Type 0
 StageFits stage.Running = Unit {0}
@@ -146,8 +149,8 @@ AnswerFits _ = Unit {0}
 
 -- a remove has seen a vector, and each other operation nothing
 abbrev pub OpFits : Op → Type 0
-OpFits (op.Remove name ino) = (vector : List ℕ) → vectors.Fits vector → ops.Fits (op.Remove name ino, vector)
-OpFits o = ops.Fits (o, nothing_seen)
+OpFits (op.Remove name ino) = (vector : List ℕ) → vectors.Fits vector → ops.Fits (asked.Op (op.Remove name ino) vector)
+OpFits o = ops.Fits (asked.Op o nothing_seen)
 
 -- what a call may want
 abbrev pub WantFits : Config → Want → Type 0
@@ -173,7 +176,7 @@ ScriptsFit c = (packed : ℕ → Bool) (free : Option ℕ) (words : Call) (b : B
 abbrev pub AskingFits : List ℕ → Asking → Type 0
 AskingFits boots (asking.Look file what take) = files.Fits file × whats.Fits what
 AskingFits boots (asking.Open serial file it) = (1 ≤ serial) × files_or_new.Fits file × (openings (is_new file)).Fits it
-AskingFits boots (asking.Op serial ss number o seen) = (1 ≤ serial) × IsListed boots ss × ops.Fits (o, seen)
+AskingFits boots (asking.Op serial ss number o seen) = (1 ≤ serial) × IsListed boots ss × ops.Fits (asked.Op o seen)
 AskingFits boots (asking.Close serial ss) = (1 ≤ serial) × IsListed boots ss
 
 pub record WaitingFits (c : Config) (boots : List ℕ) (w : WaitingCall) : Type 0 where
@@ -255,13 +258,18 @@ KeptFit t = Every (λ (r : FileRow). ascending_stamps.Fits (stamps_of r.kept)) t
 
 -- ---- a site that pulls ----
 
+-- the number of a page that a Pull may ask
+abbrev pub IsPage : ℕ → Type 0
+IsPage page = page < 2 ^ 8
+
 pub record PullFits (boots : List ℕ) (p : Pull) : Type 0 where
   pub file : files.Fits p.file
   pub set : some_set.Fits p.set
   pub size : sizes.Fits p.size
   pub version : versions.Fits (p.stamp, p.vector)
   pub holder : IsListed boots p.holder
-  pub most : length p.content ≤ p.size
+  pub base : StampIfAny p.base
+  pub pages : Every IsPage (wanted_pages p)
 
 -- ---- the site ----
 

@@ -39,7 +39,7 @@ use Rattle.whole_run_laws.specs.of_rest_laws.of_one_tree_laws.Rest.{IsRest, Rest
 use Rattle.whole_run_laws.specs.of_rest_laws.of_one_tree_laws.Roles.{EventFact, RolesDo}
 use Rattle.whole_run_laws.proofs.of_rest_laws.of_one_tree_laws.Composing.{rest_before, rest_told}
 use Rattle.whole_run_laws.proofs.of_rest_laws.of_one_tree_laws.Cuts.{step_writes}
-use Rattle.whole_run_laws.proofs.of_rest_laws.of_one_tree_laws.Run.{kept, first_holds, event_fact, sent_fact}
+use Rattle.whole_run_laws.proofs.of_rest_laws.of_one_tree_laws.Run.{arrives_fact, event_fact, first_holds, kept}
 use Rattle.whole_run_laws.proofs.of_rest_laws.of_one_tree_laws.Staying.{stays}
 use Rattle.whole_run_laws.proofs.of_rest_laws.of_one_tree_laws.Worlds.{Holds}
 use Rattle.whole_run_laws.proofs.of_rest_laws.Roles.{roles_do}
@@ -173,7 +173,7 @@ asked_kept c lines fit roles = record {
   ticks = λ n most s v w is here p. record { holds = held.ticks n most s v w is here p.holds; asked = does_asked c roles n s Ticks v w here (λ past. tt) p.holds p.asked };
   receives = λ n l x v w is d here sent p. record {
     holds = held.receives n l x v w is d here sent p.holds;
-    asked = does_asked c roles n x.packet.to (Receives x.packet) v (passed x.number w) here (λ past. (refl, sent_fact c w x (p.holds past.rest) sent)) (held.passes n x.number w p.holds) p.asked;
+    asked = does_asked c roles n x.packet.to (Receives x.packet) v (passed x.number w) here (λ past. (refl, arrives_fact c w x v (p.holds past.rest) sent here)) (held.passes n x.number w p.holds) p.asked;
   };
   passes = λ n k w p. record { holds = held.passes n k w p.holds; asked = p.asked };
   drops = λ n k w p. record { holds = held.drops n k w p.holds; asked = p.asked };

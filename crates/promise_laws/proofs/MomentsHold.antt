@@ -35,9 +35,10 @@ use Rattle.whole_run_laws.proofs.of_rest_laws.of_one_tree_laws.Worlds.{Holds}
 use Rattle.whole_run_laws.proofs.of_rest_laws.Packs.{schedule_packs}
 use Rattle.whole_run_laws.proofs.of_rest_laws.Roles.{roles_do}
 use Rattle.whole_run_laws.proofs.of_rest_laws.Shown.{shown_entries}
-use Rattle.convergence_laws.proofs.of_calm_laws.Facts.{RoundFacts, round_facts}
+use Rattle.convergence_laws.proofs.of_calm_laws.Facts.{RoundFacts, holds_round, round_facts}
 use Rattle.convergence_laws.proofs.of_calm_laws.Moments.{GoesOn, goes_itself, goes_round_kept}
-use Rattle.convergence_laws.proofs.TraceTicked.{ticks_then, rest_earlier, holds_round}
+use Rattle.convergence_laws.proofs.TraceTicked.{ticks_then, rest_earlier}
+use Rattle.copy_laws.proofs.Contents.{world_contents}
 use Rattle.whole_run_laws.specs.Disks.{DisksHold}
 use Rattle.promise_laws.specs.Moments.{HoldsAfterEvents, IsAfterEvent}
 use Rattle.promise_laws.proofs.OneHistory.{history_is_one}
@@ -95,7 +96,7 @@ module _ (lines : List ScheduleLine) (order : AreInOrder lines) where
   after_events w h = record {
     disks = fact_disks (config_of lines) w (fact_after w h);
     history = history_is_one (config_of lines) w;
-    versions = versions_after (config_of lines) lines w h;
+    versions = record { versions = versions_after (config_of lines) lines w h; contents = world_contents (config_of lines) w (fact_after w h) };
     requests = kept_after (config_of lines) RequestsBounded (requests_kept (config_of lines)) (requests_first (config_of lines)) lines w h;
     deliveries = delivery_one (config_of lines) w (kept_after (config_of lines) KeptLooksOpenNone (looks_kept (config_of lines)) (looks_first (config_of lines)) lines w h);
   }

@@ -1,4 +1,4 @@
--- After each event of a run holds of versions and copies what holds at its end: what stands on disks is kept by every event, and the
+-- After each event of a run holds of versions what holds at its end: what stands on disks is kept by every event, and the
 -- laws of what was told hold of what was told before.
 use Rattle.std.proofs.Common.{◌≡◌, ◌≤◌, ℕ, ◌+◌, ◌⊎◌, List, [], ◌∷◌, ◌++◌, take, drop, refl, sym, ◌∙◌, ap, subst, inl, inr, arith}
 use Rattle.std.proofs.lemmas.List.{take-append-drop}
@@ -45,12 +45,9 @@ use Rattle.kept_laws.proofs.StampEarlier.{orderly_before}
 use Rattle.kept_laws.proofs.StampTold.{laws_before}
 use Rattle.kept_laws.proofs.Standing.{StandsIn, written_stands}
 use Rattle.kept_laws.proofs.VectorsKeep.{kept_same}
-use Rattle.copy_laws.specs.Contents.{HasItsContent}
-use Rattle.copy_laws.specs.Facts.{WorldFact, CopyFact as HasBytes}
-use Rattle.copy_laws.specs.Hold.{VersionsAndCopiesHold}
-use Rattle.copy_laws.proofs.BytesRun.{Both, bytes_kept, first_both}
-use Rattle.copy_laws.proofs.ContentsRun.{copy_has, run_laws}
-use Rattle.copy_laws.proofs.Pages.{Histories}
+use Rattle.copy_laws.specs.Hold.{VersionsStand}
+use Rattle.copy_laws.proofs.CoversKept.{All, all_kept, first_all}
+use Rattle.copy_laws.proofs.LawsRun.{run_laws}
 use Rattle.orderly_laws.specs.Calm.{delivered, ticked}
 use Rattle.orderly_laws.proofs.Rounds.{RoundKept, ticks_kept}
 use Rattle.convergence_laws.proofs.TraceTicked.{ticks_then}
@@ -148,10 +145,10 @@ laws_after c lines w (inl h) = subst (TraceLaws c) (sym h.1) (run_trace_laws c (
 laws_after c lines w (inr (inl h)) = ticking_laws c lines w h
 laws_after c lines w (inr (inr h)) = delivering_laws c lines w h
 
--- ---- versions and copies ----
+-- ---- versions ----
 
-versions_hold : (c : Config) (w : World) → TraceLaws c w → CopiesAreTold c w → WhereLawful w → Both c w → VersionsAndCopiesHold c w
-versions_hold c w t told counts both = record {
+versions_stand : (c : Config) (w : World) → TraceLaws c w → CopiesAreTold c w → WhereLawful w → All c w → VersionsStand c w
+versions_stand c w t told counts all = record {
   kept = record {
     versions = record {
       once = f.once;
@@ -170,23 +167,16 @@ versions_hold c w t told counts both = record {
   named = t.named;
   fit = t.laws.fit;
   told = told;
-  contents = λ s p here. every_weaker (HasBytes past) (HasItsContent past) (copies_on p) (copy_has past histories) (b.disks s p here);
 }
   where
     past : List Told
     past = past_of w.trace
 
     f : WorldCovers c w
-    f = both.0.1 t.laws t.order
-
-    b : WorldFact w
-    b = both.1 t.laws t.order
+    f = all.1 t.laws t.order
 
     lawful : Lawful past
     lawful = record { numbered = f.numbered; sited = t.laws.sited; once = f.once; fit = t.laws.fit }
-
-    histories : Histories past
-    histories = record { numbered = f.numbered; sited = t.laws.sited; once = f.once; fit = t.laws.fit }
 
     so : ToldSo w.trace
     so = record { numbered = f.numbered; sited = t.laws.sited; roots = t.roots }
@@ -197,9 +187,9 @@ versions_hold c w t told counts both = record {
     copies : CopiesAreTrue w
     copies s p here = every_weaker (CopyFact past) (IsTrueCopy past) (copies_on p) (true_copy past f.numbered t.laws.sited f.once) (f.places s p here).written
 
-pub versions_after : (c : Config) (lines : List ScheduleLine) (w : World) → IsAfterEvent c lines w → VersionsAndCopiesHold c w
+pub versions_after : (c : Config) (lines : List ScheduleLine) (w : World) → IsAfterEvent c lines w → VersionsStand c w
 versions_after c lines w h =
-    versions_hold c w (laws_after c lines w h)
+    versions_stand c w (laws_after c lines w h)
     (kept_after c (CopiesAreTold c) (told_kept c) (first_told c) lines w h)
     (kept_after c WhereLawful (counts_kept c) (first_counted c) lines w h)
-    (kept_after c (Both c) (bytes_kept c) (first_both c) lines w h)
+    (kept_after c (All c) (all_kept c) (first_all c) lines w h)

@@ -3,6 +3,7 @@ use Rattle.std.proofs.Common.{◌≡◌, ℕ, ◌+◌, nat_lt, Bool, true, false
 use Rattle.role_steps.proofs.of_plain_facts.Options.{none_some, some_same}
 use Rattle.locus_ids.specs.declared.config.Config.{Config}
 use Rattle.locus_ids.specs.declared.ids.EpochId.{EpochId}
+use Rattle.locus_ids.specs.declared.ids.Serial.{Serial}
 use Rattle.locus_ids.specs.declared.sites.Links.{Links}
 use Rattle.trace_book.specs.declared.record.Record.{Record}
 use Rattle.trace_book.specs.declared.record.Record.TheVariants as says
@@ -10,23 +11,25 @@ use Rattle.wire_messages.specs.Bodies.{kind_number}
 use Rattle.wire_messages.specs.declared.body.Body.{Body}
 use Rattle.wire_messages.specs.declared.body.Body.TheVariants as body
 use Rattle.wire_messages.specs.declared.packet.Packet.{Packet}
-use Rattle.role_steps.specs.Adoption.{adopts_first, adopts_pull, adopt_write, is_ready, is_above_own, without_pull, table_group}
+use Rattle.role_steps.specs.Adoption.{adopts_first, adopts_pull, adopt_write, is_ready, without_pull, table_group, fits_own, content_under}
 use Rattle.role_steps.specs.Epochs.{frame_in, on_poll, on_promise_of, on_refuse_of, on_install, on_joined, starts_merge, boots_where, merge_boot, starts_part, leaves}
 use Rattle.role_steps.specs.Looks.{LookRequest}
 use Rattle.role_steps.specs.Mends.{kept_stamps, mending}
 use Rattle.role_steps.specs.OperationEffects.{Mending}
+use Rattle.role_steps.specs.Operations.{on_read_held}
 use Rattle.role_steps.specs.Opens.{OpenRequest, on_opened}
 use Rattle.role_steps.specs.Reports.{on_report, on_open, on_look, on_closed, on_have}
 use Rattle.role_steps.specs.Storage.{StoreRequest, copy_of, instance_of, on_open_ss}
 use Rattle.role_steps.specs.Tables.{row, first_that}
-use Rattle.role_steps.specs.Views.{Frame, SiteView, DiskWrite, Outcome, Event, Calls, Receives, Ticks, Parts, Merges, GivesUp, quiet, first_written}
+use Rattle.role_steps.specs.Views.{Frame, SiteView, DiskWrite, Outcome, Event, Calls, Receives, Ticks, Parts, Merges, GivesUp, quiet, first_written, Store}
 use Rattle.role_steps.specs.declared.pulls.Pull.{Pull}
 use Rattle.role_steps.specs.declared.rounds.InEpoch.{InEpoch}
 use Rattle.role_steps.specs.declared.synchronizing.SyncTable.{SyncTable}
 use Rattle.the_run.specs.Steps.{at_table_of, from_user, group_of, is_opened_in, is_dropped, takes_inside, takes_framed, takes, tries_at, adopts_of, adopts_in, ends_event, whole, call_frame, epoch_id, takes_call, step}
 use Rattle.the_run.specs.Worlds.{Line}
+use Rattle.role_steps.proofs.HeldReads.{held_read_so}
 use Rattle.run_laws.specs.Words.{Talks}
-use Rattle.run_laws.proofs.Telling.{on_open_ss_talks, on_closed_ok_talks, on_notify_talks, on_page_talks, on_call_talks, on_open_done_talks, on_op_done_talks, on_close_done_talks, on_look_done_talks, on_opened_talks, on_open_talks, on_look_talks, on_report_talks, on_closed_talks, on_have_talks}
+use Rattle.run_laws.proofs.Telling.{on_open_ss_talks, on_closed_ok_talks, on_notify_talks, on_page_talks, on_call_talks, on_open_done_talks, on_op_done_talks, on_close_done_talks, on_look_done_talks, on_opened_talks, on_open_talks, on_look_talks, on_report_talks, on_closed_talks, on_have_talks, on_as_held_talks, on_delta_talks}
 use Rattle.tree_model.specs.Folds.{Trace}
 use Rattle.tree_laws.specs.Doing.{IsReceived}
 use Rattle.tree_laws.specs.Packets.{CloseFact, OpFact, PacketFact, BodyFact}
@@ -49,6 +52,11 @@ SaysAsked c before _ = Unit {0}
 abbrev pub WritesAsked : Config → List Line → Option DiskWrite → Type 0
 WritesAsked c trace w = (d : DiskWrite) → w ≡ Some d → SaysAsked c (entries trace) d.says
 
+-- a read writes nothing, in whatever form it is answered
+held_none : (f : Frame) (inst : Serial) (n at len : ℕ) (s : Store) → (on_read_held f inst n at len s).written ≡ None
+held_none f inst n at len s =
+    (held_read_so (λ p. Unit {0}) (λ t. Unit {0}) (λ d. d ≡ None) f (record { full = λ to m k r. tt; held = λ to m k l. tt; told = λ i m o r. tt; unwritten = refl }) inst n at len s).2
+
 module _ (c : Config) (trace : List Line) where
   none_asked : (w : Option DiskWrite) → w ≡ None → WritesAsked c trace w
   none_asked w e d k = absurd (none_some d (sym e ∙ k))
@@ -65,9 +73,9 @@ module _ (c : Config) (trace : List Line) where
   first_adopted : (f : Frame) (ps : List Pull) (v : SiteView) → Asked (adopts_first f ps v)
   first_adopted f [] v = none_asked None refl
   first_adopted f (p ∷ ps) v =
-      elim (is_ready v p) as (λ t. Asked (elim t [ true ↦ elim (is_above_own p (copy_of v.store p.file)) [ true ↦ adopts_pull f p v | false ↦ adopts_first f ps (without_pull p v) ] | false ↦ adopts_first f ps v ])) [
-        | true ↦ elim (is_above_own p (copy_of v.store p.file)) as (λ t. Asked (elim t [ true ↦ adopts_pull f p v | false ↦ adopts_first f ps (without_pull p v) ])) [
-          | true ↦ λ d e. subst (λ (x : DiskWrite). SaysAsked c (entries trace) x.says) (some_same (adopt_write f p) d e) tt
+      elim (is_ready v p) as (λ t. Asked (elim t [ true ↦ elim (fits_own p (copy_of v.store p.file)) [ true ↦ adopts_pull f p v | false ↦ adopts_first f ps (without_pull p v) ] | false ↦ adopts_first f ps v ])) [
+        | true ↦ elim (fits_own p (copy_of v.store p.file)) as (λ t. Asked (elim t [ true ↦ adopts_pull f p v | false ↦ adopts_first f ps (without_pull p v) ])) [
+          | true ↦ λ d e. subst (λ (x : DiskWrite). SaysAsked c (entries trace) x.says) (some_same (adopt_write f p (content_under v p)) d e) tt
           | false ↦ first_adopted f ps (without_pull p v)
         ]
         | false ↦ first_adopted f ps v
@@ -108,7 +116,9 @@ module _ (c : Config) (trace : List Line) where
     inside_asked (body.Opened inst answer) fact = table_asked (on_opened f inst answer) (first_that (is_opened_in inst) v.tables) v (on_opened_talks f inst answer)
     inside_asked (body.OpenDone serial answer) fact = none_asked _ (on_open_done_talks f (kept_stamps v) serial answer v.users).1
     inside_asked (body.Op serial k o seen) fact = op_writes serial k o seen fact
+    inside_asked (body.ReadHeld serial k at len) fact = none_asked _ (held_none f (from_user p.from serial) k at len v.store)
     inside_asked (body.OpDone serial k result) fact = none_asked _ (on_op_done_talks f serial k result v.users).1
+    inside_asked (body.AsHeld serial k len) fact = none_asked _ (on_as_held_talks f serial k v.users).1
     inside_asked (body.Close serial) fact = close_writes serial fact
     inside_asked (body.Closed inst made) fact = table_asked (on_closed f p.from inst made) (first_that (is_opened_in inst) v.tables) v (on_closed_talks f p.from inst made)
     inside_asked (body.ClosedOk inst) fact = none_asked _ (on_closed_ok_talks f inst v.store).1
@@ -117,8 +127,9 @@ module _ (c : Config) (trace : List Line) where
         let l : LookRequest = record { call = call; process = process; request = request; take = take; file = file; what = what } in table_asked (on_look f p.from l) (row table_group file.group v.tables) v (on_look_talks f p.from l)
     inside_asked (body.LookDone call request take answer) fact = none_asked _ (on_look_done_talks f call request take answer v.users).1
     inside_asked (body.Notify file kind set size stamp vector holder) fact =
-        let pull : Pull = record { file = file; kind = kind; set = set; size = size; stamp = stamp; vector = vector; holder = holder; content = [] } in none_asked _ (on_notify_talks f p.from (copy_of v.store file) pull v.pulls).1
+        let pull : Pull = record { file = file; kind = kind; set = set; size = size; stamp = stamp; vector = vector; holder = holder; base = None; wanted = None; content = [] } in none_asked _ (on_notify_talks f p.from (copy_of v.store file) pull v.pulls).1
     inside_asked (body.Page file stamp page bytes) fact = none_asked _ (on_page_talks f file stamp page bytes v.pulls).1
+    inside_asked (body.Delta file wanted pages) fact = none_asked _ (on_delta_talks f (copy_of v.store file) file wanted pages v.pulls).1
     inside_asked (body.Have file stamp) fact = table_asked (on_have p.from file stamp) (row table_group file.group v.tables) v (on_have_talks p.from file stamp)
     inside_asked _ fact = none_asked None refl
 
@@ -145,6 +156,7 @@ module _ (c : Config) (trace : List Line) where
   packet_asked links p body.Joined v q d past h fact = still_asked p.to links (on_joined p.from p.epoch v) refl
   packet_asked links p (body.Notify file kind set size stamp vector holder) v q d past h fact = whole_asked p.to links (takes_framed c p.to p v.epoch v) (adopts_in c p.to) (framed_asked p (body.Notify file kind set size stamp vector holder) v.epoch v q refl d past refl h fact) (of_adopted p.to (takes_framed c p.to p v.epoch v).view.epoch (takes_framed c p.to p v.epoch v).view)
   packet_asked links p (body.Page file stamp page bytes) v q d past h fact = whole_asked p.to links (takes_framed c p.to p v.epoch v) (adopts_in c p.to) (framed_asked p (body.Page file stamp page bytes) v.epoch v q refl d past refl h fact) (of_adopted p.to (takes_framed c p.to p v.epoch v).view.epoch (takes_framed c p.to p v.epoch v).view)
+  packet_asked links p (body.Delta file wanted pages) v q d past h fact = whole_asked p.to links (takes_framed c p.to p v.epoch v) (adopts_in c p.to) (framed_asked p (body.Delta file wanted pages) v.epoch v q refl d past refl h fact) (of_adopted p.to (takes_framed c p.to p v.epoch v).view.epoch (takes_framed c p.to p v.epoch v).view)
   packet_asked links p x v q d past h fact = whole_asked p.to links (takes_framed c p.to p v.epoch v) quiet (framed_asked p x v.epoch v q refl d past refl h fact) (none_asked None refl)
 
   takes_asked : (links : Links) (p : Packet) (v : SiteView) → Past c trace → SiteFact c p.to trace v → PacketFact c trace p → WritesAsked c trace (step c p.to links v (Receives p)).written
@@ -156,7 +168,7 @@ module _ (c : Config) (trace : List Line) where
 
   pub step_asked : (me : ℕ) (links : Links) (v : SiteView) (e : Event) → Past c trace → SiteFact c me trace v → EventFact c trace me v e → WritesAsked c trace (step c me links v e).written
   step_asked me links v (Calls process words) past h fact = still_asked me links (takes_call c me process words v) (on_call_talks (call_frame c me v.boot v.epoch) (epoch_id v.epoch) process words v.users).1
-  step_asked me links v (Receives p) past h fact = subst (λ (s : ℕ). SiteFact c s trace v → WritesAsked c trace (step c s links v (Receives p)).written) fact.0 (λ g. takes_asked links p v past g fact.1) h
+  step_asked me links v (Receives p) past h fact = subst (λ (s : ℕ). SiteFact c s trace v → WritesAsked c trace (step c s links v (Receives p)).written) fact.0 (λ g. takes_asked links p v past g fact.1.fact) h
   step_asked me links v Ticks past h fact = first_asked (adopts_in c me v).written (ends_event c me links (adopts_in c me v).view).written (of_adopted me v.epoch v) (none_asked _ (ends_keeps c me links (adopts_in c me v).view).none)
   step_asked me links v Parts past h fact = still_asked me links (starts_part me links v) (part_none me links v.epoch v)
   step_asked me links v Merges past h fact = still_asked me links (starts_merge me links v) (begins_none me links (v.promised.number + 1) (boots_where (merge_boot me links)) v)

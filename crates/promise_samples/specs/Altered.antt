@@ -76,7 +76,7 @@ with_long_content p = record p { epochs = map (λ (t : Epoch). record t { opened
 abbrev is_cut_closing : ℕ → Bool
 is_cut_closing calls = cuts false
     (record { armed = record { calls = calls; leaves = Some leave.New; used = 0 } ∷ []; halves = false; slots = false })
-    (underway (config_of stop_inside_a_write.lines) (Event (line.Settle 1000)) (with_long_content (past_of (config_of stop_inside_a_write.lines) (take 31 stop_inside_a_write.trace))) 1)
+    (underway [] (config_of stop_inside_a_write.lines) (Event (line.Settle 1000)) (with_long_content (past_of (config_of stop_inside_a_write.lines) (take 31 stop_inside_a_write.trace))) 1)
 
 -- the last call before the gate is cut, so that no version stays
 abbrev pub CutBeforeTheGate : Type 0

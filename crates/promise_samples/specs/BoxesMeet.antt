@@ -138,9 +138,9 @@ boxes_meet_trace =
     at 29 (Act (epoch 3 1 1) (inst 2 1) 2 (op.Remove (codes "m1.1.2") 3) outcome.Done) ∷
     at 29 (Commit (file 0 2) 2 (stamp 2 1) ((stamp 1 3) ∷ []) (6 ∷ 109 ∷ 49 ∷ 46 ∷ 49 ∷ 46 ∷ 50 ∷ 0 ∷ 3 ∷ 1 ∷ 0 ∷ 0 ∷ 0 ∷ 2 ∷ 0 ∷ 0 ∷ 0 ∷ 1 ∷ 0 ∷ 0 ∷ 0 ∷ 0 ∷ 0 ∷ 0 ∷ 0 ∷ 0 ∷ 0 ∷ 0 ∷ 0 ∷ 0 ∷ 0 ∷ 0 ∷ 0 ∷ 0 ∷ 0 ∷ 0 ∷ 0 ∷ 0 ∷ 0 ∷ 0 ∷ 0 ∷ 0 ∷ 0 ∷ 0 ∷ 0 ∷ 0 ∷ 0 ∷ 0 ∷ 0 ∷ 0 ∷ 0 ∷ 0 ∷ 0 ∷ 0 ∷ 0 ∷ 0 ∷ 0 ∷ 0 ∷ 0 ∷ 0 ∷ 0 ∷ 0 ∷ 0 ∷ 0 ∷ 0 ∷ 0 ∷ 0 ∷ 0 ∷ 0 ∷ 0 ∷ 0 ∷ 0 ∷ 0 ∷ 0 ∷ 0 ∷ 0 ∷ 0 ∷ 0 ∷ 6 ∷ 109 ∷ 51 ∷ 46 ∷ 49 ∷ 46 ∷ 49 ∷ 0 ∷ 129 ∷ 1 ∷ 0 ∷ 0 ∷ 0 ∷ 1 ∷ [])) ∷
     at 29 (Release (epoch 3 1 1) (inst 2 1) (file 0 2) (Some (stamp 2 1))) ∷
+    at 29 (Release (epoch 3 1 1) (inst 2 2) (file 0 3) None) ∷
     at 29 (Adopt (file 0 2) 1 (stamp 2 1)) ∷
     at 29 (Adopt (file 0 2) 3 (stamp 2 1)) ∷
-    at 29 (Release (epoch 3 1 1) (inst 2 2) (file 0 3) None) ∷
     at 29 (Answer 2 1 (caller 2 1 2) reply.Done) ∷
     at 30 (Accept 1 1 (caller 1 1 4) (call.Mails (codes "/box"))) ∷
     at 31 (Look (epoch 3 1 1) (caller 1 1 4) 1 (file 0 1) (what.Name (codes "box")) (served.At (stamp 1 1))) ∷

@@ -1,4 +1,4 @@
--- Two calm rounds, of which one stands directly behind the other, leave the only kept version of a file with each member of its set.
+-- Three calm rounds leave the only kept version of a file with each member of its set, where nobody has it open from the first to the third.
 use Rattle.std.specs.Prelude.{List, [], ◌∷◌, None, Some, codes}
 use Rattle.locus_ids.specs.declared.ids.Kind.TheVariants as kind
 use Rattle.locus_ids.specs.declared.ids.Mode.TheVariants as mode
@@ -31,9 +31,9 @@ copies_converge_lines =
     Event (line.Call 2 1 (call.Open (codes "/f") how.Read)) ∷
     Event (line.Settle 1000) ∷
     Event (line.Call 2 1 (call.Close 0)) ∷
-    Event (line.Deliver 50) ∷
-    Event (line.Deliver 51) ∷
-    Event (line.Lose 52) ∷
+    Event (line.Deliver 52) ∷
+    Event (line.Deliver 53) ∷
+    Event (line.Lose 54) ∷
     Passed ∷
     Event (line.Down 1 2) ∷
     Event (line.Call 1 1 (call.Open (codes "/f") how.Write)) ∷
@@ -48,6 +48,8 @@ copies_converge_lines =
     Passed ∷
     Event (line.Settle 1000) ∷
     Passed ∷
+    Event (line.Call 2 1 (call.MakeDir (codes "/d"))) ∷
+    Event (line.Settle 1000) ∷
     Event (line.Settle 1000) ∷
     []
 
@@ -89,7 +91,19 @@ copies_converge_trace =
     at 24 (Release (epoch 1 1 1) (inst 1 3) (file 0 2) (Some (stamp 1 2))) ∷
     at 24 (Answer 1 1 (caller 1 1 5) (reply.Closed (Some (stamp 1 2)))) ∷
     at 27 (Answer 2 1 (caller 2 1 2) (reply.Closed None)) ∷
-    at 29 (Adopt (file 0 2) 2 (stamp 1 2)) ∷
+    at 27 (Adopt (file 0 2) 2 (stamp 1 2)) ∷
+    at 29 (Accept 2 1 (caller 2 1 3) (call.MakeDir (codes "/d"))) ∷
+    at 30 (Grant (epoch 1 1 1) (caller 2 1 3) 1 (inst 2 2) mode.Write (file 0 1) (Some (stamp 1 1)) 2) ∷
+    at 30 (Act (epoch 1 1 1) (inst 2 2) 1 (op.Probe (codes "d")) outcome.Done) ∷
+    at 30 (Grant (epoch 1 1 1) (caller 2 1 3) 3 (inst 2 3) mode.Make (file 0 65) None 2) ∷
+    at 30 (Commit (file 0 65) 2 (stamp 2 1) [] []) ∷
+    at 30 (Release (epoch 1 1 1) (inst 2 3) (file 0 65) (Some (stamp 2 1))) ∷
+    at 30 (Adopt (file 0 65) 1 (stamp 2 1)) ∷
+    at 30 (Act (epoch 1 1 1) (inst 2 2) 2 (op.Insert (codes "d") 65 kind.Dir) outcome.Done) ∷
+    at 30 (Commit (file 0 1) 2 (stamp 2 1) ((stamp 1 1) ∷ []) (1 ∷ 100 ∷ 0 ∷ 65 ∷ 2 ∷ 0 ∷ 0 ∷ 0 ∷ 1 ∷ 1 ∷ 102 ∷ 0 ∷ 2 ∷ 1 ∷ 0 ∷ 0 ∷ 0 ∷ 1 ∷ [])) ∷
+    at 30 (Release (epoch 1 1 1) (inst 2 2) (file 0 1) (Some (stamp 2 1))) ∷
+    at 30 (Answer 2 1 (caller 2 1 3) (reply.Made 65)) ∷
+    at 30 (Adopt (file 0 1) 1 (stamp 2 1)) ∷
     []
 
 abbrev pub copies_converge : Example

@@ -104,8 +104,8 @@ directories_rest_trace =
     at 19 (Act (epoch 2 1 1) (inst 2 1) 2 (op.Remove (codes "a") 2) outcome.Done) ∷
     at 19 (Commit (file 0 1) 2 (stamp 2 1) ((stamp 1 1) ∷ []) (1 ∷ 97 ∷ 0 ∷ 2 ∷ 1 ∷ 0 ∷ 0 ∷ 0 ∷ 2 ∷ 0 ∷ 0 ∷ 0 ∷ 1 ∷ 0 ∷ 0 ∷ 0 ∷ 0 ∷ 0 ∷ 0 ∷ 0 ∷ 0 ∷ 0 ∷ 0 ∷ 0 ∷ 0 ∷ 0 ∷ 0 ∷ 0 ∷ 0 ∷ 0 ∷ 0 ∷ 0 ∷ 0 ∷ 0 ∷ 0 ∷ 0 ∷ 0 ∷ 0 ∷ 0 ∷ 0 ∷ 0 ∷ 0 ∷ 0 ∷ 0 ∷ 0 ∷ 0 ∷ 0 ∷ 0 ∷ 0 ∷ 0 ∷ 0 ∷ 0 ∷ 0 ∷ 0 ∷ 0 ∷ 0 ∷ 0 ∷ 0 ∷ 0 ∷ 0 ∷ 0 ∷ 0 ∷ 0 ∷ 0 ∷ 0 ∷ 0 ∷ 0 ∷ 0 ∷ 0 ∷ 0 ∷ 0 ∷ 0 ∷ 0 ∷ [])) ∷
     at 19 (Release (epoch 2 1 1) (inst 2 1) (file 0 1) (Some (stamp 2 1))) ∷
-    at 19 (Adopt (file 0 1) 1 (stamp 2 1)) ∷
     at 19 (Release (epoch 2 1 1) (inst 2 2) (file 0 2) None) ∷
+    at 19 (Adopt (file 0 1) 1 (stamp 2 1)) ∷
     at 19 (Answer 2 1 (caller 2 1 1) reply.Done) ∷
     at 20 (Accept 2 1 (caller 2 1 2) (call.Create (codes "/b") None)) ∷
     at 21 (Grant (epoch 2 1 1) (caller 2 1 2) 1 (inst 2 3) mode.Write (file 0 1) (Some (stamp 2 1)) 2) ∷
@@ -152,9 +152,9 @@ directories_rest_trace =
     at 36 (Adopt (file 0 129) 1 (stamp 3 1)) ∷
     at 36 (Adopt (file 0 129) 2 (stamp 3 1)) ∷
     at 36 (Adopt (file 0 65) 3 (stamp 2 1)) ∷
+    at 36 (Look (epoch 3 1 1) (caller 1 1 3) 2 (file 0 1) (what.Whole (stamp 2 2)) (served.At (stamp 2 2))) ∷
     at 36 (Adopt (file 0 2) 1 (stamp 3 1)) ∷
     at 36 (Adopt (file 0 2) 2 (stamp 3 1)) ∷
-    at 36 (Look (epoch 3 1 1) (caller 1 1 3) 2 (file 0 1) (what.Whole (stamp 2 2)) (served.At (stamp 2 2))) ∷
     at 36 (Look (epoch 3 1 1) (caller 1 1 3) 3 (file 0 1) (what.Whole (stamp 3 1)) (served.At (stamp 3 1))) ∷
     at 36 (Act (epoch 3 1 1) (inst 1 4) 1 op.Mend outcome.Done) ∷
     at 36 (Commit (file 0 1) 1 (stamp 1 2) ((stamp 2 2) ∷ (stamp 3 1) ∷ []) (1 ∷ 97 ∷ 0 ∷ 2 ∷ 1 ∷ 0 ∷ 0 ∷ 0 ∷ 3 ∷ 1 ∷ 98 ∷ 0 ∷ 65 ∷ 1 ∷ 0 ∷ 0 ∷ 0 ∷ 1 ∷ 1 ∷ 99 ∷ 0 ∷ 129 ∷ 1 ∷ 0 ∷ 0 ∷ 0 ∷ 1 ∷ [])) ∷

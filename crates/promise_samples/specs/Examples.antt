@@ -9,7 +9,7 @@ use Rattle.lawful_trace.specs.Samples.{Sample}
 use Rattle.promises.specs.Past.{Past, nothing_yet}
 use Rattle.promises.specs.Rows.{may_follow}
 use Rattle.promises.specs.Traces.{first_wrong, each}
-use Rattle.promises.specs.Lines.{IsAskedFor}
+use Rattle.promises.specs.Lines.{IsAskedBy, IsAskedFor}
 use Rattle.promises.specs.Beside.{commits_when_asked, comes_promptly, refusals_change_nothing}
 use Rattle.promises.specs.Headline.{Headline, always, has_whole_files, serves_whole_files, keeps_acknowledged, loses_nothing, flags_rightly}
 
@@ -66,9 +66,9 @@ with_line n l x = record x { lines = take (n - 1) x.lines ++ l ∷ drop n x.line
 abbrev pub IsNotAsked : Example → Type 0
 IsNotAsked x = IsAskedFor (config_of x.lines) x.lines x.trace → ⊥
 
--- the lines ask for the trace
+-- the lines ask for the trace, whatever adoptions wrote: no disk is armed where one writes
 abbrev pub IsAsked : Example → Type 0
-IsAsked x = IsAskedFor (config_of x.lines) x.lines x.trace
+IsAsked x = IsAskedBy (λ k. []) (config_of x.lines) x.lines x.trace
 
 -- no refused call changes a named file
 abbrev pub ChangesNothingRefused : Example → Type 0

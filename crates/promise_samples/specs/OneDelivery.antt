@@ -32,11 +32,11 @@ one_delivery_lines =
     Event (line.Call 3 1 (call.Open (codes "/a") how.Read)) ∷
     Event line.Pending ∷
     Passed ∷
-    Event (line.Deliver 54) ∷
+    Event (line.Deliver 58) ∷
     Event line.Pending ∷
-    Event (line.Deliver 55) ∷
+    Event (line.Deliver 59) ∷
     Event line.Pending ∷
-    Event (line.Deliver 56) ∷
+    Event (line.Deliver 60) ∷
     Event line.Pending ∷
     Passed ∷
     Event (line.Settle 1000) ∷
@@ -63,11 +63,11 @@ one_delivery_trace =
     at 7 (Adopt (file 0 1) 2 (stamp 1 1)) ∷
     at 7 (Adopt (file 0 1) 3 (stamp 1 1)) ∷
     at 9 (Accept 3 1 (caller 3 1 1) (call.Open (codes "/a") how.Read)) ∷
-    at 10 (Packet 54 3 1 packet.Look) ∷
+    at 10 (Packet 58 3 1 packet.Look) ∷
     at 12 (Look (epoch 1 1 1) (caller 3 1 1) 1 (file 0 1) (what.Name (codes "a")) (served.At (stamp 1 1))) ∷
-    at 13 (Packet 55 1 3 packet.LookSs) ∷
-    at 15 (Packet 56 3 3 packet.LookDone) ∷
-    at 17 (Packet 57 3 1 packet.Open) ∷
+    at 13 (Packet 59 1 3 packet.LookSs) ∷
+    at 15 (Packet 60 3 3 packet.LookDone) ∷
+    at 17 (Packet 61 3 1 packet.Open) ∷
     at 19 (Grant (epoch 1 1 1) (caller 3 1 1) 2 (inst 3 1) mode.Read (file 0 2) (Some (stamp 1 1)) 3) ∷
     at 19 (Answer 3 1 (caller 3 1 1) (reply.Opened 0)) ∷
     []

@@ -92,8 +92,8 @@ removed_and_changed_trace =
     at 15 (Act (epoch 2 1 1) (inst 1 3) 2 (op.Remove (codes "f") 2) outcome.Done) ∷
     at 15 (Commit (file 0 1) 1 (stamp 1 2) ((stamp 1 1) ∷ []) (1 ∷ 102 ∷ 0 ∷ 2 ∷ 1 ∷ 0 ∷ 0 ∷ 0 ∷ 2 ∷ 0 ∷ 0 ∷ 0 ∷ 1 ∷ 0 ∷ 0 ∷ 0 ∷ 0 ∷ 0 ∷ 0 ∷ 0 ∷ 0 ∷ 0 ∷ 0 ∷ 0 ∷ 0 ∷ 0 ∷ 0 ∷ 0 ∷ 0 ∷ 0 ∷ 0 ∷ 0 ∷ 0 ∷ 0 ∷ 0 ∷ 0 ∷ 0 ∷ 0 ∷ 0 ∷ 0 ∷ 0 ∷ 0 ∷ 0 ∷ 0 ∷ 0 ∷ 0 ∷ 0 ∷ 0 ∷ 0 ∷ 0 ∷ 0 ∷ 0 ∷ 0 ∷ 0 ∷ 0 ∷ 0 ∷ 0 ∷ 0 ∷ 0 ∷ 0 ∷ 0 ∷ 0 ∷ 0 ∷ 0 ∷ 0 ∷ 0 ∷ 0 ∷ 0 ∷ 0 ∷ 0 ∷ 0 ∷ 0 ∷ 0 ∷ [])) ∷
     at 15 (Release (epoch 2 1 1) (inst 1 3) (file 0 1) (Some (stamp 1 2))) ∷
-    at 15 (Adopt (file 0 1) 2 (stamp 1 2)) ∷
     at 15 (Release (epoch 2 1 1) (inst 1 4) (file 0 2) None) ∷
+    at 15 (Adopt (file 0 1) 2 (stamp 1 2)) ∷
     at 15 (Answer 1 1 (caller 1 1 2) reply.Done) ∷
     at 16 (Accept 1 1 (caller 1 1 3) (call.List (codes "/"))) ∷
     at 17 (Look (epoch 2 1 1) (caller 1 1 3) 1 (file 0 1) what.List (served.At (stamp 1 2))) ∷
@@ -118,10 +118,10 @@ removed_and_changed_trace =
     at 29 (Start (epoch 3 1 1) 0 (brought 1 (stamp 1 1) ∷ brought 1 (stamp 1 2) ∷ brought 2 (stamp 1 1) ∷ brought 2 (stamp 3 1) ∷ [])) ∷
     at 29 (Accept 1 0 (caller 1 1 4) (call.Mend (file 0 1))) ∷
     at 29 (Grant (epoch 3 1 1) (caller 1 1 4) 1 (inst 1 5) mode.Mend (file 0 1) (Some (stamp 1 2)) 1) ∷
+    at 29 (Look (epoch 3 1 1) (caller 1 1 4) 2 (file 0 1) (what.Whole (stamp 1 2)) (served.At (stamp 1 2))) ∷
     at 29 (Adopt (file 0 2) 1 (stamp 3 1)) ∷
     at 29 (Adopt (file 0 2) 2 (stamp 3 1)) ∷
     at 29 (Adopt (file 0 1) 3 (stamp 1 2)) ∷
-    at 29 (Look (epoch 3 1 1) (caller 1 1 4) 2 (file 0 1) (what.Whole (stamp 1 2)) (served.At (stamp 1 2))) ∷
     at 29 (Act (epoch 3 1 1) (inst 1 5) 1 op.Mend outcome.Done) ∷
     at 29 (Commit (file 0 1) 1 (stamp 1 3) ((stamp 1 2) ∷ []) (1 ∷ 102 ∷ 0 ∷ 2 ∷ 1 ∷ 0 ∷ 0 ∷ 0 ∷ 3 ∷ [])) ∷
     at 29 (Release (epoch 3 1 1) (inst 1 5) (file 0 1) (Some (stamp 1 3))) ∷

@@ -1,5 +1,5 @@
 -- What calm rounds leave of copies and directories: of the lines of a schedule, and of the records of its trace.
-use Rattle.std.specs.Prelude.{ℕ, ◌≡◌, ◌<◌, ◌⊎◌, nat_le, true, false, List, [], ◌∷◌, length, Some}
+use Rattle.std.specs.Prelude.{ℕ, ◌≡◌, ◌<◌, ◌≤◌, ◌⊎◌, nat_le, true, false, List, [], ◌∷◌, length, Some}
 use Rattle.locus_ids.specs.Sites.{has}
 use Rattle.locus_ids.specs.declared.config.Config.{Config}
 use Rattle.locus_ids.specs.declared.ids.EpochId.{EpochId}
@@ -25,22 +25,23 @@ use Rattle.locus_ids.specs.declared.ids.Kind.TheVariants.{Dir}
 use Rattle.lawful_trace.specs.of_tree_model.Mending.{wants_rescue_in}
 use Rattle.lawful_trace.specs.CallRows.{has_lost_mend}
 
--- at no moment of the line, its start and end among them, has anybody the file open in the epoch
-abbrev pub IsUndisturbed : Config → Trace → ℕ → EpochId → FileId → Type 0
-IsUndisturbed c trace n e f = (now : Trace) → IsMoment trace n now → openers (tree_of c e f.group now) f ≡ []
+-- at no moment from the start of one line to the end of another, of the lines between them neither, has anybody the file open in the
+-- epoch
+abbrev pub IsUndisturbed : Config → Trace → ℕ → ℕ → EpochId → FileId → Type 0
+IsUndisturbed c trace first last e f = (n : ℕ) (now : Trace) → first ≤ n → n ≤ last → IsMoment trace n now → openers (tree_of c e f.group now) f ≡ []
 
--- Two calm rounds of an epoch. The second stands directly after the first: between them are only comments and empty lines.
-pub record AreCalmRounds (lines : List ScheduleLine) (trace : Trace) (n m : ℕ) (e : EpochId) (members : Members) : Type 0 where
-  pub first : IsCalmRound lines trace n e members
-  pub second : IsCalmRound lines trace m e members
-  pub order : n < m
-  pub directly : (j : ℕ) → n < j → j < m → line_at lines j ≡ Passed
+-- three calm rounds of an epoch, with any lines between them
+pub record AreCalmRounds (lines : List ScheduleLine) (trace : Trace) (o n m : ℕ) (e : EpochId) (members : Members) : Type 0 where
+  pub first : IsCalmRound lines trace o e members
+  pub second : IsCalmRound lines trace n e members
+  pub third : IsCalmRound lines trace m e members
+  pub early : o < n
+  pub late : n < m
 
--- a file that is undisturbed in both, and has one kept version at their end
-pub record IsAtRest (c : Config) (lines : List ScheduleLine) (trace : Trace) (n m : ℕ) (e : EpochId) (members : Members) (f : FileId) (stamp : Stamp) : Type 0 where
-  pub rounds : AreCalmRounds lines trace n m e members
-  pub in_first : IsUndisturbed c trace n e f
-  pub in_second : IsUndisturbed c trace m e f
+-- a file that is undisturbed from the start of the first to the end of the third, and has one kept version then
+pub record IsAtRest (c : Config) (lines : List ScheduleLine) (trace : Trace) (o n m : ℕ) (e : EpochId) (members : Members) (f : FileId) (stamp : Stamp) : Type 0 where
+  pub rounds : AreCalmRounds lines trace o n m e members
+  pub undisturbed : IsUndisturbed c trace o m e f
   pub kept : kept_in c (through_line trace m) e f ≡ stamp ∷ []
 
 -- at some moment of the line the site had fewer free pages than the version has pages
@@ -48,12 +49,19 @@ abbrev pub LackedRoom : Config → Trace → ℕ → EpochId → ℕ → FileId 
 LackedRoom c trace m e s f stamp = (now : Trace) × IsMoment trace m now × (nat_le (pages_of (length (content_of (history c (through_line trace m)) f stamp))) (free_pages (history c now) (tree_of c e f.group now) s) ≡ false)
 
 -- Each member with a pack of the group that is in the file's set has the version by the end, as the records tell (its disk has what they
--- tell), or lacked room for it at some moment of the second.
+-- tell), or lacked room for it at some moment of the third.
 abbrev pub CopiesConverge : List ScheduleLine → Trace → Type 0
-CopiesConverge lines trace = (n m : ℕ) (e : EpochId) (members : Members) (f : FileId) (stamp : Stamp) → IsAtRest (config_of lines) lines trace n m e members f stamp → (s : ℕ) → is_member members s ≡ true → has_pack (config_of lines) f.group s ≡ true →
+CopiesConverge lines trace = (o n m : ℕ) (e : EpochId) (members : Members) (f : FileId) (stamp : Stamp) → IsAtRest (config_of lines) lines trace o n m e members f stamp → (s : ℕ) → is_member members s ≡ true → has_pack (config_of lines) f.group s ≡ true →
     has (set_of_file (config_of lines) (through_line trace m) f) s ≡ true → (held (config_of lines) (through_line trace m) s f ≡ Some stamp) ⊎ LackedRoom (config_of lines) trace m e s f stamp
 
 -- Directories.
+
+-- Two calm rounds of an epoch. The second stands directly after the first: between them are only comments and empty lines.
+pub record AreDirectRounds (lines : List ScheduleLine) (trace : Trace) (n m : ℕ) (e : EpochId) (members : Members) : Type 0 where
+  pub first : IsCalmRound lines trace n e members
+  pub second : IsCalmRound lines trace m e members
+  pub order : n < m
+  pub directly : (j : ℕ) → n < j → j < m → line_at lines j ≡ Passed
 
 -- After a calm round no directory of a group that has a member with a pack of it is flagged, but one whose mend was refused in the epoch:
 -- its content or a counter would be too great, or there was no room.
@@ -76,18 +84,18 @@ MayWant c trace m e css f stamp = (has_lost_mend (through_line trace m) e f ≡ 
 -- After two calm rounds of an epoch of which one stands directly after the other, no directory that nobody has open in them wants a rescue,
 -- but one that may.
 abbrev pub UndisturbedWantNoRescue : List ScheduleLine → Trace → Type 0
-UndisturbedWantNoRescue lines trace = (n m : ℕ) (e : EpochId) (members : Members) (css : ℕ) (f : FileId) (stamp : Stamp) → IsAtRest (config_of lines) lines trace n m e members f stamp → WantsRescue (config_of lines) (through_line trace m) e members css f stamp →
+UndisturbedWantNoRescue lines trace = (n m : ℕ) (e : EpochId) (members : Members) (css : ℕ) (f : FileId) (stamp : Stamp) → AreDirectRounds lines trace n m e members → IsUndisturbed (config_of lines) trace n m e f → WantsRescue (config_of lines) (through_line trace m) e members css f stamp →
     MayWant (config_of lines) trace m e css f stamp
 
 -- After three that stand directly one after another no directory at all does, but one that may.
 abbrev pub NoRescueIsWanted : List ScheduleLine → Trace → Type 0
-NoRescueIsWanted lines trace = (o n m : ℕ) (e : EpochId) (members : Members) (css : ℕ) (f : FileId) (stamp : Stamp) → AreCalmRounds lines trace o n e members → AreCalmRounds lines trace n m e members → WantsRescue (config_of lines) (through_line trace m) e members css f stamp →
+NoRescueIsWanted lines trace = (o n m : ℕ) (e : EpochId) (members : Members) (css : ℕ) (f : FileId) (stamp : Stamp) → AreDirectRounds lines trace o n e members → AreDirectRounds lines trace n m e members → WantsRescue (config_of lines) (through_line trace m) e members css f stamp →
     MayWant (config_of lines) trace m e css f stamp
 
 -- What calm rounds leave, in a run that passes no limit.
 pub record Convergence (lines : List ScheduleLine) (trace : Trace) : Type 0 where
-  -- after two, of which one stands directly behind the other, in which nobody has an unflagged file open, each member of its set with a
-  -- pack has the only kept version, or lacked room for it
+  -- after three, with any lines between them, in which nobody has an unflagged file open, each member of its set with a pack has the only
+  -- kept version, or lacked room for it
   pub alike : CopiesConverge lines trace
   -- after one no directory is flagged but one whose mend was refused
   pub mended : NoDirectoryIsFlagged lines trace

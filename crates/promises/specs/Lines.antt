@@ -68,18 +68,18 @@ has_no_effect earlier p _ = Some false
 -- The line with this number asks for the record. Only boots, stops, leaves, joins, the calls of users, listed packets and the end of a
 -- round by its budget hang on lines so; the steps of calls, mends, starts, versions and replies may stand at any event
 -- line that isn't void.
-abbrev pub IsAsked : Config → List ScheduleLine → List Entry → ℕ → Record → Type 0
-IsAsked c lines before n (rec.Up site boot) = line_at lines n ≡ Event (line.Boot site)
-IsAsked c lines before n (rec.Stopped site cause.Asked) = line_at lines n ≡ Event (line.Stop site)
-IsAsked c lines before n (rec.Stopped site cause.Fuse) = IsCut c lines before n site false
-IsAsked c lines before n (rec.Stopped site cause.Fault) = IsCut c lines before n site true
-IsAsked c lines before n (rec.Leave site e) = makes_leave (line_at lines n) site || was_polled c lines before n site ≡ true
-IsAsked c lines before n (rec.Join site e members) = is_founded c lines before n e ≡ true
-IsAsked c lines before n (rec.Accept site process id (call.Mend f)) = Unit {0}
-IsAsked c lines before n (rec.Accept site process id words) = line_at lines n ≡ Event (line.Call site process words)
-IsAsked c lines before n (rec.Packet number from to kind) = line_at lines n ≡ Event line.Pending
-IsAsked c lines before n rec.Budget = (most : ℕ) × (line_at lines n ≡ Event (line.Settle most))
-IsAsked c lines before n _ = Unit {0}
+abbrev pub IsAsked : (ℕ → List ℕ) → Config → List ScheduleLine → List Entry → ℕ → Record → Type 0
+IsAsked wrote c lines before n (rec.Up site boot) = line_at lines n ≡ Event (line.Boot site)
+IsAsked wrote c lines before n (rec.Stopped site cause.Asked) = line_at lines n ≡ Event (line.Stop site)
+IsAsked wrote c lines before n (rec.Stopped site cause.Fuse) = IsCut wrote c lines before n site false
+IsAsked wrote c lines before n (rec.Stopped site cause.Fault) = IsCut wrote c lines before n site true
+IsAsked wrote c lines before n (rec.Leave site e) = makes_leave (line_at lines n) site || was_polled c lines before n site ≡ true
+IsAsked wrote c lines before n (rec.Join site e members) = is_founded c lines before n e ≡ true
+IsAsked wrote c lines before n (rec.Accept site process id (call.Mend f)) = Unit {0}
+IsAsked wrote c lines before n (rec.Accept site process id words) = line_at lines n ≡ Event (line.Call site process words)
+IsAsked wrote c lines before n (rec.Packet number from to kind) = line_at lines n ≡ Event line.Pending
+IsAsked wrote c lines before n rec.Budget = (most : ℕ) × (line_at lines n ≡ Event (line.Settle most))
+IsAsked wrote c lines before n _ = Unit {0}
 
 -- how many records of the line pass
 abbrev pub how_many : (Record → Bool) → List Entry → ℕ → ℕ
@@ -100,14 +100,21 @@ ascends least most [] = true
 ascends least most (r ∷ rest) = nat_le least r.line && (nat_le r.line most && ascends r.line most rest)
 
 -- each of these records, which follow those before, is asked for
-abbrev pub EachAsked : Config → List ScheduleLine → List Entry → List Entry → Type 0
-EachAsked c lines before [] = Unit {0}
-EachAsked c lines before (r ∷ rest) = IsAsked c lines before r.line r.what × EachAsked c lines (before ++ r ∷ []) rest
+abbrev pub EachAsked : (ℕ → List ℕ) → Config → List ScheduleLine → List Entry → List Entry → Type 0
+EachAsked wrote c lines before [] = Unit {0}
+EachAsked wrote c lines before (r ∷ rest) = IsAsked wrote c lines before r.line r.what × EachAsked wrote c lines (before ++ r ∷ []) rest
 
--- The lines of the schedule ask for the trace: its records stand in the order of their lines, those that hang on lines each at one
--- that asks for it; each line tells what it must; and a disk that was used for more calls than pass stops its site at once.
-pub record IsAskedFor (c : Config) (lines : List ScheduleLine) (trace : List Entry) : Type 0 where
+-- The lines of the schedule ask for the trace, if adoptions wrote these pages: its records stand in the order of their lines, those that
+-- hang on lines each at one that asks for it; each line tells what it must; and a disk that was used for more calls than pass stops its
+-- site at once.
+pub record IsAskedBy (wrote : ℕ → List ℕ) (c : Config) (lines : List ScheduleLine) (trace : List Entry) : Type 0 where
   pub ascending : ascends 1 (length lines) trace ≡ true
-  pub each : EachAsked c lines [] trace
+  pub each : EachAsked wrote c lines [] trace
   pub told : list_all (λ n. tells (has_no_effect (take (n - 1) lines) (past_at c trace n) (line_at lines n)) (line_at lines n) trace n) (numbers_from 1 (length lines)) ≡ true
-  pub heeded : heeds_stops c lines [] trace ≡ true
+  pub heeded : heeds_stops wrote c lines [] trace ≡ true
+
+-- They do, for some pages that adoptions wrote: the records don't tell them.
+pub record IsAskedFor (c : Config) (lines : List ScheduleLine) (trace : List Entry) : Type 0 where
+  -- what each adoption wrote, by how many records stand before its own, or before that of the stop that cut it off
+  pub wrote : ℕ → List ℕ
+  pub asked : IsAskedBy wrote c lines trace

@@ -6,7 +6,7 @@ use Rattle.locus_ids.specs.declared.config.Config.{Config}
 use Rattle.locus_ids.specs.declared.ids.FileId.{FileId}
 use Rattle.locus_ids.specs.declared.ids.Stamp.{Stamp}
 use Rattle.commit_graph.specs.Versions.{content_of}
-use Rattle.file_content.specs.Pages.{pages_of, pages_from, tables_written}
+use Rattle.file_content.specs.Pages.{has_page, pages_of, pages_from, tables_written}
 use Rattle.trace_book.specs.declared.entry.Entry.{Entry}
 use Rattle.trace_book.specs.declared.record.Record.{Record}
 use Rattle.trace_book.specs.declared.record.Record.TheVariants as rec
@@ -125,26 +125,27 @@ writing_over p site f now pages = record { blocks = length pages + length (table
 abbrev pub writing_by : Past → ℕ → Instance → Writing
 writing_by p site x = writing_over p site x.grant.file (pages_of (length x.work.content)) x.work.changed
 
--- an adoption writes all pages of the version
-abbrev pub writing_of : Past → ℕ → Copy → Writing
-writing_of p site v = writing_over p site v.file (pages_in p v.file (Some v.stamp)) (pages_from 0 (pages_in p v.file (Some v.stamp)))
+-- Which pages an adoption writes isn't told: those of the version that differ from the site's own one, or are thought to. So it may
+-- have written any: those of these pages that the version has.
+abbrev pub writing_of : List ℕ → Past → ℕ → Copy → Writing
+writing_of pages p site v = writing_over p site v.file (pages_in p v.file (Some v.stamp)) (filter (has_page pages) (pages_from 0 (pages_in p v.file (Some v.stamp))))
 
 -- how this record writes a version on the disk of the site, if it tells of one
-abbrev pub writings_in : Past → ℕ → Record → List Writing
-writings_in p site (rec.Commit f s stamp parents content) = map (writing_by p site) (filter (λ x. s == site) (writers_of p f s))
-writings_in p site (rec.Adopt f s stamp) = map (writing_of p site) (filter (λ v. s == site) (record { file = f; stamp = stamp } ∷ []))
-writings_in p site _ = []
+abbrev pub writings_in : List ℕ → Past → ℕ → Record → List Writing
+writings_in pages p site (rec.Commit f s stamp parents content) = map (writing_by p site) (filter (λ x. s == site) (writers_of p f s))
+writings_in pages p site (rec.Adopt f s stamp) = map (writing_of pages p site) (filter (λ v. s == site) (record { file = f; stamp = stamp } ∷ []))
+writings_in pages p site _ = []
 
 -- the versions that the site could be writing in this epoch at such a line: where packets are delivered, commits that are asked for;
 -- there and where a site ticks, versions that it may adopt
-abbrev pub underway_in : Config → ScheduleLine → Past → ℕ → Epoch → List Writing
-underway_in c l p site t =
+abbrev pub underway_in : List ℕ → Config → ScheduleLine → Past → ℕ → Epoch → List Writing
+underway_in pages c l p site t =
     map (writing_by p site) (filter (λ (x : Instance). delivers l && ((x.grant.ss == site) && (x.work.owes && is_commit_asked c p t x))) t.opened)
-    ++ map (writing_of p site) (filter (λ (v : Copy). ticks l && may_adopt p v.file site v.stamp t) t.known)
+    ++ map (writing_of pages p site) (filter (λ (v : Copy). ticks l && may_adopt p v.file site v.stamp t) t.known)
 
 -- in the epoch that it is in
-abbrev pub underway : Config → ScheduleLine → Past → ℕ → List Writing
-underway c l p site = fold (λ ws t. underway_in c l p site t ++ ws) [] (filter (is_home_of p site) p.epochs)
+abbrev pub underway : List ℕ → Config → ScheduleLine → Past → ℕ → List Writing
+underway pages c l p site = fold (λ ws t. underway_in pages c l p site t ++ ws) [] (filter (is_home_of p site) p.epochs)
 
 -- The disk by the records.
 
@@ -164,19 +165,19 @@ stopped false d = fold (λ old (a : Arming). record old {
   slots = are_two_open a.leaves d.slots (a.calls - a.used) (replicate (length (label_calls d)) Plain ++ cond d.slots (switch Closes) []);
 }) (record d { armed = [] }) d.armed
 
-abbrev pub disk_by : Record → Past → ℕ → Disk → Disk
-disk_by (rec.Up s boot) p site d = cond (s == site) (record { armed = map (λ (a : Arming). record a { used = a.used + length (boot_calls d) }) d.armed; halves = false; slots = false }) d
-disk_by (rec.Stopped s why) p site d = cond (s == site) (stopped (site_at p site).up d) d
-disk_by r p site d = fold written d (writings_in p site r)
+abbrev pub disk_by : List ℕ → Record → Past → ℕ → Disk → Disk
+disk_by pages (rec.Up s boot) p site d = cond (s == site) (record { armed = map (λ (a : Arming). record a { used = a.used + length (boot_calls d) }) d.armed; halves = false; slots = false }) d
+disk_by pages (rec.Stopped s why) p site d = cond (s == site) (stopped (site_at p site).up d) d
+disk_by pages r p site d = fold written d (writings_in pages p site r)
 
--- the disk as the line with this number finds it, by the lines and the records from this value on, the last of which was of
--- this line
-abbrev pub disk_from : Config → List ScheduleLine → ℕ → ℕ → Past → ℕ → Disk → List Entry → Disk
-disk_from c lines n site p last d [] = through_lines lines site last n d
-disk_from c lines n site p last d (r ∷ rest) = disk_from c lines n site (after c r.what p) r.line (disk_by r.what p site (through_lines lines site last r.line d)) rest
+-- the disk as the line with this number finds it, by the lines and the records from this value on: so many stand before it, the last of
+-- which was of this line
+abbrev pub disk_from : (ℕ → List ℕ) → Config → List ScheduleLine → ℕ → ℕ → ℕ → Past → ℕ → Disk → List Entry → Disk
+disk_from wrote c lines n site k p last d [] = through_lines lines site last n d
+disk_from wrote c lines n site k p last d (r ∷ rest) = disk_from wrote c lines n site (suc k) (after c r.what p) r.line (disk_by (wrote k) r.what p site (through_lines lines site last r.line d)) rest
 
-abbrev pub disk_at : Config → List ScheduleLine → ℕ → ℕ → List Entry → Disk
-disk_at c lines n site before = disk_from c lines n site (nothing_yet c) 0 (record { armed = []; halves = false; slots = false }) before
+abbrev pub disk_at : (ℕ → List ℕ) → Config → List ScheduleLine → ℕ → ℕ → List Entry → Disk
+disk_at wrote c lines n site before = disk_from wrote c lines n site 0 (nothing_yet c) 0 (record { armed = []; halves = false; slots = false }) before
 
 -- The cut.
 
@@ -193,17 +194,17 @@ at_last passes before (r ∷ s ∷ rest) = at_last passes (before ++ r ∷ []) (
 
 -- the cut call is one of a version underway that doesn't stay, or of the version that the last record of this line tells of, or of
 -- a boot
-abbrev pub is_exact : Config → List ScheduleLine → List Entry → ℕ → ℕ → (up : Bool) → Bool
-is_exact c lines before n site true =
-    cuts false (disk_at c lines n site before) (underway c (line_at lines n) (past_of c before) site)
-    || at_last (λ earlier last. (last.line == n) && cuts true (disk_at c lines n site earlier) (writings_in (past_of c earlier) site last.what)) [] before
-is_exact c lines before n site false = boots (line_at lines n) site && list_any (is_cut_in (boot_calls (disk_at c lines n site before))) (disk_at c lines n site before).armed
+abbrev pub is_exact : (ℕ → List ℕ) → Config → List ScheduleLine → List Entry → ℕ → ℕ → (up : Bool) → Bool
+is_exact wrote c lines before n site true =
+    cuts false (disk_at wrote c lines n site before) (underway (wrote (length before)) c (line_at lines n) (past_of c before) site)
+    || at_last (λ earlier last. (last.line == n) && cuts true (disk_at wrote c lines n site earlier) (writings_in (wrote (length earlier)) (past_of c earlier) site last.what)) [] before
+is_exact wrote c lines before n site false = boots (line_at lines n) site && list_any (is_cut_in (boot_calls (disk_at wrote c lines n site before))) (disk_at wrote c lines n site before).armed
 
 -- A site that runs, or boots, is stopped within a disk call at this line: by a fault or a stop, as its disk is armed, at
 -- exactly the call after the last that passes, and with what that leaves.
-pub record IsCut (c : Config) (lines : List ScheduleLine) (before : List Entry) (n site : ℕ) (fault : Bool) : Type 0 where
-  pub armed : list_any (λ (a : Arming). is_none a.leaves) (disk_at c lines n site before).armed ≡ fault
-  pub exact : is_exact c lines before n site (site_at (past_of c before) site).up ≡ true
+pub record IsCut (wrote : ℕ → List ℕ) (c : Config) (lines : List ScheduleLine) (before : List Entry) (n site : ℕ) (fault : Bool) : Type 0 where
+  pub armed : list_any (λ (a : Arming). is_none a.leaves) (disk_at wrote c lines n site before).armed ≡ fault
+  pub exact : is_exact wrote c lines before n site (site_at (past_of c before) site).up ≡ true
 
 -- an armed disk was used for more calls than pass
 abbrev pub is_overrun : Disk → Bool
@@ -217,25 +218,31 @@ is_cut_of site _ = false
 
 -- After each of these records, which follow those before, the next one stops each site within a disk call whose disk was used for
 -- more calls than pass.
-abbrev pub heeds_stops : Config → List ScheduleLine → List Entry → List Entry → Bool
-heeds_stops c lines before [] = list_all (λ site. not (is_overrun (disk_at c lines 0 site before))) all_sites
-heeds_stops c lines before (r ∷ rest) = list_all (λ site. not (is_overrun (disk_at c lines 0 site before)) || is_cut_of site r.what) all_sites && heeds_stops c lines (before ++ r ∷ []) rest
+abbrev pub heeds_stops : (ℕ → List ℕ) → Config → List ScheduleLine → List Entry → List Entry → Bool
+heeds_stops wrote c lines before [] = list_all (λ site. not (is_overrun (disk_at wrote c lines 0 site before))) all_sites
+heeds_stops wrote c lines before (r ∷ rest) = list_all (λ site. not (is_overrun (disk_at wrote c lines 0 site before)) || is_cut_of site r.what) all_sites && heeds_stops wrote c lines (before ++ r ∷ []) rest
 
 -- The promise.
 
 -- where the record stops a site within a disk call, that call is cut
-abbrev pub IsCutWhereStopped : Config → List ScheduleLine → List Entry → ℕ → Record → Type 0
-IsCutWhereStopped c lines before n (rec.Stopped site cause.Fuse) = IsCut c lines before n site false
-IsCutWhereStopped c lines before n (rec.Stopped site cause.Fault) = IsCut c lines before n site true
-IsCutWhereStopped c lines before n _ = Unit {0}
+abbrev pub IsCutWhereStopped : (ℕ → List ℕ) → Config → List ScheduleLine → List Entry → ℕ → Record → Type 0
+IsCutWhereStopped wrote c lines before n (rec.Stopped site cause.Fuse) = IsCut wrote c lines before n site false
+IsCutWhereStopped wrote c lines before n (rec.Stopped site cause.Fault) = IsCut wrote c lines before n site true
+IsCutWhereStopped wrote c lines before n _ = Unit {0}
 
 -- so it is with each of these records, which follow those before
-abbrev pub EachIsCut : Config → List ScheduleLine → List Entry → List Entry → Type 0
-EachIsCut c lines before [] = Unit {0}
-EachIsCut c lines before (r ∷ rest) = IsCutWhereStopped c lines before r.line r.what × EachIsCut c lines (before ++ r ∷ []) rest
+abbrev pub EachIsCut : (ℕ → List ℕ) → Config → List ScheduleLine → List Entry → List Entry → Type 0
+EachIsCut wrote c lines before [] = Unit {0}
+EachIsCut wrote c lines before (r ∷ rest) = IsCutWhereStopped wrote c lines before r.line r.what × EachIsCut wrote c lines (before ++ r ∷ []) rest
 
 -- Each site that the trace has stop within a disk call stops exactly where its disk is cut, and no disk is used for more calls than
--- pass without that stop.
+-- pass without that stop, if adoptions wrote these pages.
+pub record StopsBy (wrote : ℕ → List ℕ) (lines : List ScheduleLine) (trace : List Entry) : Type 0 where
+  pub cuts : EachIsCut wrote (config_of lines) lines [] trace
+  pub heeded : heeds_stops wrote (config_of lines) lines [] trace ≡ true
+
+-- So it is for some pages that they wrote: the records don't tell them.
 pub record Stops (lines : List ScheduleLine) (trace : List Entry) : Type 0 where
-  pub cuts : EachIsCut (config_of lines) lines [] trace
-  pub heeded : heeds_stops (config_of lines) lines [] trace ≡ true
+  -- what each adoption wrote, by how many records stand before its own, or before that of the stop that cut it off
+  pub wrote : ℕ → List ℕ
+  pub stops : StopsBy wrote lines trace

@@ -15,7 +15,7 @@ use Rattle.call_rules.specs.Descriptors.{beginning, lowest_free}
 use Rattle.call_rules.specs.Scripts.{wants}
 use Rattle.call_rules.specs.declared.want.Want.TheVariants as want
 use Rattle.role_steps.specs.Requests.{descriptors_of}
-use Rattle.role_steps.specs.Using.{accepted, frees, goes_on, next_want, on_call, reply_record, own_call}
+use Rattle.role_steps.specs.Using.{goes_on, next_want, on_call, counted_users, counted_call, accepted_call, reply_record}
 use Rattle.role_steps.specs.Views.{Frame, Shown, Told, Users}
 use Rattle.role_steps.specs.declared.users.WaitingCall.{WaitingCall}
 use Rattle.the_run.specs.Worlds.{Line}
@@ -97,7 +97,7 @@ module _ (c : Config) (n : ℕ) (t : List Line) (s process : ℕ) (d : CallId) (
 
 module _ (c : Config) (n : ℕ) (t : List Line) (f : Frame) (process : ℕ) (words : Call) (u : Users) (h : IsFollowed c t) (frame : FrameFact c t f) (k : UsersFact c t f.me f.boot u) (low : IsNumbered words) where
   abbrev w : WaitingCall
-  w = accepted process (u.calls + 1) words (beginning (descriptors_of u process) (Some f.epoch) (own_call f.me f.boot (u.calls + 1)) words)
+  w = accepted_call f (Some f.epoch) process words u
 
   abbrev d : CallId
   d = it f w
@@ -106,10 +106,10 @@ module _ (c : Config) (n : ℕ) (t : List Line) (f : Frame) (process : ℕ) (wor
   newer = then c n t f.me process d words
 
   abbrev counted : Users
-  counted = frees process words (record u { calls = u.calls + 1 })
+  counted = counted_call f (Some f.epoch) process words u
 
   abbrev after : Users
-  after = record u { calls = u.calls + 1; descriptors = freed process words u.descriptors }
+  after = record (counted_users f (Some f.epoch) process words u) { descriptors = freed process words u.descriptors }
 
   frame_so : FrameFact c newer f
   frame_so = record { config_is = frame.config_is; inside = frame.inside; members_are = frame.members_are; up = frame.up; boot_is = frame.boot_is; is_member = frame.is_member }
@@ -118,7 +118,7 @@ module _ (c : Config) (n : ℕ) (t : List Line) (f : Frame) (process : ℕ) (wor
   begun_so = caller_begun c n t f.me process d words ∙ ap Some (ap (λ (o : Option EpochId). beginning (descriptor (entries t) f.me process) o d words) frame.inside ∙ sym (begins_same (descriptors_of u process) (descriptor (entries t) f.me process) (λ fd lt. k.descriptors process fd lt) (Some f.epoch) _ words low))
 
   free_so : lowest_free (descriptors_of counted process) ≡ lowest_free (descriptor (entries newer) f.me process)
-  free_so = ap (λ (x : Users). lowest_free (descriptors_of x process)) (frees_is process words (record u { calls = u.calls + 1 })) ∙ free_is (descriptors_of after process) (descriptor (entries newer) f.me process) (λ fd lt. same fd lt)
+  free_so = ap (λ (x : Users). lowest_free (descriptors_of x process)) (frees_is process words (counted_users f (Some f.epoch) process words u)) ∙ free_is (descriptors_of after process) (descriptor (entries newer) f.me process) (λ fd lt. same fd lt)
     where
       same : (fd : ℕ) → fd < descriptor_span → descriptors_of after process fd ≡ descriptor (entries newer) f.me process fd
       same fd lt = freed_same process words u.descriptors low k.ascends process fd lt (descriptor (entries t) f.me process fd) (k.descriptors process fd lt)

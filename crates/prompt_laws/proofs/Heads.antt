@@ -12,15 +12,14 @@ use Rattle.trace_book.specs.declared.reply.Reply.{Reply}
 use Rattle.call_rules.specs.declared.want.Want.{Want}
 use Rattle.call_rules.specs.declared.want.Want.TheVariants as want
 use Rattle.role_steps.specs.Mends.{has_mend_in, row_file, starts_mend, starts_mend_of, starts_mends_in, wants_mend}
-use Rattle.role_steps.specs.Adoption.{adopts_first, adopts_pull, is_above_own, is_ready, without_pull}
+use Rattle.role_steps.specs.Adoption.{adopts_first, adopts_pull, is_ready, without_pull, fits_own}
 use Rattle.role_steps.specs.Epochs.{decides_if, frame_in, passed_over, passes_over, passes_over_of, unanswered}
-use Rattle.role_steps.specs.Requests.{asks_close_of, asks_op_of, descriptors_of, user_instance}
+use Rattle.role_steps.specs.Requests.{asks_close_of, asks_op_of, user_instance}
 use Rattle.role_steps.specs.Storage.{copy_of}
-use Rattle.call_rules.specs.Descriptors.{beginning}
 use Rattle.role_steps.specs.declared.pulls.Pull.{Pull}
 use Rattle.role_steps.specs.declared.rounds.Round.{Round}
 use Rattle.role_steps.specs.Tables.{first_that}
-use Rattle.role_steps.specs.Using.{accepted, asks_want, goes_on, next_want, own_call, reply_record}
+use Rattle.role_steps.specs.Using.{asks_want, goes_on, counted_users, accepted_call, next_want, own_call, reply_record}
 use Rattle.role_steps.specs.Views.{Frame, SiteView, Told, Shown, Users, Outcome, quiet}
 use Rattle.role_steps.specs.declared.synchronizing.FileRow.{FileRow}
 use Rattle.role_steps.specs.declared.synchronizing.SyncTable.{SyncTable}
@@ -124,7 +123,7 @@ goes_mild f w u = over (goes_told f w u)
 
 mend_mild : (f : Frame) (t : SyncTable) (o : Option FileRow) (v : SiteView) → Mild None (starts_mend_of f t o v).told
 mend_mild f t None v = tt
-mend_mild f t (Some r) v = (tt, goes_mild f (accepted 0 (v.users.calls + 1) (call.Mend (row_file t r)) (beginning (descriptors_of v.users 0) (Some f.epoch) (own_call f.me f.boot (v.users.calls + 1)) (call.Mend (row_file t r)))) (record v.users { calls = v.users.calls + 1 }))
+mend_mild f t (Some r) v = (tt, goes_mild f (accepted_call f (Some f.epoch) 0 (call.Mend (row_file t r)) v.users) (counted_users f (Some f.epoch) 0 (call.Mend (row_file t r)) v.users))
 
 mends_mild : (f : Frame) (ts : List SyncTable) (v : SiteView) → Mild None (starts_mends_in f ts v).told
 mends_mild f [] v = tt
@@ -158,8 +157,8 @@ ends_mild c me links v =
 adopts_mild : (f : Frame) (ps : List Pull) (v : SiteView) → Mild None (adopts_first f ps v).told
 adopts_mild f [] v = tt
 adopts_mild f (p ∷ ps) v =
-    elim (is_ready v p) as (λ t. Mild None (elim t as (λ (y : Bool). Outcome SiteView) [ true ↦ elim (is_above_own p (copy_of v.store p.file)) as (λ (y : Bool). Outcome SiteView) [ true ↦ adopts_pull f p v | false ↦ adopts_first f ps (without_pull p v) ] | false ↦ adopts_first f ps v ]).told) [
-      | true ↦ elim (is_above_own p (copy_of v.store p.file)) as (λ t. Mild None (elim t as (λ (y : Bool). Outcome SiteView) [ true ↦ adopts_pull f p v | false ↦ adopts_first f ps (without_pull p v) ]).told) [
+    elim (is_ready v p) as (λ t. Mild None (elim t as (λ (y : Bool). Outcome SiteView) [ true ↦ elim (fits_own p (copy_of v.store p.file)) as (λ (y : Bool). Outcome SiteView) [ true ↦ adopts_pull f p v | false ↦ adopts_first f ps (without_pull p v) ] | false ↦ adopts_first f ps v ]).told) [
+      | true ↦ elim (fits_own p (copy_of v.store p.file)) as (λ t. Mild None (elim t as (λ (y : Bool). Outcome SiteView) [ true ↦ adopts_pull f p v | false ↦ adopts_first f ps (without_pull p v) ]).told) [
         | true ↦ (tt, tt)
         | false ↦ adopts_mild f ps (without_pull p v)
       ]

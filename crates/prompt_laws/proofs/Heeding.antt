@@ -43,12 +43,14 @@ use Rattle.whole_run_laws.proofs.of_rest_laws.StoreStepFirst.{four_groups}
 use Rattle.whole_run_laws.specs.of_one_tree_laws.Rest.{IsRest, more}
 use Rattle.whole_run_laws.specs.of_one_tree_laws.Roles.{RolesDo}
 use Rattle.whole_run_laws.proofs.of_one_tree_laws.Composing.{rest_before}
-use Rattle.whole_run_laws.specs.CutCounts.{CountsAs}
+use Rattle.whole_run_laws.specs.CutCounts.{CountsAs, LeastArmed, is_stopped}
 use Rattle.whole_run_laws.proofs.CutEvents.{Counts}
 use Rattle.whole_run_laws.proofs.CutShaped.{DiskFirst, step_writes_first}
 use Rattle.whole_run_laws.proofs.CutWrites.{has_calls}
 use Rattle.prompt_laws.specs.Stops.{HeedsItsDisk}
-use Rattle.prompt_laws.proofs.Counting.{Counted, counts_kept, first_counted}
+use Rattle.whole_run_laws.proofs.CutCourse.{Counted, counts_kept, first_counted}
+use Rattle.whole_run_laws.proofs.CutDisks.{least_left}
+use Rattle.whole_run_laws.specs.Wrote as exact
 
 -- ---- what was told ----
 
@@ -76,11 +78,21 @@ module _ (c : Config) (lines : List ScheduleLine) where
       one (Shown r) s = ((h.1 (record { line = n; what = r }), h.0), still_owes n r t s)
       one _ s = h
 
-  -- a disk whose calls all passed
-  passed_all : (o : Option Armed) (x : Option Script) (s : ℕ) (r : Record) → CountsAs o x → elim o as (λ (y : Option Armed). Bool) [ None ↦ true | Some a ↦ has_left (Some a) || is_stop_of s r ] ≡ true
-  passed_all None x s r k = refl
-  passed_all (Some a) (Some y) s r k = ap (λ (b : Bool). b || is_stop_of s r) (has_calls (Some a) y k)
-  passed_all (Some a) None s r k = absurd k
+  -- a disk whose calls all passed, as far as they are counted
+  abbrev AllPassed : Option Armed → Type 0
+  AllPassed None = Unit {0}
+  AllPassed (Some a) = has_left (Some a) ≡ true
+
+  counted_passed : (stopped : Bool) (o q : Option Armed) (x : Option Script) → LeastArmed stopped o q → CountsAs q x → AllPassed o
+  counted_passed stopped None None x k h = tt
+  counted_passed stopped (Some a) (Some b) (Some y) k h = least_left stopped (Some a) (Some b) k (has_calls (Some b) y h)
+  counted_passed stopped (Some a) (Some b) None k h = absurd h
+  counted_passed stopped (Some a) None x k h = absurd k
+  counted_passed stopped None (Some b) x k h = absurd k
+
+  passed_all : (o : Option Armed) (s : ℕ) (r : Record) → AllPassed o → elim o as (λ (y : Option Armed). Bool) [ None ↦ true | Some a ↦ has_left (Some a) || is_stop_of s r ] ≡ true
+  passed_all None s r k = refl
+  passed_all (Some a) s r k = ap (λ (b : Bool). b || is_stop_of s r) k
 
   stopped_now : (o : Option Armed) (s : ℕ) (why : StopCause) → elim o as (λ (y : Option Armed). Bool) [ None ↦ true | Some a ↦ has_left (Some a) || is_stop_of s (says.Stopped s why) ] ≡ true
   stopped_now None s why = refl
@@ -90,14 +102,14 @@ module _ (c : Config) (lines : List ScheduleLine) where
       second true b e = refl
       second false b e = e
 
-  version_heeded : (n s : ℕ) (r : Record) (rest : List Told) (t : List Line) (x : Option Script) → VersionOf s r → Every NoDisk rest → Every Still rest → CountsAs (disk_at c lines (shown (told_onto n (Shown r ∷ rest) t)) n s).armed x → Heeded t → Heeded (told_onto n (Shown r ∷ rest) t)
-  version_heeded n s r rest t x own quiet still counts h = still_heeded n rest (more n (Shown r) t) still ((h.1 (record { line = n; what = r }), h.0), owes)
+  version_heeded : (n s : ℕ) (r : Record) (rest : List Told) (t : List Line) → VersionOf s r → Every NoDisk rest → Every Still rest → AllPassed (disk_at c lines (shown (told_onto n (Shown r ∷ rest) t)) n s).armed → Heeded t → Heeded (told_onto n (Shown r ∷ rest) t)
+  version_heeded n s r rest t own quiet still counts h = still_heeded n rest (more n (Shown r) t) still ((h.1 (record { line = n; what = r }), h.0), owes)
     where
-      now : CountsAs (disk_at c lines (record { line = n; what = r } ∷ shown t) n s).armed x
-      now = subst (λ (d : Disk). CountsAs d.armed x) (quiet_onto c lines n s rest (more n (Shown r) t) quiet) counts
+      now : AllPassed (disk_at c lines (record { line = n; what = r } ∷ shown t) n s).armed
+      now = subst (λ (d : Disk). AllPassed d.armed) (quiet_onto c lines n s rest (more n (Shown r) t) quiet) counts
 
       owes : OwesNone (more n (Shown r) t)
-      owes y = subst (λ (o : Option ℕ). is_cut_heeded_by c lines (record { line = n; what = r } ∷ shown t) y o ≡ true) (sym (a_version c s r own).writer) (passed_all (armed_at c lines (record { line = n; what = r } ∷ shown t) n s) x s y.what now)
+      owes y = subst (λ (o : Option ℕ). is_cut_heeded_by c lines (record { line = n; what = r } ∷ shown t) y o ≡ true) (sym (a_version c s r own).writer) (passed_all (armed_at c lines (record { line = n; what = r } ∷ shown t) n s) s y.what now)
 
   cut_heeded : (n s : ℕ) (r : Record) (why : StopCause) (t : List Line) → VersionOf s r → Heeded t → (b : Bool) → Heeded (told_onto n (cond b (Shown r ∷ Shown (says.Stopped s why) ∷ []) (Shown (says.Stopped s why) ∷ [])) t)
   cut_heeded n s r why t own h false = still_heeded n (Shown (says.Stopped s why) ∷ []) t (tt, tt) h
@@ -114,8 +126,8 @@ module _ (c : Config) (lines : List ScheduleLine) where
   lone_heeds : (n : ℕ) (told : List Told) (change : World → World) (w : World) → Every Still told → Heeds w → Heeds (happened n [] told change w)
   lone_heeds n told change w k g = happened_keeps Heeds n [] told change w g (λ l r. g r) (λ a b d r. still_heeded n told w.trace k (g (rest_before c n told w.trace r)))
 
-  does : (n s : ℕ) (e : Event) (v : SiteView) (w : World) → place_at w s ≡ Some (Running v) → Every (SiteTold s (causes_of s (links_of w s) v e)) (step c s (links_of w s) v e).told → Heeds w → Counts c lines n (acts n s v (step c s (links_of w s) v e) w) → Heeds (acts n s v (step c s (links_of w s) v e) w)
-  does n s e v w here told g = acts_cases (λ u. Counts c lines n u → Heeds u) n s v o w
+  does : (n s : ℕ) (e : Event) (v : SiteView) (w : World) → place_at w s ≡ Some (Running v) → Every (SiteTold s (causes_of s (links_of w s) v e)) (step c s (links_of w s) v e).told → Heeds w → (wrote : ℕ → List ℕ) → Counts wrote c lines n (acts n s v (step c s (links_of w s) v e) w) → Heeds (acts n s v (step c s (links_of w s) v e) w)
+  does n s e v w here told g wrote = acts_cases (λ u. Counts wrote c lines n u → Heeds u) n s v o w
       (runs (λ now. puts s (Running o.view) now))
       (λ a. runs (λ now. puts s (Running o.view) (arms a now)))
       (λ d a q k. cut d a q)
@@ -123,16 +135,17 @@ module _ (c : Config) (lines : List ScheduleLine) where
       o : Outcome SiteView
       o = step c s (links_of w s) v e
 
-      by_disk : (xs : List Told) → DiskFirst s xs o.written → Every (SiteTold s (causes_of s (links_of w s) v e)) xs → (x : Option Script) → CountsAs (disk_at c lines (shown (told_onto n xs w.trace)) n s).armed x → Heeded w.trace → Heeded (told_onto n xs w.trace)
-      by_disk xs (inl u) k x counts h = still_heeded n xs w.trace u.1 h
-      by_disk xs (inr (d, wr)) k x counts h =
+      by_disk : (xs : List Told) → DiskFirst s xs o.written → Every (SiteTold s (causes_of s (links_of w s) v e)) xs → AllPassed (disk_at c lines (shown (told_onto n xs w.trace)) n s).armed → Heeded w.trace → Heeded (told_onto n xs w.trace)
+      by_disk xs (inl u) k counts h = still_heeded n xs w.trace u.1 h
+      by_disk xs (inr (d, wr)) k counts h =
           subst (λ (ys : List Told). Heeded (told_onto n ys w.trace)) (sym wr.told_is)
-          (version_heeded n s d.says wr.rest w.trace x (version_of s d.says d.copy wr.says_so) (no_disks s (causes_of s (links_of w s) v e) wr.rest (subst (Every (SiteTold s (causes_of s (links_of w s) v e))) wr.told_is k).1 wr.still) wr.still
-          (subst (λ (ys : List Told). CountsAs (disk_at c lines (shown (told_onto n ys w.trace)) n s).armed x) wr.told_is counts) h)
+          (version_heeded n s d.says wr.rest w.trace (version_of s d.says d.copy wr.says_so) (no_disks s (causes_of s (links_of w s) v e) wr.rest (subst (Every (SiteTold s (causes_of s (links_of w s) v e))) wr.told_is k).1 wr.still) wr.still
+          (subst (λ (ys : List Told). AllPassed (disk_at c lines (shown (told_onto n ys w.trace)) n s).armed) wr.told_is counts) h)
 
-      runs : (change : World → World) → Counts c lines n (happened n o.sent o.told change w) → Heeds (happened n o.sent o.told change w)
-      runs change = happened_keeps (λ u. Counts c lines n u → Heeds u) n o.sent o.told change w (λ k. g) (λ l k r. g r)
-          (λ a b d k r. by_disk o.told (step_writes_first c s (links_of w s) v e) told (script_of (change w) s) ((k r).sites s).calls (g (rest_before c n o.told w.trace r)))
+      runs : (change : World → World) → Counts wrote c lines n (happened n o.sent o.told change w) → Heeds (happened n o.sent o.told change w)
+      runs change = happened_keeps (λ u. Counts wrote c lines n u → Heeds u) n o.sent o.told change w (λ k. g) (λ l k r. g r)
+          (λ a b d k r. by_disk o.told (step_writes_first c s (links_of w s) v e) told
+          (counted_passed (is_stopped (place_at (change w) s)) (disk_at c lines (shown (told_onto n o.told w.trace)) n s).armed (exact.disk_at wrote c lines (shown (told_onto n o.told w.trace)) n s).rest.armed (script_of (change w) s) ((k r).least s).armed ((k r).sites s).calls) (g (rest_before c n o.told w.trace r)))
 
       cut : (d : DiskWrite) (a : Script) → o.written ≡ Some d → Heeds (happened n [] (cut_told s v.store d a.how a.left) (stops_with s (cut_disk v.boot v.store d a.how a.left)) w)
       cut d a q = happened_keeps Heeds n [] (cut_told s v.store d a.how a.left) (stops_with s (cut_disk v.boot v.store d a.how a.left)) w g (λ l r. g r)
@@ -172,8 +185,8 @@ module _ (c : Config) (lines : List ScheduleLine) where
       one : KeptIn c lines (Counted c lines)
       one = counts_kept c lines fit roles
 
-      both : {n : ℕ} {w : World} → Counted c lines n w → (Counts c lines n w → Heeds w) → Both n w
-      both k f = (k, f k.counts)
+      both : {n : ℕ} {w : World} → Counted c lines n w → ((wrote : ℕ → List ℕ) → Counts wrote c lines n w → Heeds w) → Both n w
+      both k f = (k, f k.wrote k.counts)
 
 pub stops_next : (lines : List ScheduleLine) → AreInOrder lines → EachRecord (HeedsItsDisk (config_of lines) lines) (trace_of (run lines))
 stops_next lines order =

@@ -11,10 +11,8 @@ use Rattle.trace_book.specs.declared.call.Call.TheVariants as call
 use Rattle.trace_book.specs.declared.record.Record.{Record}
 use Rattle.trace_book.specs.declared.record.Record.TheVariants as says
 use Rattle.role_steps.specs.Own.{Every}
-use Rattle.call_rules.specs.Descriptors.{beginning}
 use Rattle.call_rules.specs.declared.answer.Answer.{Answer}
-use Rattle.role_steps.specs.Requests.{descriptors_of}
-use Rattle.role_steps.specs.Using.{accepted, changed_records, frees, goes_on, on_call, own_call, takes_answer, with_answer}
+use Rattle.role_steps.specs.Using.{changed_records, goes_on, on_call, counted_call, accepted_call, own_call, takes_answer, with_answer}
 use Rattle.role_steps.specs.Epochs.{frame_in, leaves_of}
 use Rattle.role_steps.specs.Views.{Calls, DiskWrite, Event, Frame, Shown, SiteView, Told, Users}
 use Rattle.role_steps.specs.declared.copies.FileCopy.{FileCopy}
@@ -86,8 +84,8 @@ taken_later f w a u = (tt, goes_later f (with_answer w a) u)
 
 called_line : (f : Frame) (now : Option EpochId) (process : ℕ) (words : Call) (u : Users) (rest : List Told) → Every IsLater rest → OfLine ((on_call f now process words u).told ++ rest)
 called_line f now process words u rest h =
-    let w : WaitingCall = accepted process (u.calls + 1) words (beginning (descriptors_of u process) now (own_call f.me f.boot (u.calls + 1)) words) in
-    let counted : Users = frees process words (record u { calls = u.calls + 1 }) in
+    let w : WaitingCall = accepted_call f now process words u in
+    let counted : Users = counted_call f now process words u in
     (every_append IsLater (goes_on f w counted).told rest (goes_later f w counted) h, λ q. absurd (no_void f.me process (own_call f.me f.boot (u.calls + 1)) words q))
   where
     no_void : (s p : ℕ) (d : CallId) (words : Call) → Shown (says.Accept s p d words) ≡ Shown says.Void → ⊥

@@ -27,7 +27,6 @@ pub mod Standing
 pub mod RunPlaces
 pub mod MendsKeep
 pub mod MendsQuiet
-pub mod Counting
 pub mod Heeding
 pub mod Whole
 pub use Rattle.whole_run_laws.proofs as of_whole_run_laws

@@ -11,15 +11,14 @@ use Rattle.trace_book.specs.declared.descriptor.Beginning.TheVariants as begins
 use Rattle.trace_book.specs.declared.operation.Op.{Op}
 use Rattle.trace_book.specs.declared.reply.Reply.{Reply}
 use Rattle.trace_book.specs.declared.reply.Reply.TheVariants as reply
-use Rattle.call_rules.specs.Descriptors.{beginning}
 use Rattle.call_rules.specs.declared.want.Want.{Want}
 use Rattle.call_rules.specs.declared.want.Want.TheVariants as want
 use Rattle.locus_ids.specs.declared.refusal.Refusal.{Refusal}
 use Rattle.lawful_trace.specs.LineRows.{is_mend}
 use Rattle.role_steps.specs.Mends.{has_mend_in, is_mend_in, mends_in}
-use Rattle.role_steps.specs.Requests.{asks, asks_close_of, asks_op_of, descriptors_of, user_instance, waiting_key, waiting_of, waiting_span, without_waiting}
+use Rattle.role_steps.specs.Requests.{asks, asks_close_of, asks_op_of, user_instance, waiting_key, waiting_of, waiting_span, without_waiting}
 use Rattle.role_steps.specs.Tables.{with_row, without_row}
-use Rattle.role_steps.specs.Using.{accepted, after_reply, holds_again, asks_want, frees, goes_on, next_want, on_call, replies, without_hope, own_call}
+use Rattle.role_steps.specs.Using.{after_reply, holds_again, asks_want, frees, goes_on, next_want, on_call, counted_users, counted_call, accepted_call, replies, without_hope}
 use Rattle.role_steps.specs.Views.{Frame, Users}
 use Rattle.role_steps.specs.declared.users.UserInstance.{UserInstance}
 use Rattle.role_steps.specs.declared.users.WaitingCall.{WaitingCall}
@@ -129,7 +128,7 @@ user_key g process _ e low small same = omega (arith, low, small, same)
 
 pub call_keeps : (g : ℕ) (f : Frame) (now : Option EpochId) (process : ℕ) (words : Call) (u : Users) → is_mend words ≡ false → 1 ≤ process → g < waiting_span → KeepsMends g u (on_call f now process words u).view
 call_keeps g f now process words u e low small =
-    let counted : Users = frees process words (record u { calls = u.calls + 1 }) in
-    let w : WaitingCall = accepted process (u.calls + 1) words (beginning (descriptors_of u process) now (own_call f.me f.boot (u.calls + 1)) words) in
-    then_keeps g u counted (goes_on f w counted).view (then_keeps g u (record u { calls = u.calls + 1 }) counted (record { hopeless = refl; stays = λ h. h }) (frees_keep g process words (record u { calls = u.calls + 1 })))
+    let counted : Users = counted_call f now process words u in
+    let w : WaitingCall = accepted_call f now process words u in
+    then_keeps g u counted (goes_on f w counted).view (then_keeps g u (counted_users f now process words u) counted (record { hopeless = refl; stays = λ h. h }) (frees_keep g process words (counted_users f now process words u)))
     (want_keeps g f w (next_want f w counted) counted e (user_key g process words e low small))

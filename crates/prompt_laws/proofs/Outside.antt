@@ -15,7 +15,7 @@ use Rattle.call_rules.specs.Descriptors.{beginning, lowest_free}
 use Rattle.call_rules.specs.Words.{is_badly_named}
 use Rattle.call_rules.specs.declared.want.Want.TheVariants as want
 use Rattle.role_steps.specs.Requests.{descriptors_of}
-use Rattle.role_steps.specs.Using.{accepted, frees, goes_on, is_packed, next_want, on_call, reply_record, own_call}
+use Rattle.role_steps.specs.Using.{goes_on, is_packed, next_want, on_call, counted_call, accepted_call, reply_record, own_call}
 use Rattle.role_steps.specs.Views.{Frame, Users}
 use Rattle.role_steps.specs.declared.users.WaitingCall.{WaitingCall}
 use Rattle.the_run.specs.Steps.{call_frame}
@@ -77,7 +77,7 @@ module _ (c : Config) (n : ℕ) (t : List Line) (me boot process : ℕ) (words :
   begun_at = beginning (descriptors_of u process) None (own_call f.me f.boot (u.calls + 1)) words
 
   abbrev w : WaitingCall
-  w = accepted process (u.calls + 1) words begun_at
+  w = accepted_call f None process words u
 
   abbrev d : CallId
   d = it f w
@@ -86,7 +86,7 @@ module _ (c : Config) (n : ℕ) (t : List Line) (me boot process : ℕ) (words :
   newer = then c n t me process d words
 
   abbrev counted : Users
-  counted = frees process words (record u { calls = u.calls + 1 })
+  counted = counted_call f None process words u
 
   ends : EndsAtOnce begun_at
   ends = ended (descriptors_of u process) d words

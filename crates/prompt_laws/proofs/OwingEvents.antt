@@ -3,10 +3,8 @@ use Rattle.std.proofs.Common.{◌≡◌, ℕ, ◌≤◌, ◌+◌, true, List, []
 use Rattle.locus_ids.specs.declared.config.Config.{Config}
 use Rattle.locus_ids.specs.declared.sites.Links.{Links}
 use Rattle.trace_book.specs.declared.call.Call.{Call}
-use Rattle.call_rules.specs.Descriptors.{beginning}
 use Rattle.role_steps.specs.Epochs.{frame_in, leaves_of}
-use Rattle.role_steps.specs.Requests.{descriptors_of}
-use Rattle.role_steps.specs.Using.{accepted, frees, goes_on, on_call, reply_record, takes_record, with_answer, own_call}
+use Rattle.role_steps.specs.Using.{goes_on, on_call, counted_call, accepted_call, reply_record, takes_record, with_answer}
 use Rattle.role_steps.specs.Views.{Event, Frame, SiteView, Told, Users}
 use Rattle.role_steps.specs.declared.rounds.InEpoch.{InEpoch}
 use Rattle.role_steps.specs.declared.users.WaitingCall.{WaitingCall}
@@ -36,10 +34,10 @@ module _ (c : Config) (few : length c.packs ≤ 4) (roles : RolesDo c) (n me : �
   inside_call process words f u frame users asked may rest = over (goes_told f w counted)
     where
       w : WaitingCall
-      w = accepted process (u.calls + 1) words (beginning (descriptors_of u process) (Some f.epoch) (own_call f.me f.boot (u.calls + 1)) words)
+      w = accepted_call f (Some f.epoch) process words u
 
       counted : Users
-      counted = frees process words (record u { calls = u.calls + 1 })
+      counted = counted_call f (Some f.epoch) process words u
 
       mid : List Line
       mid = then c n t f.me process (it f w) words
@@ -71,10 +69,10 @@ module _ (c : Config) (few : length c.packs ≤ 4) (roles : RolesDo c) (n me : �
       f = call_frame c me boot None
 
       w : WaitingCall
-      w = accepted process (u.calls + 1) words (beginning (descriptors_of u process) None (own_call f.me f.boot (u.calls + 1)) words)
+      w = accepted_call f None process words u
 
       counted : Users
-      counted = frees process words (record u { calls = u.calls + 1 })
+      counted = counted_call f None process words u
 
       mid : List Line
       mid = then c n t me process (it f w) words

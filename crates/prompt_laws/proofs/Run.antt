@@ -29,7 +29,7 @@ use Rattle.whole_run_laws.specs.of_one_tree_laws.Rest.{AllRest, IsRest}
 use Rattle.whole_run_laws.specs.of_one_tree_laws.Roles.{EventFact, RolesDo}
 use Rattle.whole_run_laws.proofs.of_one_tree_laws.Composing.{rest_before, rest_told}
 use Rattle.whole_run_laws.proofs.of_one_tree_laws.Cuts.{WritesSo, step_writes}
-use Rattle.whole_run_laws.proofs.of_one_tree_laws.Run.{event_fact, first_holds, kept, sent_fact}
+use Rattle.whole_run_laws.proofs.of_one_tree_laws.Run.{arrives_fact, event_fact, first_holds, kept}
 use Rattle.whole_run_laws.proofs.of_one_tree_laws.Staying.{stays}
 use Rattle.whole_run_laws.proofs.of_one_tree_laws.Worlds.{Holds}
 use Rattle.whole_run_laws.proofs.of_rest_laws.Resting.{run_low, run_rests}
@@ -148,7 +148,7 @@ module _ (c : Config) (A : World → Type 0) (E : World → Event → Type 0) (P
   kept_lines lines fit roles also = record {
     begins = λ n w le q g. (g.0, g.1, also.begins n w le q g.2);
     ticks = λ n most s v w at here g. both (one.ticks n most s v w at here g.0) (does roles n s Ticks v w here (λ r. tt) (tells.own w Ticks tt) g) (also.ticks n most s v w at here g.2);
-    receives = λ n l x v w at d here sent g. both (one.receives n l x v w at d here sent g.0) (does roles n x.packet.to (Receives x.packet) v _ here (λ r. (refl, sent_fact c w x (g.0 r) sent)) (tells.came w x sent g.2) (one.passes n x.number w g.0, g.1, also.passes n x.number w g.2)) (also.receives n l x v w at d here sent g.2);
+    receives = λ n l x v w at d here sent g. both (one.receives n l x v w at d here sent g.0) (does roles n x.packet.to (Receives x.packet) v _ here (λ r. (refl, arrives_fact c w x v (g.0 r) sent here)) (tells.came w x sent g.2) (one.passes n x.number w g.0, g.1, also.passes n x.number w g.2)) (also.receives n l x v w at d here sent g.2);
     passes = λ n k w g. (one.passes n k w g.0, g.1, also.passes n k w g.2);
     drops = λ n k w g. (one.drops n k w g.0, g.1, also.drops n k w g.2);
     budgets = λ n most w at g. both (one.budgets n most w at g.0) (lone_facts n (Shown says.Budget ∷ []) (λ now. now) w (tt, tt) g) (also.budgets n most w at g.2);

@@ -25,12 +25,12 @@ use Rattle.role_steps.specs.Epochs.{is_in, joined_packet, joins, promise_packet,
 use Rattle.role_steps.specs.Mends.{kept_stamps, mending}
 use Rattle.role_steps.specs.Opens.{on_opened}
 use Rattle.role_steps.specs.Own.{Every}
-use Rattle.role_steps.specs.Pulling.{pull_of}
+use Rattle.role_steps.specs.Pulling.{pull_of, pages_in}
 use Rattle.role_steps.specs.Reports.{on_closed, on_have, on_report}
 use Rattle.role_steps.specs.Storage.{copy_of, instance_of}
 use Rattle.role_steps.specs.Tables.{first_that, row}
 use Rattle.role_steps.specs.Adoption.{table_group}
-use Rattle.role_steps.specs.Using.{asks_close_of, asks_op_number, asks_open_of, asks_take, close_answer, content_answer, looks_again, with_brought, on_close_done_of, on_look_done_of, on_op_done_of, on_open_done_of, op_answer, takes_answer, takes_look}
+use Rattle.role_steps.specs.Using.{asks_close_of, asks_op_number, asks_open_of, asks_take, close_answer, content_answer, looks_again, with_brought, on_close_done_of, on_look_done_of, on_op_done_of, on_open_done_of, op_answer, takes_answer, takes_look, asks_held_number, keeps_brought, takes_copied, on_as_held_of}
 use Rattle.role_steps.specs.Views.{Event, Calls, Receives, Ticks, Parts, Merges, GivesUp, Frame, SiteView, Told, Shown, Promises, Users, Outcome, and_then, quiet, sends}
 use Rattle.role_steps.specs.declared.rounds.InEpoch.{InEpoch}
 use Rattle.role_steps.specs.declared.rounds.Round.{Round}
@@ -40,12 +40,13 @@ use Rattle.role_steps.specs.declared.users.Asking.TheVariants as asking
 use Rattle.role_steps.specs.declared.users.WaitingCall.{WaitingCall}
 use Rattle.the_run.specs.Kept.{Among}
 use Rattle.the_run.specs.Steps.{adopts_in, at_table_of, ends_event, from_user, group_of, is_dropped, is_opened_in, step, takes, takes_call, takes_framed, takes_inside, tries_at, whole}
+use Rattle.role_steps.proofs.Caching.{kept_only}
 use Rattle.law_walks.specs.Kinds.{IsVersion, TellsStore, TellsTable}
 use Rattle.law_walks.specs.Laws.{Law, StoresKeep, TableAnswers, TablesKeep, VersionsKeep, frame_law}
 use Rattle.law_walks.proofs.Premises.{every_unit, frame_stores, frame_tables}
-use Rattle.law_walks.proofs.RoleWalks.{on_close_walk, on_closed_ok_walk, on_look_ss_walk, on_notify_walk, on_op_walk, on_open_ss_walk, on_page_walk, on_pull_walk}
+use Rattle.law_walks.proofs.RoleWalks.{on_close_walk, on_closed_ok_walk, on_look_ss_walk, on_notify_walk, on_op_walk, on_open_ss_walk, on_page_walk, on_pull_walk, on_delta_walk, on_read_held_walk, on_want_walk}
 use Rattle.law_walks.proofs.SyncWalks.{on_closed_walk, on_have_walk, on_look_walk, on_open_walk, on_opened_walk, on_report_walk}
-use Rattle.whole_run_laws.proofs.of_one_tree_laws.of_lock_laws.StepFacts.{framed_notify, notify_silent, page_silent}
+use Rattle.whole_run_laws.proofs.of_one_tree_laws.of_lock_laws.StepFacts.{framed_notify, notify_silent, page_silent, delta_silent}
 use Rattle.prompt_laws.proofs.Heads.{Mild, MildTold, accepted_by, adopts_of_mild, ends_mild, mild_any, mild_append}
 
 -- ---- roles that answer no call ----
@@ -123,7 +124,15 @@ opened_inside f v serial (granted.No why) (Some w) among = inr (record { call = 
 
 acted_inside : (f : Frame) (v : SiteView) (r : Result) (o : Option WaitingCall) → ((w : WaitingCall) → o ≡ Some w → Among w v.users.waiting) → Inside f v (on_op_done_of f r o v.users).told
 acted_inside f v r None among = inl tt
-acted_inside f v r (Some w) among = inr (record { call = w; among = among w refl; brought = w.brought; answer = op_answer r; users = v.users; descriptors = refl; told_is = refl })
+acted_inside f v r (Some w) among = inr (record { call = w; among = among w refl; brought = w.brought; answer = op_answer r; users = keeps_brought w.asking r v.users; descriptors = kept_only (λ (u : Users). u.descriptors ≡ v.users.descriptors) w.asking r v.users (λ pages. refl); told_is = refl })
+
+copied_inside : (f : Frame) (v : SiteView) (w : WaitingCall) (copied : Option (List ℕ)) → Among w v.users.waiting → Inside f v (takes_copied f w copied v.users).told
+copied_inside f v w None among = inl tt
+copied_inside f v w (Some bytes) among = inr (record { call = w; among = among; brought = w.brought; answer = _; users = v.users; descriptors = refl; told_is = refl })
+
+held_inside : (f : Frame) (v : SiteView) (o : Option WaitingCall) → ((w : WaitingCall) → o ≡ Some w → Among w v.users.waiting) → Inside f v (on_as_held_of f o v.users).told
+held_inside f v None among = inl tt
+held_inside f v (Some w) among = copied_inside f v w w.copied (among w refl)
 
 closed_inside : (f : Frame) (v : SiteView) (serial : ℕ) (a : CloseAnswer) (o : Option WaitingCall) → ((w : WaitingCall) → o ≡ Some w → Among w v.users.waiting) → Inside f v (on_close_done_of f serial a o v.users).told
 closed_inside f v serial a None among = inl tt
@@ -158,7 +167,9 @@ inside_told f from (body.OpenSs inst file mode set kind base vector parents) v =
 inside_told f from (body.Opened inst answer) v = inl (table_mild (on_opened f inst answer) (first_that (is_opened_in inst) v.tables) v (λ t. (on_opened_walk mild_law f (tables f) inst answer t (every_unit t.looks)).1))
 inside_told f from (body.OpenDone serial answer) v = opened_inside f v serial answer (first_that (asks_open_of serial) v.users.waiting) (found_in (asks_open_of serial) v.users.waiting)
 inside_told f from (body.Op serial n o seen) v = inl (every_mild _ (on_op_walk mild_law f (stores f) versions (mending v (group_of (instance_of v.store (from_user from serial)))) (from_user from serial) n o seen v.store).1)
+inside_told f from (body.ReadHeld serial n at len) v = inl (every_mild _ (on_read_held_walk mild_law f (stores f) (from_user from serial) n at len v.store).1)
 inside_told f from (body.OpDone serial n result) v = acted_inside f v result (first_that (asks_op_number serial n result) v.users.waiting) (found_in (asks_op_number serial n result) v.users.waiting)
+inside_told f from (body.AsHeld serial n len) v = held_inside f v (first_that (asks_held_number serial n) v.users.waiting) (found_in (asks_held_number serial n) v.users.waiting)
 inside_told f from (body.Close serial) v = inl (every_mild _ (on_close_walk mild_law f (stores f) versions (from_user from serial) v.store).1)
 inside_told f from (body.Closed inst made) v = inl (table_mild (on_closed f from inst made) (first_that (is_opened_in inst) v.tables) v (λ t. (on_closed_walk mild_law f (tables f) from (backs f from) inst made t (every_unit t.looks)).1))
 inside_told f from (body.ClosedOk inst) v = inl (every_mild _ (on_closed_ok_walk mild_law f (stores f) inst v.store).1)
@@ -168,7 +179,9 @@ inside_told f from (body.LookSs us call process request take file what serve) v 
 inside_told f from (body.LookDone call request take answer) v = looked_inside f v answer (first_that (asks_take call request take answer) v.users.waiting) (found_in (asks_take call request take answer) v.users.waiting)
 inside_told f from (body.Notify file kind set size stamp vector holder) v = inl (every_mild _ (on_notify_walk mild_law f (stores f).reads from (copy_of v.store file) _ tt v.pulls).1)
 inside_told f from (body.Pull file stamp page) v = by_role f from (body.Pull file stamp page) v (on_pull_walk mild_law f (stores f).reads from file stamp page (λ b. tt) v.store).1
+inside_told f from (body.Want file wanted own) v = by_role f from (body.Want file wanted own) v (on_want_walk mild_law f (stores f).reads from file wanted own (λ b. tt) v.store).1
 inside_told f from (body.Page file stamp page bytes) v = inl (every_mild _ (on_page_walk mild_law f (stores f).reads file stamp page bytes v.pulls).1)
+inside_told f from (body.Delta file wanted pages) v = inl (every_mild _ (on_delta_walk mild_law f (stores f).reads (copy_of v.store file) file wanted pages v.pulls).1)
 inside_told f from (body.Have file stamp) v = inl (table_mild (on_have from file stamp) (row table_group file.group v.tables) v (λ t. (on_have_walk mild_law f (tables f) from file stamp t (every_unit t.looks)).1))
 inside_told f from body.Poll v = inl tt
 inside_told f from (body.Promise reach) v = inl tt
@@ -273,9 +286,11 @@ tried_splits c me links e v o none = mild_splits c me v e _ (mild_append None (a
 
 received_splits : (c : Config) (me : ℕ) (links : Links) (p : Packet) (x : Body) (e : Event) (v : SiteView) → p.body ≡ x → Splits c me v e (whole c me links (takes c me links p x v) (tries_at c me x)).told
 received_splits c me links p (body.Notify file kind set size stamp vector holder) e v q =
-    tried_splits c me links e v (takes_framed c me p v.epoch v) (framed_notify c me p (body.Notify file kind set size stamp vector holder) v.epoch v q (λ f. notify_silent f p.from (copy_of v.store file) (record { file = file; kind = kind; set = set; size = size; stamp = stamp; vector = vector; holder = holder; content = [] }) v.pulls)).0
+    tried_splits c me links e v (takes_framed c me p v.epoch v) (framed_notify c me p (body.Notify file kind set size stamp vector holder) v.epoch v q (λ f. notify_silent f p.from (copy_of v.store file) (record { file = file; kind = kind; set = set; size = size; stamp = stamp; vector = vector; holder = holder; base = None; wanted = None; content = [] }) v.pulls)).0
 received_splits c me links p (body.Page file stamp page bytes) e v q =
     tried_splits c me links e v (takes_framed c me p v.epoch v) (framed_notify c me p (body.Page file stamp page bytes) v.epoch v q (λ f. page_silent f stamp page bytes (pull_of v.pulls file) v.pulls)).0
+received_splits c me links p (body.Delta file wanted pages) e v q =
+    tried_splits c me links e v (takes_framed c me p v.epoch v) (framed_notify c me p (body.Delta file wanted pages) v.epoch v q (λ f. delta_silent f (pages_in (copy_of v.store file)) wanted pages (pull_of v.pulls file) v.pulls)).0
 received_splits c me links p x e v q = untried_splits c me links e v (takes c me links p x v) (takes_splits c me links p x e v)
 
 pub step_splits : (c : Config) (me : ℕ) (links : Links) (v : SiteView) (e : Event) → Splits c me v e (step c me links v e).told

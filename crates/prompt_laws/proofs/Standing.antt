@@ -12,15 +12,13 @@ use Rattle.schedule_lines.specs.declared.line.ScheduleLine.TheVariants.{Event}
 use Rattle.trace_book.specs.declared.call.Call.{Call}
 use Rattle.trace_book.specs.declared.call.Call.TheVariants as call
 use Rattle.trace_book.specs.declared.record.Record.TheVariants as says
-use Rattle.role_steps.specs.Adoption.{adopts_first, adopts_pull, is_above_own, is_ready, without_pull}
+use Rattle.role_steps.specs.Adoption.{adopts_first, adopts_pull, is_ready, without_pull, fits_own}
 use Rattle.role_steps.specs.Epochs.{begins_round, boots_where, chosen_members, chosen_set, decides_if, frame_in, leaves, leaves_of, merge_boot, part_boot, passed_over, passes_over, passes_over_of, reached, round_id, starts_merge, starts_part, starts_part_of, unanswered}
 use Rattle.role_steps.specs.Mends.{has_mend_in, row_file, starts_mend, starts_mend_of, starts_mends_in, wants_mend}
 use Rattle.role_steps.specs.Own.{Every}
-use Rattle.call_rules.specs.Descriptors.{beginning}
-use Rattle.role_steps.specs.Requests.{descriptors_of}
 use Rattle.role_steps.specs.Storage.{copy_of}
 use Rattle.role_steps.specs.Tables.{first_that}
-use Rattle.role_steps.specs.Using.{accepted, changed_records, frees, goes_on, on_call, own_call}
+use Rattle.role_steps.specs.Using.{changed_records, goes_on, on_call, counted_users, counted_call, accepted_call}
 use Rattle.role_steps.specs.Views as views
 use Rattle.role_steps.specs.Views.{Calls, DiskWrite, Frame, GivesUp, Merges, Outcome, Parts, Promises, Receives, Shown, SiteView, Ticks, Told, Users, quiet}
 use Rattle.role_steps.specs.declared.pulls.Pull.{Pull}
@@ -81,7 +79,7 @@ ticks_true l false k = k
 
 mend_ticks : (l : ScheduleLine) → ticks l ≡ true → (f : Frame) (t : SyncTable) (o : Option FileRow) (v : SiteView) → Every (Stands l) (starts_mend_of f t o v).told
 mend_ticks l k f t None v = tt
-mend_ticks l k f t (Some r) v = (k, all_anywhere l _ (goes_anywhere f (accepted 0 (v.users.calls + 1) (call.Mend (row_file t r)) (beginning (descriptors_of v.users 0) (Some f.epoch) (own_call f.me f.boot (v.users.calls + 1)) (call.Mend (row_file t r)))) (record v.users { calls = v.users.calls + 1 })))
+mend_ticks l k f t (Some r) v = (k, all_anywhere l _ (goes_anywhere f (accepted_call f (Some f.epoch) 0 (call.Mend (row_file t r)) v.users) (counted_users f (Some f.epoch) 0 (call.Mend (row_file t r)) v.users)))
 
 mends_tick : (l : ScheduleLine) → ticks l ≡ true → (f : Frame) (ts : List SyncTable) (v : SiteView) → Every (Stands l) (starts_mends_in f ts v).told
 mends_tick l k f [] v = tt
@@ -142,8 +140,8 @@ ends_quiet l c me links v none mends =
 adopts_stand : (site : ℕ) (f : Frame) (ps : List Pull) (v : SiteView) → Every (Stands (Event (line.Tick site))) (adopts_first f ps v).told
 adopts_stand site f [] v = tt
 adopts_stand site f (p ∷ ps) v =
-    elim (is_ready v p) as (λ t. Every (Stands (Event (line.Tick site))) (elim t as (λ (y : Bool). Outcome SiteView) [ true ↦ elim (is_above_own p (copy_of v.store p.file)) as (λ (y : Bool). Outcome SiteView) [ true ↦ adopts_pull f p v | false ↦ adopts_first f ps (without_pull p v) ] | false ↦ adopts_first f ps v ]).told) [
-      | true ↦ elim (is_above_own p (copy_of v.store p.file)) as (λ t. Every (Stands (Event (line.Tick site))) (elim t as (λ (y : Bool). Outcome SiteView) [ true ↦ adopts_pull f p v | false ↦ adopts_first f ps (without_pull p v) ]).told) [
+    elim (is_ready v p) as (λ t. Every (Stands (Event (line.Tick site))) (elim t as (λ (y : Bool). Outcome SiteView) [ true ↦ elim (fits_own p (copy_of v.store p.file)) as (λ (y : Bool). Outcome SiteView) [ true ↦ adopts_pull f p v | false ↦ adopts_first f ps (without_pull p v) ] | false ↦ adopts_first f ps v ]).told) [
+      | true ↦ elim (fits_own p (copy_of v.store p.file)) as (λ t. Every (Stands (Event (line.Tick site))) (elim t as (λ (y : Bool). Outcome SiteView) [ true ↦ adopts_pull f p v | false ↦ adopts_first f ps (without_pull p v) ]).told) [
         | true ↦ (refl, tt)
         | false ↦ adopts_stand site f ps (without_pull p v)
       ]
@@ -169,7 +167,7 @@ parts_anywhere me links None v = tt
 parts_anywhere me links (Some i) v = begins_anywhere me links (v.promised.number + 1) (boots_where (part_boot me links i.members)) v
 
 calls_anywhere : (f : Frame) (now : Option EpochId) (process : ℕ) (words : Call) (u : Users) → is_mend words ≡ false → Every IsAnywhere (on_call f now process words u).told
-calls_anywhere f now process words u user = (user, goes_anywhere f (accepted process (u.calls + 1) words (beginning (descriptors_of u process) now (own_call f.me f.boot (u.calls + 1)) words)) (frees process words (record u { calls = u.calls + 1 })))
+calls_anywhere f now process words u user = (user, goes_anywhere f (accepted_call f now process words u) (counted_call f now process words u))
 
 then_stand : (l : ScheduleLine) (xs ys : List Told) → Every IsAnywhere xs → Every (Stands l) ys → Every (Stands l) (xs ++ ys)
 then_stand l xs ys h k = every_append (Stands l) xs ys (all_anywhere l xs h) k

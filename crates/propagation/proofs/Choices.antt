@@ -6,7 +6,7 @@ use Rattle.role_steps.specs.Tables.{row, without_row}
 use Rattle.role_steps.specs.Views.{Frame, SiteView, Outcome, file_key}
 use Rattle.role_steps.specs.Storage.{copy_of}
 use Rattle.role_steps.specs.Pulling.{pull_key}
-use Rattle.role_steps.specs.Adoption.{is_ready, is_above_own, adopts, adopts_first, adopts_pull, without_pull}
+use Rattle.role_steps.specs.Adoption.{is_ready, fits_own, adopts, adopts_first, adopts_pull, without_pull}
 use Rattle.role_steps.specs.declared.pulls.Pull.{Pull}
 use Rattle.propagation.proofs.Sizes.{gone, left, found, other}
 use Rattle.propagation.specs.Choosing.{Choice, chooses, without_chosen, LooksAt, adopted_of, adopts_by}
@@ -49,10 +49,10 @@ drop_at [] i p e = absurd (cc)
 drop_at (x ∷ xs) zero p e = ap (λ (q : Pull). q ∷ xs) (some_pull x p e)
 drop_at (x ∷ xs) (suc i) p e = drop_at xs i p e
 
-ready_first : (f : Frame) (p : Pull) (ps : List Pull) (v : SiteView) → is_ready v p ≡ true → is_above_own p (copy_of v.store p.file) ≡ true → adopts_first f (p ∷ ps) v ≡ adopts_pull f p v
+ready_first : (f : Frame) (p : Pull) (ps : List Pull) (v : SiteView) → is_ready v p ≡ true → fits_own p (copy_of v.store p.file) ≡ true → adopts_first f (p ∷ ps) v ≡ adopts_pull f p v
 ready_first f p ps v e g = rw (e, adopts_first) (rw (g, adopts_first) refl)
 
-stale_first : (f : Frame) (p : Pull) (ps : List Pull) (v : SiteView) → is_ready v p ≡ true → is_above_own p (copy_of v.store p.file) ≡ false → adopts_first f (p ∷ ps) v ≡ adopts_first f ps (without_pull p v)
+stale_first : (f : Frame) (p : Pull) (ps : List Pull) (v : SiteView) → is_ready v p ≡ true → fits_own p (copy_of v.store p.file) ≡ false → adopts_first f (p ∷ ps) v ≡ adopts_first f ps (without_pull p v)
 stale_first f p ps v e g = rw (e, adopts_first) (rw (g, adopts_first) refl)
 
 waits_first : (f : Frame) (p : Pull) (ps : List Pull) (v : SiteView) → is_ready v p ≡ false → adopts_first f (p ∷ ps) v ≡ adopts_first f ps v
@@ -60,7 +60,7 @@ waits_first f p ps v e = rw (e, adopts_first) refl
 
 abbrev chosen_in : Frame → List Pull → SiteView → Outcome SiteView
 chosen_in f ps v =
-    let c : Choice = chooses (is_ready v) (λ p. is_above_own p (copy_of v.store p.file)) ps v.pulls in
+    let c : Choice = chooses (is_ready v) (λ p. fits_own p (copy_of v.store p.file)) ps v.pulls in
     adopted_of f (record v { pulls = c.pulls }) c.chosen
 
 abbrev with_choice : Frame → SiteView → Choice → Outcome SiteView
@@ -68,14 +68,14 @@ with_choice f v c = adopted_of f (record v { pulls = c.pulls }) c.chosen
 
 first_chosen : (f : Frame) (ps : List Pull) (v : SiteView) → adopts_first f ps v ≡ chosen_in f ps v
 first_chosen f [] v = refl
-first_chosen f (p ∷ ps) v = by_case (is_ready v p) (is_above_own p (copy_of v.store p.file)) refl refl (first_chosen f ps v) (first_chosen f ps (without_pull p v)) where
+first_chosen f (p ∷ ps) v = by_case (is_ready v p) (fits_own p (copy_of v.store p.file)) refl refl (first_chosen f ps v) (first_chosen f ps (without_pull p v)) where
   here : Bool → Bool → Choice
-  here a b = cond a (cond b (record { pulls = v.pulls; chosen = Some p }) (chooses (is_ready v) (λ q. is_above_own q (copy_of v.store q.file)) ps (without_row pull_key (pull_key p) v.pulls))) (chooses (is_ready v) (λ q. is_above_own q (copy_of v.store q.file)) ps v.pulls)
+  here a b = cond a (cond b (record { pulls = v.pulls; chosen = Some p }) (chooses (is_ready v) (λ q. fits_own q (copy_of v.store q.file)) ps (without_row pull_key (pull_key p) v.pulls))) (chooses (is_ready v) (λ q. fits_own q (copy_of v.store q.file)) ps v.pulls)
 
-  by_case : (a b : Bool) → is_ready v p ≡ a → is_above_own p (copy_of v.store p.file) ≡ b → adopts_first f ps v ≡ chosen_in f ps v → adopts_first f ps (without_pull p v) ≡ chosen_in f ps (without_pull p v) → adopts_first f (p ∷ ps) v ≡ chosen_in f (p ∷ ps) v
-  by_case true true e g r s = ready_first f p ps v e g ∙ sym (ap (λ (a : Bool). with_choice f v (here a (is_above_own p (copy_of v.store p.file)))) e ∙ ap (λ (b : Bool). with_choice f v (here true b)) g)
-  by_case true false e g r s = stale_first f p ps v e g ∙ (s ∙ sym (ap (λ (a : Bool). with_choice f v (here a (is_above_own p (copy_of v.store p.file)))) e ∙ ap (λ (b : Bool). with_choice f v (here true b)) g))
-  by_case false b e g r s = waits_first f p ps v e ∙ (r ∙ sym (ap (λ (a : Bool). with_choice f v (here a (is_above_own p (copy_of v.store p.file)))) e))
+  by_case : (a b : Bool) → is_ready v p ≡ a → fits_own p (copy_of v.store p.file) ≡ b → adopts_first f ps v ≡ chosen_in f ps v → adopts_first f ps (without_pull p v) ≡ chosen_in f ps (without_pull p v) → adopts_first f (p ∷ ps) v ≡ chosen_in f (p ∷ ps) v
+  by_case true true e g r s = ready_first f p ps v e g ∙ sym (ap (λ (a : Bool). with_choice f v (here a (fits_own p (copy_of v.store p.file)))) e ∙ ap (λ (b : Bool). with_choice f v (here true b)) g)
+  by_case true false e g r s = stale_first f p ps v e g ∙ (s ∙ sym (ap (λ (a : Bool). with_choice f v (here a (fits_own p (copy_of v.store p.file)))) e ∙ ap (λ (b : Bool). with_choice f v (here true b)) g))
+  by_case false b e g r s = waits_first f p ps v e ∙ (r ∙ sym (ap (λ (a : Bool). with_choice f v (here a (fits_own p (copy_of v.store p.file)))) e))
 
 pub adoption_chosen : (f : Frame) (v : SiteView) → adopts f v ≡ adopts_by f v
 adoption_chosen f v = first_chosen f v.pulls v

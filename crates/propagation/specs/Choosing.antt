@@ -1,11 +1,11 @@
--- Which version is adopted: that of the first pull that is ready and above the site's own copy. Ready ones that aren't above
--- it are dropped on the way.
+-- Which version is adopted: that of the first pull that is ready and fits the site's own copy. Ready ones that don't are dropped on
+-- the way.
 use Rattle.std.specs.Prelude.{ℕ, ◌≡◌, Bool, cond, List, [], ◌∷◌, slice_get, Option, None, Some}
 use Rattle.role_steps.specs.Tables.{without_row}
 use Rattle.role_steps.specs.Views.{Frame, SiteView, Outcome, quiet}
 use Rattle.role_steps.specs.Storage.{copy_of}
 use Rattle.role_steps.specs.Pulling.{pull_key}
-use Rattle.role_steps.specs.Adoption.{is_ready, is_above_own, adopts_pull}
+use Rattle.role_steps.specs.Adoption.{is_ready, fits_own, adopts_pull}
 use Rattle.role_steps.specs.declared.pulls.Pull.{Pull}
 use Rattle.keyed_tables.specs.Rising.{Rising}
 use Rattle.propagation.specs.declared.adopting.Verdict.{Verdict}
@@ -51,5 +51,5 @@ adopted_of f v (Some p) = adopts_pull f p v
 -- the adoption of a site, by the choice among its pulls
 abbrev pub adopts_by : Frame → SiteView → Outcome SiteView
 adopts_by f v =
-    let c : Choice = chooses (is_ready v) (λ p. is_above_own p (copy_of v.store p.file)) v.pulls v.pulls in
+    let c : Choice = chooses (is_ready v) (λ p. fits_own p (copy_of v.store p.file)) v.pulls v.pulls in
     adopted_of f (record v { pulls = c.pulls }) c.chosen

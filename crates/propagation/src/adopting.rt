@@ -20,7 +20,7 @@ pub trait Adopting {
     fn is_ready(&self, pull: &Pull) -> bool
         ensures { result ≡ ready self.now pull.now };
 
-    /// It is above the site's own copy of the file, or the site has none.
+    /// It is above the site's own copy of the file, over which it was pulled, or the site has none.
     fn is_above_own(&self, pull: &Pull) -> bool
         ensures { result ≡ above self.now pull.now };
 }
@@ -34,7 +34,7 @@ pub enum Verdict {
 }
 
 /// The file of a pull, and what becomes of the pull.
-#[derive(Clone, Copy, PartialEq, Eq)]
+#[derive(Clone, Copy)]
 pub struct Look {
     pub file: FileId,
     pub verdict: Verdict,

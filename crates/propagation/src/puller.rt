@@ -2,14 +2,14 @@ ghost use Rattle.std.specs.Prelude.{◌≡◌, ◌++◌, ◌≤◌, length, [], 
 ghost use Rattle.site_frame.specs.Printed.{printed};
 ghost use Rattle.role_steps.specs.Tables.{without_row};
 ghost use Rattle.role_steps.specs.Views.{file_key};
-ghost use Rattle.role_steps.specs.Pulling.{pull_key, goes_on, begins_pull, on_notify, on_page, pull_repeats, pull_of, replaces_pull};
+ghost use Rattle.role_steps.specs.Pulling.{pull_key, goes_on, on_notify, on_page, on_delta, pull_repeats, pull_of};
 ghost use Rattle.role_steps.specs.declared.copies.FileCopy.{FileCopy};
 ghost use Rattle.keyed_tables.specs.Rising.{Rising};
-ghost use Rattle.propagation.specs.Sized.{IsSized, AreSized, head_of, notified, awaits};
+ghost use Rattle.propagation.specs.Sized.{IsSized, IsNew, AreSized, head_of, begins_over, notified, replaces_over, delta_over, awaits, wants};
 
 use crate::CopyHead;
-use crate::own_copy::{is_below, same_stamp};
-use crate::pulling::{is_awaited, send_next};
+use crate::own_copy::{is_below, is_over, pages_in, same_stamp};
+use crate::pulling::{is_awaited, is_delta, listed, pull_over, send_next};
 use keyed_tables::{SortedTable, file_key, find};
 use locus_ids::sizes::FILE_BYTES;
 use locus_ids::{FileId, NoMemory, SiteId, Stamp};
@@ -95,69 +95,71 @@ impl Puller {
         pull: Pull,
         out: &mut Outbox,
     ) -> Result<(), NoMemory>
-        ensures view { (copy : Option FileCopy) → head_of copy ≡ own → IsSized pull → OnOk result (self.new ≡ (on_notify frame.now from copy pull self.old).view) }
-        ensures packets { (copy : Option FileCopy) → head_of copy ≡ own → IsSized pull → OnOk result (out.new.packets ≡ out.old.packets ++ (on_notify frame.now from copy pull self.old).sent) }
+        ensures view { (copy : Option FileCopy) → head_of copy ≡ own → IsNew pull → OnOk result (self.new ≡ (on_notify frame.now from copy pull self.old).view) }
+        ensures packets { (copy : Option FileCopy) → head_of copy ≡ own → IsNew pull → OnOk result (out.new.packets ≡ out.old.packets ++ (on_notify frame.now from copy pull self.old).sent) }
         ensures records { OnOk result (out.new.records ≡ out.old.records) }
     {
-        if pull.size as usize > FILE_BYTES || pull.content.len() > pull.size as usize {
+        if pull.size as usize > FILE_BYTES || !pull.content.is_empty() {
             return Ok(());
         }
-        self.notified(frame, from, own, pull, out)
+        self.notified(frame, from, &own, pull, out)
     }
 
     fn notified(
         &mut self,
         frame: &SiteFrame,
         from: SiteId,
-        own: Option<CopyHead>,
+        own: &Option<CopyHead>,
         pull: Pull,
         out: &mut Outbox,
     ) -> Result<(), NoMemory>
-        requires { IsSized pull }
-        ensures view { OnOk result (self.new ≡ (notified frame.now from own pull self.old).view) }
-        ensures packets { OnOk result (out.new.packets ≡ out.old.packets ++ (notified frame.now from own pull self.old).sent) }
+        requires { IsNew pull }
+        ensures view { OnOk result (self.new ≡ (notified frame.now from own.now pull self.old).view) }
+        ensures packets { OnOk result (out.new.packets ≡ out.old.packets ++ (notified frame.now from own.now pull self.old).sent) }
         ensures records { OnOk result (out.new.records ≡ out.old.records) }
     {
-        let Some(own) = own else {
-            return self.begin_pull(frame, pull, out);
+        let Some(copy) = own else {
+            return self.begin_pull(frame, own, pull, out);
         };
-        if same_stamp(own.stamp, pull.stamp) {
+        if same_stamp(copy.stamp, pull.stamp) {
             let body = Body::Have {
                 file: pull.file,
                 stamp: pull.stamp,
             };
             return out.send(frame.packet(from, body));
         }
-        if is_below(&own.vector, &pull.vector) {
-            return self.begin_pull(frame, pull, out);
+        if is_below(&copy.vector, &pull.vector) {
+            return self.begin_pull(frame, own, pull, out);
         }
         Ok(())
     }
 
-    /// Begins a pull, unless one of the same version or of one that isn't below it goes on.
+    /// Begins a pull, unless one of the same version or of one that isn't below it goes on over the same copy.
     fn begin_pull(
         &mut self,
         frame: &SiteFrame,
+        own: &Option<CopyHead>,
         pull: Pull,
         out: &mut Outbox,
     ) -> Result<(), NoMemory>
-        requires { IsSized pull }
-        ensures view { OnOk result (self.new ≡ (begins_pull frame.now pull self.old).view) }
-        ensures packets { OnOk result (out.new.packets ≡ out.old.packets ++ (begins_pull frame.now pull self.old).sent) }
+        requires { IsNew pull }
+        ensures view { OnOk result (self.new ≡ (begins_over frame.now own.now pull self.old).view) }
+        ensures packets { OnOk result (out.new.packets ≡ out.old.packets ++ (begins_over frame.now own.now pull self.old).sent) }
         ensures records { OnOk result (out.new.records ≡ out.old.records) }
     {
-        if !self.replaces_pull(&pull) {
+        if !self.replaces_pull(own, &pull) {
             return Ok(());
         }
-        self.go_on(frame, pull, out)
+        let begun = pull_over(own, pull)?;
+        self.go_on(frame, begun, out)
     }
 
-    /// The version is above the one of its file that is pulled.
-    fn replaces_pull(&self, pull: &Pull) -> bool
-        ensures { result ≡ replaces_pull pull.now (pull_of self.now pull.now.file) }
+    /// The version is above the one of its file that is pulled, or that is over a copy that the site has no more.
+    fn replaces_pull(&self, own: &Option<CopyHead>, pull: &Pull) -> bool
+        ensures { result ≡ replaces_over own.now pull.now (pull_of self.now pull.now.file) }
     {
         match self.pulls.find(file_key(pull.file)) {
-            Some(old) => is_below(&old.vector, &pull.vector),
+            Some(old) => is_below(&old.vector, &pull.vector) || !is_over(own, old.base),
             None => true,
         }
     }
@@ -172,6 +174,58 @@ impl Puller {
         send_next(frame, &pull, out)?;
         self.pulls.put(pull)?;
         Ok(())
+    }
+
+    /// The holder of a version that is pulled has said which pages to pull. Where the site has a copy, `own`, those that it doesn't
+    /// have must be among them; any other answer is ignored.
+    pub fn on_delta(
+        &mut self,
+        frame: &SiteFrame,
+        own: Option<CopyHead>,
+        file: FileId,
+        stamp: Stamp,
+        pages: &[u16],
+        out: &mut Outbox,
+    ) -> Result<(), NoMemory>
+        ensures view { (copy : Option FileCopy) → head_of copy ≡ own → OnOk result (self.new ≡ (on_delta frame.now copy file stamp pages.now self.old).view) }
+        ensures packets { (copy : Option FileCopy) → head_of copy ≡ own → OnOk result (out.new.packets ≡ out.old.packets ++ (on_delta frame.now copy file stamp pages.now self.old).sent) }
+        ensures records { OnOk result (out.new.records ≡ out.old.records) }
+    {
+        self.take_delta(frame, &own, file, stamp, pages, out)
+    }
+
+    fn take_delta(
+        &mut self,
+        frame: &SiteFrame,
+        own: &Option<CopyHead>,
+        file: FileId,
+        stamp: Stamp,
+        pages: &[u16],
+        out: &mut Outbox,
+    ) -> Result<(), NoMemory>
+        ensures view { OnOk result (self.new ≡ (delta_over frame.now own.now file stamp pages.now self.old).view) }
+        ensures packets { OnOk result (out.new.packets ≡ out.old.packets ++ (delta_over frame.now own.now file stamp pages.now self.old).sent) }
+        ensures records { OnOk result (out.new.records ≡ out.old.records) }
+    {
+        if !self.wants(own, file, stamp, pages) {
+            return Ok(());
+        }
+        let Some(mut pull) = self.take(file) else {
+            return Ok(());
+        };
+        pull.wanted = Some(listed(pull.content.allocator(), pages)?);
+        self.go_on(frame, pull, out)
+    }
+
+    /// The pages are the answer that the pull of the file waits for.
+    fn wants(&self, own: &Option<CopyHead>, file: FileId, stamp: Stamp, pages: &[u16]) -> bool
+        ensures test { result ≡ wants self.now own.now file stamp pages.now }
+        ensures rising { Rising pull_key self.now }
+    {
+        match find(self.pulls.as_slice(), file_key(file)) {
+            Some(pull) => is_delta(pages_in(own), pull, stamp, pages),
+            None => false,
+        }
     }
 
     /// A page has come. The next missing one of the version that is pulled is taken, and the one after it is asked for; any
@@ -210,7 +264,7 @@ impl Puller {
         }
     }
 
-    /// Asks again for the next missing page of each pull, by group and inode.
+    /// Asks again what each pull asks next, by group and inode.
     pub fn repeats(&self, frame: &SiteFrame, out: &mut Outbox) -> Result<(), NoMemory>
         ensures packets { OnOk result (out.new.packets ≡ out.old.packets ++ pull_repeats frame.now self.now) }
         ensures records { OnOk result (out.new.records ≡ out.old.records) }

@@ -11,13 +11,13 @@ use Rattle.trace_book.specs.Same.{same_epoch}
 use Rattle.wire_messages.specs.declared.body.Body.{Body}
 use Rattle.wire_messages.specs.declared.body.Body.TheVariants as body
 use Rattle.wire_messages.specs.declared.packet.Packet.{Packet}
-use Rattle.role_steps.specs.Adoption.{notes_own_at, copy_adopted, table_group, with_store, without_pull, is_ready, is_above_own, adopts_pull, adopts_first}
+use Rattle.role_steps.specs.Adoption.{notes_own_at, table_group, without_pull, is_ready, adopts_pull, adopts_first, with_adopted, fits_own}
 use Rattle.role_steps.specs.Epochs.{is_epoch_below, frame_in, leaves_of, leaves, promises, reached, begins_round, starts_part_of, starts_part, starts_merge, promise_packet, refuse_packet, on_poll, on_promise_of, on_refuse_of, joins, may_install, is_in, joined_packet, on_install, on_joined, passed_over, unanswered, decides_if, passes_over_of, passes_over}
 use Rattle.role_steps.specs.Mends.{has_mend_in, wants_mend, starts_mend_of, starts_mend, starts_mends_in}
-use Rattle.role_steps.specs.Pulling.{pull_key, pull_of, replaces_pull, goes_on, begins_pull, on_notify, is_awaited, on_page_of}
+use Rattle.role_steps.specs.Pulling.{pull_key, pull_of, replaces_pull, goes_on, begins_pull, pull_over, on_notify, is_awaited, pages_in, is_delta, on_page_of, on_delta_of}
 use Rattle.role_steps.specs.Reports.{on_report, on_open, on_look, on_closed, on_have}
 use Rattle.role_steps.specs.Opens.{on_opened}
-use Rattle.role_steps.specs.Storage.{copy_of, with_copy}
+use Rattle.role_steps.specs.Storage.{copy_of}
 use Rattle.role_steps.specs.Tables.{row, without_row, first_that}
 use Rattle.role_steps.specs.Versions.{is_below}
 use Rattle.commit_graph.specs.Versions.{same_stamp}
@@ -51,18 +51,26 @@ KeepsList ps o = Ascend ps → Ascend o.view
 
 -- ---- Notify and Page ----
 
-begins_keeps : (f : Frame) (p : Pull) (ps : List Pull) → KeepsList ps (begins_pull f p ps)
-begins_keeps f p ps = elim (replaces_pull p (pull_of ps p.file)) as (λ b. KeepsList ps (elim b [ true ↦ goes_on f p ps | false ↦ quiet ps ])) [
-  | true ↦ λ h. ascends_with pull_key p ps h
+begins_keeps : (f : Frame) (own : Option FileCopy) (p : Pull) (ps : List Pull) → KeepsList ps (begins_pull f own p ps)
+begins_keeps f own p ps = elim (replaces_pull own p (pull_of ps p.file)) as (λ b. KeepsList ps (elim b [ true ↦ goes_on f (pull_over own p) ps | false ↦ quiet ps ])) [
+  | true ↦ λ h. ascends_with pull_key (pull_over own p) ps h
   | false ↦ λ h. h
 ]
 
 pub notify_keeps : (f : Frame) (from : ℕ) (own : Option FileCopy) (p : Pull) (ps : List Pull) → KeepsList ps (on_notify f from own p ps)
-notify_keeps f from None p ps = begins_keeps f p ps
+notify_keeps f from None p ps = begins_keeps f None p ps
 notify_keeps f from (Some own) p ps =
-    elim (same_stamp own.stamp p.stamp) as (λ b. KeepsList ps (elim b [ true ↦ sends (packet f from (body.Have p.file p.stamp) ∷ []) ps | false ↦ elim (is_below own.vector p.vector) [ true ↦ begins_pull f p ps | false ↦ quiet ps ] ])) [
+    elim (same_stamp own.stamp p.stamp) as (λ b. KeepsList ps (elim b [ true ↦ sends (packet f from (body.Have p.file p.stamp) ∷ []) ps | false ↦ elim (is_below own.vector p.vector) [ true ↦ begins_pull f (Some own) p ps | false ↦ quiet ps ] ])) [
       | true ↦ λ h. h
-      | false ↦ elim (is_below own.vector p.vector) as (λ b. KeepsList ps (elim b [ true ↦ begins_pull f p ps | false ↦ quiet ps ])) [ true ↦ begins_keeps f p ps | false ↦ λ h. h ]
+      | false ↦ elim (is_below own.vector p.vector) as (λ b. KeepsList ps (elim b [ true ↦ begins_pull f (Some own) p ps | false ↦ quiet ps ])) [ true ↦ begins_keeps f (Some own) p ps | false ↦ λ h. h ]
+    ]
+
+pub delta_keeps : (f : Frame) (own : ℕ) (stamp : Stamp) (pages : List ℕ) (o : Option Pull) (ps : List Pull) → KeepsList ps (on_delta_of f own stamp pages o ps)
+delta_keeps f own stamp pages None ps = λ h. h
+delta_keeps f own stamp pages (Some p) ps =
+    elim (is_delta own p stamp pages) as (λ b. KeepsList ps (elim b [ true ↦ goes_on f (record p { wanted = Some pages }) ps | false ↦ quiet ps ])) [
+      | true ↦ λ h. ascends_with pull_key (record p { wanted = Some pages }) ps h
+      | false ↦ λ h. h
     ]
 
 pub page_keeps : (f : Frame) (stamp : Stamp) (page : ℕ) (bytes : List ℕ) (o : Option Pull) (ps : List Pull) → KeepsList ps (on_page_of f stamp page bytes o ps)
@@ -80,13 +88,13 @@ notes_keeps f p None v h = h
 notes_keeps f p (Some t) v h = h
 
 pulls_keeps : (f : Frame) (p : Pull) (v : SiteView) → Keeps v (adopts_pull f p v)
-pulls_keeps f p v = λ h. (let mid : SiteView = without_pull p (with_store v (with_copy (copy_adopted p) v.store)) in notes_keeps f p (row table_group p.file.group mid.tables) mid (ascends_without pull_key (pull_key p) v.pulls h))
+pulls_keeps f p v = λ h. (let mid : SiteView = with_adopted p v in notes_keeps f p (row table_group p.file.group mid.tables) mid (ascends_without pull_key (pull_key p) v.pulls h))
 
 pub adopts_keeps : (f : Frame) (ps : List Pull) (v : SiteView) → Keeps v (adopts_first f ps v)
 adopts_keeps f [] v = λ h. h
 adopts_keeps f (p ∷ ps) v =
-    elim (is_ready v p) as (λ t. Keeps v (elim t [ true ↦ elim (is_above_own p (copy_of v.store p.file)) [ true ↦ adopts_pull f p v | false ↦ adopts_first f ps (without_pull p v) ] | false ↦ adopts_first f ps v ])) [
-      | true ↦ elim (is_above_own p (copy_of v.store p.file)) as (λ t. Keeps v (elim t [ true ↦ adopts_pull f p v | false ↦ adopts_first f ps (without_pull p v) ])) [
+    elim (is_ready v p) as (λ t. Keeps v (elim t [ true ↦ elim (fits_own p (copy_of v.store p.file)) [ true ↦ adopts_pull f p v | false ↦ adopts_first f ps (without_pull p v) ] | false ↦ adopts_first f ps v ])) [
+      | true ↦ elim (fits_own p (copy_of v.store p.file)) as (λ t. Keeps v (elim t [ true ↦ adopts_pull f p v | false ↦ adopts_first f ps (without_pull p v) ])) [
         | true ↦ pulls_keeps f p v
         | false ↦ λ h. adopts_keeps f ps (without_pull p v) (ascends_without pull_key (pull_key p) v.pulls h)
       ]
@@ -100,6 +108,7 @@ adopts_of_keeps c me (Some e) v = adopts_keeps (frame_in c me v.boot e) v.pulls 
 tries_keeps : (c : Config) (me : ℕ) (x : Body) (v : SiteView) → Keeps v (tries_at c me x v)
 tries_keeps c me (body.Notify file kind set size stamp vector holder) v = adopts_of_keeps c me v.epoch v
 tries_keeps c me (body.Page file stamp page bytes) v = adopts_of_keeps c me v.epoch v
+tries_keeps c me (body.Delta file wanted pages) v = adopts_of_keeps c me v.epoch v
 tries_keeps c me _ v = λ h. h
 
 -- ---- packets of the epoch ----
@@ -115,8 +124,9 @@ inside_keeps f from (body.Opened inst answer) v = table_keeps (on_opened f inst 
 inside_keeps f from (body.Closed inst made) v = table_keeps (on_closed f from inst made) (first_that (is_opened_in inst) v.tables) v
 inside_keeps f from (body.Look call process request take file what) v = table_keeps (on_look f from (record { call = call; process = process; request = request; take = take; file = file; what = what })) (row table_group file.group v.tables) v
 inside_keeps f from (body.Have file stamp) v = table_keeps (on_have from file stamp) (row table_group file.group v.tables) v
-inside_keeps f from (body.Notify file kind set size stamp vector holder) v = notify_keeps f from (copy_of v.store file) (record { file = file; kind = kind; set = set; size = size; stamp = stamp; vector = vector; holder = holder; content = [] }) v.pulls
+inside_keeps f from (body.Notify file kind set size stamp vector holder) v = notify_keeps f from (copy_of v.store file) (record { file = file; kind = kind; set = set; size = size; stamp = stamp; vector = vector; holder = holder; base = None; wanted = None; content = [] }) v.pulls
 inside_keeps f from (body.Page file stamp page bytes) v = page_keeps f stamp page bytes (pull_of v.pulls file) v.pulls
+inside_keeps f from (body.Delta file wanted pages) v = delta_keeps f (pages_in (copy_of v.store file)) wanted pages (pull_of v.pulls file) v.pulls
 inside_keeps f from _ v = λ h. h
 
 framed_keeps : (c : Config) (me : ℕ) (p : Packet) (e : Option InEpoch) (v : SiteView) → Keeps v (takes_framed c me p e v)

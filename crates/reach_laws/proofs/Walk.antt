@@ -26,7 +26,7 @@ use Rattle.packet_format_laws.proofs.of_rest_laws.of_row_laws.StepForms.{step_fo
 use Rattle.packet_format_laws.specs.of_rest_laws.of_one_tree_laws.Places.{SiteIn, WorldFact}
 use Rattle.packet_format_laws.specs.of_rest_laws.of_one_tree_laws.Rest.{AllRest, IsRest}
 use Rattle.packet_format_laws.specs.of_rest_laws.of_one_tree_laws.Roles.{EventFact, RolesDo}
-use Rattle.packet_format_laws.proofs.of_rest_laws.of_one_tree_laws.Run.{event_fact, sent_fact}
+use Rattle.packet_format_laws.proofs.of_rest_laws.of_one_tree_laws.Run.{arrives_fact, event_fact}
 use Rattle.packet_format_laws.proofs.of_rest_laws.of_one_tree_laws.Staying.{stays}
 use Rattle.packet_format_laws.proofs.of_rest_laws.of_one_tree_laws.Steps.{DoesWith, step_fine}
 use Rattle.tree_laws.specs.Doing.{WriteFact}
@@ -161,7 +161,7 @@ module _ (c : Config) (lines : List ScheduleLine) (fit : LinesFit c lines) (role
       record {
         comes = sent_comes w x sent g.stand.good;
         stands = λ r. sent_stands c w (g.stand.values r (g.stand.holds r).followed) x sent;
-        fact = λ r. (refl, sent_fact c w x (g.stand.holds r) sent);
+        fact = λ r. (refl, arrives_fact c w x v (g.stand.holds r) sent here);
         told = f.told;
         written = f.written;
       }

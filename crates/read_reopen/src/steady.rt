@@ -5,7 +5,7 @@ ghost use Rattle.read_reopen.specs.Held.{held_by, let_go, step_of};
 use locus_ids::{EpochId, FileId, Stamp};
 
 /// A descriptor that reads one version, whatever epochs come and go.
-#[derive(Clone, Copy, PartialEq, Eq)]
+#[derive(Clone, Copy)]
 pub struct Steady {
     pub file: FileId,
     /// The version that all its reads are of.
@@ -19,7 +19,7 @@ pub struct Steady {
 }
 
 /// What a read by a steady descriptor asks first.
-#[derive(Clone, Copy, PartialEq, Eq)]
+#[derive(Clone, Copy)]
 pub enum SteadyStep {
     /// The instance that holds the descriptor reads.
     Read,

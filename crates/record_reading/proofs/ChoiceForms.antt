@@ -103,7 +103,9 @@ copy_packet_sound w y h0 =
     cond_either (bytes_eq w (codes "pull")) _ _ _ h4 (λ b e. said packet_kind_text any w (codes "pull") packet.Pull y b e refl refl) (λ b4 h5.
     cond_either (bytes_eq w (codes "page")) _ _ _ h5 (λ b e. said packet_kind_text any w (codes "page") packet.Page y b e refl refl) (λ b5 h6.
     cond_either (bytes_eq w (codes "have")) _ _ _ h6 (λ b e. said packet_kind_text any w (codes "have") packet.Have y b e refl refl) (λ b6 h7.
-    service_packet_sound w y h7)))))))
+    cond_either (bytes_eq w (codes "want")) _ _ _ h7 (λ b e. said packet_kind_text any w (codes "want") packet.Want y b e refl refl) (λ b7 h8.
+    cond_either (bytes_eq w (codes "delta")) _ _ _ h8 (λ b e. said packet_kind_text any w (codes "delta") packet.Delta y b e refl refl) (λ b8 h9.
+    service_packet_sound w y h9)))))))))
 
 packet_sound : (w : List ℕ) (y : PacketKind) → packet_in w ≡ Some y → Says packet_kind_text any w y
 packet_sound w y h0 =
@@ -141,6 +143,8 @@ packet_complete packet.Notify h = refl
 packet_complete packet.Pull h = refl
 packet_complete packet.Page h = refl
 packet_complete packet.Have h = refl
+packet_complete packet.Want h = refl
+packet_complete packet.Delta h = refl
 
 pub packet_form : Exact packet_kind_text any packet_in
 packet_form = record { sound = packet_sound; complete = packet_complete }

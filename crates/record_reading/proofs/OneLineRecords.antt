@@ -283,6 +283,8 @@ packet_line packet.Notify = refl
 packet_line packet.Pull = refl
 packet_line packet.Page = refl
 packet_line packet.Have = refl
+packet_line packet.Want = refl
+packet_line packet.Delta = refl
 
 call_id_line : (c : CallId) → is_call_id c ≡ true → free 10 (call_id_text c) ≡ true
 call_id_line c h =

@@ -48,7 +48,9 @@ copy_packet_in w =
     cond (bytes_eq w (codes "notify")) (Some packet.Notify) (
     cond (bytes_eq w (codes "pull")) (Some packet.Pull) (
     cond (bytes_eq w (codes "page")) (Some packet.Page) (
-    cond (bytes_eq w (codes "have")) (Some packet.Have) (service_packet_in w)))))))
+    cond (bytes_eq w (codes "have")) (Some packet.Have) (
+    cond (bytes_eq w (codes "want")) (Some packet.Want) (
+    cond (bytes_eq w (codes "delta")) (Some packet.Delta) (service_packet_in w)))))))))
 
 abbrev pub packet_in : List ℕ → Option PacketKind
 packet_in w =

@@ -2,11 +2,11 @@
 ghost use Rattle.std.specs.Prelude.{◌≡◌, IfOk};
 ghost use Rattle.record_reading.specs.Requests.{act_in, act_with, content_act, cut_in, find_in, insert_in, place_in, probe_in, read_act_in, remove_in, rename_in, write_in};
 
-use line_text::{hex_bytes, number, two_words};
+use line_text::{hex_bytes, is_text, number, two_words};
 use locus_ids::NoMemory;
 use locus_ids::sizes::FILE_BYTES;
 use record_words::answers::{bytes_read, committed, done, found};
-use record_words::fields::{self, inode, is_word, short_number};
+use record_words::fields::{self, inode, short_number};
 use record_words::lists;
 use std::alloc::Global;
 use trace_book::{Op, Outcome};
@@ -25,25 +25,25 @@ pub(crate) fn act(alloc: Global, bytes: &[u8]) -> Result<Option<(Op, Outcome)>, 
 fn act_with(alloc: Global, word: &[u8], rest: &[u8]) -> Result<Option<(Op, Outcome)>, NoMemory>
     ensures { IfOk result (λ o. o ≡ act_with word.now rest.now) }
 {
-    if is_word(word, b"probe") {
+    if is_text(word, b"probe") {
         return probe(alloc, rest);
     }
-    if is_word(word, b"find") {
+    if is_text(word, b"find") {
         return find(alloc, rest);
     }
-    if is_word(word, b"insert") {
+    if is_text(word, b"insert") {
         return insert(alloc, rest);
     }
-    if is_word(word, b"remove") {
+    if is_text(word, b"remove") {
         return remove(alloc, rest);
     }
-    if is_word(word, b"rename") {
+    if is_text(word, b"rename") {
         return rename(alloc, rest);
     }
-    if is_word(word, b"empty") {
+    if is_text(word, b"empty") {
         return Ok(done(alloc, rest)?.map(|outcome| (Op::Empty, outcome)));
     }
-    if is_word(word, b"mend") {
+    if is_text(word, b"mend") {
         return Ok(done(alloc, rest)?.map(|outcome| (Op::Mend, outcome)));
     }
     content_act(alloc, word, rest)
@@ -53,19 +53,19 @@ fn act_with(alloc: Global, word: &[u8], rest: &[u8]) -> Result<Option<(Op, Outco
 fn content_act(alloc: Global, word: &[u8], rest: &[u8]) -> Result<Option<(Op, Outcome)>, NoMemory>
     ensures { IfOk result (λ o. o ≡ content_act word.now rest.now) }
 {
-    if is_word(word, b"read") {
+    if is_text(word, b"read") {
         return read(alloc, rest);
     }
-    if is_word(word, b"write") {
+    if is_text(word, b"write") {
         return write(alloc, rest);
     }
-    if is_word(word, b"cut") {
+    if is_text(word, b"cut") {
         return cut(alloc, rest);
     }
-    if is_word(word, b"commit") {
+    if is_text(word, b"commit") {
         return Ok(committed(alloc, rest)?.map(|outcome| (Op::Commit, outcome)));
     }
-    if is_word(word, b"abort") {
+    if is_text(word, b"abort") {
         return Ok(done(alloc, rest)?.map(|outcome| (Op::Abort, outcome)));
     }
     Ok(None)

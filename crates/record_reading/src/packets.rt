@@ -1,31 +1,31 @@
 ghost use Rattle.std.specs.Prelude.{◌≡◌};
 ghost use Rattle.record_reading.specs.Records.{copy_packet_in, packet_in, service_packet_in};
 
-use record_words::fields::is_word;
+use line_text::is_text;
 use trace_book::PacketKind;
 
 pub(crate) fn packet(word: &[u8]) -> Option<PacketKind>
     ensures { result ≡ packet_in word.now }
 {
-    if is_word(word, b"poll") {
+    if is_text(word, b"poll") {
         return Some(PacketKind::Poll);
     }
-    if is_word(word, b"promise") {
+    if is_text(word, b"promise") {
         return Some(PacketKind::Promise);
     }
-    if is_word(word, b"refuse") {
+    if is_text(word, b"refuse") {
         return Some(PacketKind::Refuse);
     }
-    if is_word(word, b"install") {
+    if is_text(word, b"install") {
         return Some(PacketKind::Install);
     }
-    if is_word(word, b"joined") {
+    if is_text(word, b"joined") {
         return Some(PacketKind::Joined);
     }
-    if is_word(word, b"report") {
+    if is_text(word, b"report") {
         return Some(PacketKind::Report);
     }
-    if is_word(word, b"reportok") {
+    if is_text(word, b"reportok") {
         return Some(PacketKind::ReportOk);
     }
     copy_packet(word)
@@ -35,26 +35,32 @@ pub(crate) fn packet(word: &[u8]) -> Option<PacketKind>
 fn copy_packet(word: &[u8]) -> Option<PacketKind>
     ensures { result ≡ copy_packet_in word.now }
 {
-    if is_word(word, b"look") {
+    if is_text(word, b"look") {
         return Some(PacketKind::Look);
     }
-    if is_word(word, b"lookss") {
+    if is_text(word, b"lookss") {
         return Some(PacketKind::LookSs);
     }
-    if is_word(word, b"lookdone") {
+    if is_text(word, b"lookdone") {
         return Some(PacketKind::LookDone);
     }
-    if is_word(word, b"notify") {
+    if is_text(word, b"notify") {
         return Some(PacketKind::Notify);
     }
-    if is_word(word, b"pull") {
+    if is_text(word, b"pull") {
         return Some(PacketKind::Pull);
     }
-    if is_word(word, b"page") {
+    if is_text(word, b"page") {
         return Some(PacketKind::Page);
     }
-    if is_word(word, b"have") {
+    if is_text(word, b"have") {
         return Some(PacketKind::Have);
+    }
+    if is_text(word, b"want") {
+        return Some(PacketKind::Want);
+    }
+    if is_text(word, b"delta") {
+        return Some(PacketKind::Delta);
     }
     service_packet(word)
 }
@@ -63,34 +69,34 @@ fn copy_packet(word: &[u8]) -> Option<PacketKind>
 fn service_packet(word: &[u8]) -> Option<PacketKind>
     ensures { result ≡ service_packet_in word.now }
 {
-    if is_word(word, b"open") {
+    if is_text(word, b"open") {
         return Some(PacketKind::Open);
     }
-    if is_word(word, b"openss") {
+    if is_text(word, b"openss") {
         return Some(PacketKind::OpenSs);
     }
-    if is_word(word, b"opened") {
+    if is_text(word, b"opened") {
         return Some(PacketKind::Opened);
     }
-    if is_word(word, b"opendone") {
+    if is_text(word, b"opendone") {
         return Some(PacketKind::OpenDone);
     }
-    if is_word(word, b"op") {
+    if is_text(word, b"op") {
         return Some(PacketKind::Op);
     }
-    if is_word(word, b"opdone") {
+    if is_text(word, b"opdone") {
         return Some(PacketKind::OpDone);
     }
-    if is_word(word, b"close") {
+    if is_text(word, b"close") {
         return Some(PacketKind::Close);
     }
-    if is_word(word, b"closed") {
+    if is_text(word, b"closed") {
         return Some(PacketKind::Closed);
     }
-    if is_word(word, b"closedok") {
+    if is_text(word, b"closedok") {
         return Some(PacketKind::ClosedOk);
     }
-    if is_word(word, b"closedone") {
+    if is_text(word, b"closedone") {
         return Some(PacketKind::CloseDone);
     }
     None

@@ -5,9 +5,8 @@ ghost use Rattle.record_reading.specs.Records.{kept_record, long_record, record_
 use crate::instance_records::{accept, act, answer, grant, look, refuse, release};
 use crate::site_records::{join, leave, packet, start, stopped, up};
 use crate::version_records::{adopt, commit};
-use line_text::two_words;
+use line_text::{is_text, two_words};
 use locus_ids::NoMemory;
-use record_words::fields::is_word;
 use std::alloc::Global;
 use trace_book::Record;
 
@@ -24,10 +23,10 @@ pub(crate) fn record(alloc: Global, bytes: &[u8]) -> Result<Option<Record>, NoMe
 fn short_record(word: &[u8]) -> Option<Record>
     ensures { result ≡ short_record word.now }
 {
-    if is_word(word, b"void") {
+    if is_text(word, b"void") {
         return Some(Record::Void);
     }
-    if is_word(word, b"budget") {
+    if is_text(word, b"budget") {
         return Some(Record::Budget);
     }
     None
@@ -37,28 +36,28 @@ fn short_record(word: &[u8]) -> Option<Record>
 fn long_record(alloc: Global, word: &[u8], rest: &[u8]) -> Result<Option<Record>, NoMemory>
     ensures { IfOk result (λ o. o ≡ long_record word.now rest.now) }
 {
-    if is_word(word, b"up") {
+    if is_text(word, b"up") {
         return Ok(up(rest));
     }
-    if is_word(word, b"stopped") {
+    if is_text(word, b"stopped") {
         return Ok(stopped(rest));
     }
-    if is_word(word, b"leave") {
+    if is_text(word, b"leave") {
         return Ok(leave(rest));
     }
-    if is_word(word, b"join") {
+    if is_text(word, b"join") {
         return Ok(join(rest));
     }
-    if is_word(word, b"grant") {
+    if is_text(word, b"grant") {
         return Ok(grant(rest));
     }
-    if is_word(word, b"release") {
+    if is_text(word, b"release") {
         return Ok(release(rest));
     }
-    if is_word(word, b"adopt") {
+    if is_text(word, b"adopt") {
         return Ok(adopt(rest));
     }
-    if is_word(word, b"packet") {
+    if is_text(word, b"packet") {
         return Ok(packet(rest));
     }
     kept_record(alloc, word, rest)
@@ -68,25 +67,25 @@ fn long_record(alloc: Global, word: &[u8], rest: &[u8]) -> Result<Option<Record>
 fn kept_record(alloc: Global, word: &[u8], rest: &[u8]) -> Result<Option<Record>, NoMemory>
     ensures { IfOk result (λ o. o ≡ kept_record word.now rest.now) }
 {
-    if is_word(word, b"start") {
+    if is_text(word, b"start") {
         return start(alloc, rest);
     }
-    if is_word(word, b"call") {
+    if is_text(word, b"call") {
         return accept(alloc, rest);
     }
-    if is_word(word, b"look") {
+    if is_text(word, b"look") {
         return look(alloc, rest);
     }
-    if is_word(word, b"refuse") {
+    if is_text(word, b"refuse") {
         return refuse(alloc, rest);
     }
-    if is_word(word, b"act") {
+    if is_text(word, b"act") {
         return act(alloc, rest);
     }
-    if is_word(word, b"commit") {
+    if is_text(word, b"commit") {
         return commit(alloc, rest);
     }
-    if is_word(word, b"reply") {
+    if is_text(word, b"reply") {
         return answer(alloc, rest);
     }
     Ok(None)

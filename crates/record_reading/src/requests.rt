@@ -7,11 +7,11 @@ ghost use Rattle.record_reading.specs.AsRead.{served_stamp};
 ghost use Rattle.record_words.specs.Fields.{component_in, words_in};
 ghost use Rattle.record_reading.specs.Requests.{call_words_in, look_in, look_with, mend_in};
 
-use line_text::{call_of, two_words};
+use line_text::{call_of, is_text, two_words};
 use locus_ids::sizes::SITES;
 use locus_ids::{NoMemory, Stamp};
 use record_words::answers::served;
-use record_words::fields::{file, is_word};
+use record_words::fields::file;
 use record_words::lists;
 use std::alloc::Global;
 use trace_book::{Call, Served, What};
@@ -30,16 +30,16 @@ pub(crate) fn look(alloc: Global, bytes: &[u8]) -> Result<Option<(What, Served)>
 fn look_with(alloc: Global, word: &[u8], rest: &[u8]) -> Result<Option<(What, Served)>, NoMemory>
     ensures { IfOk result (λ o. o ≡ look_with word.now rest.now) }
 {
-    if is_word(word, b"name") {
+    if is_text(word, b"name") {
         return name(alloc, rest);
     }
-    if is_word(word, b"list") {
+    if is_text(word, b"list") {
         return Ok(served(alloc, rest)?.map(|served| (What::List, served)));
     }
-    if is_word(word, b"stat") {
+    if is_text(word, b"stat") {
         return Ok(served(alloc, rest)?.map(|served| (What::Stat, served)));
     }
-    if is_word(word, b"whole") {
+    if is_text(word, b"whole") {
         return whole(alloc, rest);
     }
     Ok(None)
@@ -96,7 +96,7 @@ fn mend(bytes: &[u8]) -> Option<Call>
     ensures { result ≡ mend_in bytes.now }
 {
     let (word, rest) = two_words(bytes)?;
-    if !is_word(word, b"mend") {
+    if !is_text(word, b"mend") {
         return None;
     }
     let file = file(rest)?;

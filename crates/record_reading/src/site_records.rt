@@ -4,9 +4,9 @@ ghost use Rattle.line_text.specs.Words.{two_words};
 ghost use Rattle.record_reading.specs.Records.{cause_in, group_with, join_in, leave_in, packet_record_in, start_in, stopped_in, up_in};
 
 use crate::packets;
-use line_text::two_words;
+use line_text::{is_text, two_words};
 use locus_ids::{ItemList, NoMemory};
-use record_words::fields::{self, any_site, counted, is_word};
+use record_words::fields::{self, any_site, counted};
 use record_words::lists;
 use std::alloc::Global;
 use trace_book::{BroughtList, Record, StopCause};
@@ -24,13 +24,13 @@ pub(crate) fn up(rest: &[u8]) -> Option<Record>
 fn cause(word: &[u8]) -> Option<StopCause>
     ensures { result ≡ cause_in word.now }
 {
-    if is_word(word, b"asked") {
+    if is_text(word, b"asked") {
         return Some(StopCause::Asked);
     }
-    if is_word(word, b"fuse") {
+    if is_text(word, b"fuse") {
         return Some(StopCause::Fuse);
     }
-    if is_word(word, b"fault") {
+    if is_text(word, b"fault") {
         return Some(StopCause::Fault);
     }
     None

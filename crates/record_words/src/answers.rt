@@ -5,10 +5,10 @@ ghost use Rattle.record_words.specs.Answers.{after_ok, committed_in, done_in, fo
 ghost use Rattle.record_words.specs.Fields.{inode_in, kind_in, words_in};
 ghost use Rattle.trace_book.specs.declared.operation.Outcome.TheVariants as outcome;
 
-use crate::fields::{inode, is_word, kind, stamp};
+use crate::fields::{inode, kind, stamp};
 use crate::lists::{components, data};
 use crate::refusals::refusal;
-use line_text::{hex_bytes, two_words};
+use line_text::{hex_bytes, is_text, two_words};
 use locus_ids::{ItemList, NoMemory};
 use std::alloc::Global;
 use trace_book::{Outcome, Reply, Served};
@@ -29,7 +29,7 @@ fn after_ok(bytes: &[u8]) -> Option<&[u8]>
     ensures none { IfNone result (after_ok bytes.now ≡ None) }
 {
     let (word, rest) = two_words(bytes)?;
-    if is_word(word, b"ok") {
+    if is_text(word, b"ok") {
         Some(rest)
     } else {
         None
@@ -46,7 +46,7 @@ fn refused(alloc: Global, bytes: &[u8]) -> Result<Option<Outcome>, NoMemory>
 pub fn done(alloc: Global, bytes: &[u8]) -> Result<Option<Outcome>, NoMemory>
     ensures { IfOk result (λ o. o ≡ done_in bytes.now) }
 {
-    if is_word(bytes, b"ok") {
+    if is_text(bytes, b"ok") {
         return Ok(Some(Outcome::Done));
     }
     refused(alloc, bytes)
@@ -106,7 +106,7 @@ pub fn reply(alloc: Global, bytes: &[u8]) -> Result<Option<Reply>, NoMemory>
 fn short_reply(alloc: Global, bytes: &[u8]) -> Result<Option<Reply>, NoMemory>
     ensures { IfOk result (λ o. o ≡ reply_with bytes.now None) }
 {
-    if is_word(bytes, b"ok") {
+    if is_text(bytes, b"ok") {
         let names = ItemList::new(alloc);
         return Ok(Some(Reply::Names { names }));
     }

@@ -1,20 +1,12 @@
 // Single words that keep no memory: numbers and the names of things.
 ghost use Rattle.std.specs.Prelude.{◌≡◌, ◌≤◌, ◌<◌, ◌^◌, IfSome, IfNone, Some, None};
-ghost use Rattle.std.specs.Str.{bytes_eq};
 ghost use Rattle.line_text.specs.Words.{number_in};
 ghost use Rattle.record_words.specs.Fields.{after_letter, any_site_in, brought_in, call_id_in, counted_in, epoch_in, file_from, file_in, group_in, inode_in, instance_in, kind_in, mode_in, optional_stamp_in, process_in, request_in, short_in, stamp_in};
 ghost use Rattle.record_words.specs.Order.{agrees};
 
-use line_text::{number, small_number, split_at};
+use line_text::{is_text, number, small_number, split_at};
 use locus_ids::sizes::{INODES, SITES};
 use locus_ids::{Brought, CallId, EpochId, FileId, Kind, Mode, Serial, Stamp};
-
-/// The word is this text.
-pub fn is_word(word: &[u8], text: &[u8]) -> bool
-    ensures { result ≡ bytes_eq word.now text.now }
-{
-    word == text
-}
 
 pub fn any_site(word: &[u8]) -> Option<u8>
     ensures { result ≡ any_site_in word.now }
@@ -90,7 +82,7 @@ fn agrees(site: u8, n: u32) -> bool
 pub fn optional_stamp(word: &[u8]) -> Option<Option<Stamp>>
     ensures { result ≡ optional_stamp_in word.now }
 {
-    if is_word(word, b"-") {
+    if is_text(word, b"-") {
         return Some(None);
     }
     let stamp = stamp(word)?;
@@ -164,19 +156,19 @@ pub fn instance(word: &[u8]) -> Option<Serial>
 pub fn mode(word: &[u8]) -> Option<Mode>
     ensures { result ≡ mode_in word.now }
 {
-    if is_word(word, b"r") {
+    if is_text(word, b"r") {
         return Some(Mode::Read);
     }
-    if is_word(word, b"w") {
+    if is_text(word, b"w") {
         return Some(Mode::Write);
     }
-    if is_word(word, b"x") {
+    if is_text(word, b"x") {
         return Some(Mode::Resolve);
     }
-    if is_word(word, b"m") {
+    if is_text(word, b"m") {
         return Some(Mode::Mend);
     }
-    if is_word(word, b"n") {
+    if is_text(word, b"n") {
         return Some(Mode::Make);
     }
     None
@@ -185,10 +177,10 @@ pub fn mode(word: &[u8]) -> Option<Mode>
 pub fn kind(word: &[u8]) -> Option<Kind>
     ensures { result ≡ kind_in word.now }
 {
-    if is_word(word, b"f") {
+    if is_text(word, b"f") {
         return Some(Kind::File);
     }
-    if is_word(word, b"d") {
+    if is_text(word, b"d") {
         return Some(Kind::Dir);
     }
     None

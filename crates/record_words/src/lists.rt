@@ -4,8 +4,8 @@ ghost use Rattle.line_text.specs.Words.{pieces};
 ghost use Rattle.record_words.specs.Fields.{all_in, component_in, copies_in, data_in, member_from, members_in, name_in, brought_in, stamp_in, stamps_in};
 ghost use Rattle.record_words.specs.Order.{ascend, is_brought_before, is_stamp_before};
 
-use crate::fields::{brought, counted, is_word, stamp};
-use line_text::{hex_bytes, small_number, split_at};
+use crate::fields::{brought, counted, stamp};
+use line_text::{hex_bytes, is_text, small_number, split_at};
 use locus_ids::sizes::SITES;
 use locus_ids::{Brought, Bytes, ItemList, Member, Members, Names, NoMemory, Stamp, Stamps};
 use std::alloc::Global;
@@ -39,7 +39,7 @@ pub fn data(alloc: Global, word: &[u8], most: usize) -> Result<Option<Bytes>, No
     requires { most < 2 ^ 32 }
     ensures { IfOk result (λ o. o ≡ data_in most word.now) }
 {
-    if is_word(word, b"-") {
+    if is_text(word, b"-") {
         return Ok(Some(Bytes::new(alloc)));
     }
     hex_bytes(alloc, word, most)
@@ -69,7 +69,7 @@ pub(crate) fn components(alloc: Global, bytes: &[u8]) -> Result<Option<Names>, N
 pub fn stamps(alloc: Global, word: &[u8]) -> Result<Option<Stamps>, NoMemory>
     ensures { IfOk result (λ o. o ≡ stamps_in word.now) }
 {
-    if is_word(word, b"-") {
+    if is_text(word, b"-") {
         return Ok(Some(ItemList::new(alloc)));
     }
     some_stamps(alloc, word)

@@ -4,9 +4,9 @@ ghost use Rattle.record_words.specs.Answers.{long_refusal, refusal_in, short_ref
 ghost use Rattle.record_words.specs.Fields.{any_site_in, inode_in, process_in, short_in, stamp_in, words_in};
 ghost use Rattle.locus_ids.specs.declared.refusal.Refusal.TheVariants as refusal;
 
-use crate::fields::{any_site, epoch, inode, is_word, process, short, stamp};
+use crate::fields::{any_site, epoch, inode, process, short, stamp};
 use crate::lists::component;
-use line_text::two_words;
+use line_text::{is_text, two_words};
 use locus_ids::{NoMemory, Refusal};
 use std::alloc::Global;
 
@@ -23,37 +23,37 @@ pub fn refusal(alloc: Global, bytes: &[u8]) -> Result<Option<Refusal>, NoMemory>
 fn short_refusal(word: &[u8]) -> Option<Refusal>
     ensures { result ≡ short_refusal word.now }
 {
-    if is_word(word, b"isdir") {
+    if is_text(word, b"isdir") {
         return Some(Refusal::IsDir);
     }
-    if is_word(word, b"nostorage") {
+    if is_text(word, b"nostorage") {
         return Some(Refusal::NoStorage);
     }
-    if is_word(word, b"nopartition") {
+    if is_text(word, b"nopartition") {
         return Some(Refusal::NoPartition);
     }
-    if is_word(word, b"baddescriptor") {
+    if is_text(word, b"baddescriptor") {
         return Some(Refusal::BadDescriptor);
     }
-    if is_word(word, b"toolong") {
+    if is_text(word, b"toolong") {
         return Some(Refusal::TooLong);
     }
-    if is_word(word, b"noinode") {
+    if is_text(word, b"noinode") {
         return Some(Refusal::NoInode);
     }
-    if is_word(word, b"badname") {
+    if is_text(word, b"badname") {
         return Some(Refusal::BadName);
     }
-    if is_word(word, b"readonly") {
+    if is_text(word, b"readonly") {
         return Some(Refusal::ReadOnly);
     }
-    if is_word(word, b"nodescriptor") {
+    if is_text(word, b"nodescriptor") {
         return Some(Refusal::NoDescriptor);
     }
-    if is_word(word, b"spent") {
+    if is_text(word, b"spent") {
         return Some(Refusal::Spent);
     }
-    if is_word(word, b"noconflict") {
+    if is_text(word, b"noconflict") {
         return Some(Refusal::NoConflict);
     }
     None
@@ -63,34 +63,34 @@ fn short_refusal(word: &[u8]) -> Option<Refusal>
 fn long_refusal(alloc: Global, word: &[u8], rest: &[u8]) -> Result<Option<Refusal>, NoMemory>
     ensures { IfOk result (λ o. o ≡ long_refusal word.now rest.now) }
 {
-    if is_word(word, b"busy") {
+    if is_text(word, b"busy") {
         return Ok(busy(rest));
     }
-    if is_word(word, b"absent") {
+    if is_text(word, b"absent") {
         return Ok(component(alloc, rest)?.map(|name| Refusal::Absent { name }));
     }
-    if is_word(word, b"notdir") {
+    if is_text(word, b"notdir") {
         return Ok(component(alloc, rest)?.map(|name| Refusal::NotDir { name }));
     }
-    if is_word(word, b"exists") {
+    if is_text(word, b"exists") {
         return Ok(inode(rest).map(|ino| Refusal::Exists { ino }));
     }
-    if is_word(word, b"notempty") {
+    if is_text(word, b"notempty") {
         return Ok(component(alloc, rest)?.map(|name| Refusal::NotEmpty { name }));
     }
-    if is_word(word, b"conflict") {
+    if is_text(word, b"conflict") {
         return Ok(conflict(rest));
     }
-    if is_word(word, b"ambiguous") {
+    if is_text(word, b"ambiguous") {
         return Ok(ambiguous(rest));
     }
-    if is_word(word, b"changed") {
+    if is_text(word, b"changed") {
         return Ok(epoch(rest).map(|epoch| Refusal::Changed { epoch }));
     }
-    if is_word(word, b"stale") {
+    if is_text(word, b"stale") {
         return Ok(epoch(rest).map(|epoch| Refusal::Stale { epoch }));
     }
-    if is_word(word, b"nospace") {
+    if is_text(word, b"nospace") {
         return Ok(no_space(rest));
     }
     Ok(None)

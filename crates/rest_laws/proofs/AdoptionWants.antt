@@ -4,7 +4,7 @@ use Rattle.role_steps.proofs.of_plain_facts.Numbers.{equal}
 use Rattle.role_steps.proofs.of_plain_facts.Tests.{and_first, and_second}
 use Rattle.locus_ids.specs.declared.config.Config.{Config}
 use Rattle.locus_ids.specs.declared.ids.Stamp.{Stamp}
-use Rattle.role_steps.specs.Adoption.{adopt_record, is_above_own, is_ready}
+use Rattle.role_steps.specs.Adoption.{adopt_record, is_ready, fits_own}
 use Rattle.role_steps.specs.Pulling.{is_complete}
 use Rattle.role_steps.specs.Storage.{copy_of}
 use Rattle.role_steps.specs.Views.{Frame, SiteView, Told, Shown}
@@ -30,7 +30,7 @@ pub record IsTaken (c : Config) (trace : List Line) (f : Frame) (v : SiteView) (
   pub inside : InsideFact c f trace v
   pub pull : PullFact c trace f.epoch f.me p
   pub ready : is_ready v p ≡ true
-  pub above : is_above_own p (copy_of v.store p.file) ≡ true
+  pub above : fits_own p (copy_of v.store p.file) ≡ true
   pub rest : RestTold c trace (Shown (adopt_record f p))
 
 abbrev pub tells : Frame → Pull → Told

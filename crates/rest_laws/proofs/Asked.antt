@@ -9,7 +9,7 @@ use Rattle.tree_laws.proofs.Waiting.{found_among}
 use Rattle.tree_laws.specs.Printed.{entries}
 use Rattle.tree_laws.specs.Packets.{serial_of}
 use Rattle.tree_laws.specs.Serials.{serial_asked}
-use Rattle.one_tree_laws.specs.of_user_laws.Rests.{ActRests, CloseRests, LookRests, OpenRests, ReplyRests, RequestRests}
+use Rattle.one_tree_laws.specs.of_user_laws.Rests.{ActRests, CloseRests, LookRests, OpenRests, ReadRests, ReplyRests, RequestRests}
 use Rattle.one_tree_laws.proofs.of_store_laws.ScriptOpened.{opened_as}
 use Rattle.one_tree_laws.proofs.of_store_laws.ScriptReading.{read_again, reopened_granted}
 use Rattle.one_tree_laws.proofs.of_store_laws.ScriptReplies.{gives_unchanged, strays_never}
@@ -25,6 +25,7 @@ use Rattle.one_tree_laws.specs.UserStepRests.{UserRests}
 use Rattle.one_tree_laws.specs.Rest.{Past}
 use Rattle.one_tree_laws.proofs.Staying.{rest_below}
 use Rattle.rest_laws.specs.Asking.{OpensAreSaid}
+use Rattle.rest_laws.proofs.ReadBytes.{gave_bytes}
 use Rattle.rest_laws.proofs.StoreStepReading.{reads_kept}
 
 pub opens_said : (c : Config) (t : List Line) → Past c t → OpensAreSaid c t
@@ -60,8 +61,12 @@ looks c t past = record {
 
 acts : (c : Config) (t : List Line) → Past c t → ActRests c t
 acts c t past = record {
-  done = λ e d i o n r here asked counted fact. act_waits c t e d i o fact.0 n r past.followed (record { accepted = here.caller; named = here.named; made_in = here.made_in }) here.inside asked counted fact.1;
+  done = λ e d i o n r here asked counted fact. (act_waits c t e d i o fact.0 n r past.followed (record { accepted = here.caller; named = here.named; made_in = here.made_in }) here.inside asked counted fact.1).0;
+  same = λ e d i o p n r here asked counted was. (act_waits c t e d i o p n r past.followed (record { accepted = here.caller; named = here.named; made_in = here.made_in }) here.inside asked counted was).1;
 }
+
+reads : (c : Config) (t : List Line) → Past c t → ReadRests c t
+reads c t past = record { gave = λ e i n at len bytes d request file stamp ss done was. (gave_bytes c t past.followed past.rest.each e i n at len bytes d request file stamp ss done was).1 }
 
 opens : (c : Config) (t : List Line) → Past c t → OpenRests c t
 opens c t past = record {
@@ -82,6 +87,7 @@ user_rests c few = record {
   replies = replies c;
   looks = looks c;
   acts = acts c;
+  reads = reads c;
   opens = opens c;
   closes = closes c;
 }

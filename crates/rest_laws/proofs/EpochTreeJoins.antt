@@ -19,6 +19,7 @@ use Rattle.trace_book.specs.declared.record.Record.TheVariants as says
 use Rattle.role_steps.specs.Adoption.{table_group}
 use Rattle.role_steps.specs.Epochs.{frame_in, is_sync_site, joined_view, joins, own_groups}
 use Rattle.role_steps.specs.Own.{Every}
+use Rattle.role_steps.specs.Pulling.{pull_key}
 use Rattle.role_steps.specs.Reports.{new_table}
 use Rattle.role_steps.specs.Requests.{instance_serial, waiting_key}
 use Rattle.role_steps.specs.Storage.{instance_key}
@@ -34,6 +35,7 @@ use Rattle.tree_model.specs.State.{has_number}
 use Rattle.tree_model.specs.Tree.{joined, left, tree_of}
 use Rattle.lawful_trace.specs.CallRows.{has_lost_mend, is_this}
 use Rattle.lawful_trace.specs.SiteRows.{MayJoin}
+use Rattle.tree_laws.specs.Deltas.{StepsFact}
 use Rattle.tree_laws.specs.Doing.{FrameFact, NoWrite, PullsFact, StoreHeld}
 use Rattle.tree_laws.specs.Following.{MayTell}
 use Rattle.tree_laws.specs.Instances.{IsStarted}
@@ -138,7 +140,7 @@ module _ (c : Config) (n : ℕ) (trace : List Line) (me : ℕ) (e : EpochId) (me
   users : UsersOf c f now v.users
   users = record {
     inside = record {
-      always = record { boot_is = h.users.always.boot_is; calls = h.users.always.calls; serials = h.users.always.serials; descriptors = h.users.always.descriptors; ascends = h.users.always.ascends };
+      always = record { boot_is = h.users.always.boot_is; calls = h.users.always.calls; serials = h.users.always.serials; descriptors = h.users.always.descriptors; ascends = h.users.always.ascends; cache = h.users.always.cache };
       inside = record {
         calls = subst (Every (WaitingFact c now f)) (sym h.users.calls) tt;
         instances = subst (Every (UserInstanceFact c now f)) (sym h.users.instances) tt;
@@ -164,6 +166,7 @@ module _ (c : Config) (n : ℕ) (trace : List Line) (me : ℕ) (e : EpochId) (me
       instances = subst (Every (InstanceFact c now f)) (sym h.instances) tt;
       apart = subst (AreApart instance_key) (sym h.instances) tt;
       has = λ i file w. absurd (none i file w);
+      steps = subst (StepsFact c now) (sym h.steps) tt;
     };
   }
     where
@@ -237,6 +240,7 @@ module _ (c : Config) (n : ℕ) (trace : List Line) (me : ℕ) (e : EpochId) (me
     groups = names_same (filter (is_sync_site c me members) (own_groups c me));
     tables = tables_new all_groups;
     pulls = subst (PullsFact c f now) (sym h.pulls) tt;
+    pulls_ascend = subst (Ascends pull_key) (sym h.pulls) tt;
     reports = packs_own all_groups;
   }
 

@@ -50,10 +50,10 @@ row_next k x xs b e = subst (λ (a : Bool). row copy_key k (x ∷ xs) ≡ cond a
     at true = refl
     at false = refl
 
-abbrev IsFound : List FileCopy → FileCopy → Type 0
+abbrev pub IsFound : List FileCopy → FileCopy → Type 0
 IsFound xs x = row copy_key (copy_key x) xs ≡ Some x
 
-each_found : (xs : List FileCopy) → Ascends copy_key xs → AllByRecursion (IsFound xs) xs
+pub each_found : (xs : List FileCopy) → Ascends copy_key xs → AllByRecursion (IsFound xs) xs
 each_found [] k = tt
 each_found (y ∷ ys) k = (row_next (copy_key y) y ys true (equal_self (copy_key y)), later ys k.0 (each_found ys k.1))
   where

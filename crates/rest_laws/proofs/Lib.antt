@@ -56,6 +56,7 @@ pub mod StoreStepAsking
 pub mod StoreStepOwing
 pub mod StoreStepWriting
 pub mod StoreStepSteps
+pub mod StoreStepHeld
 pub mod AdoptionResolving
 pub mod AdoptionHaving
 pub mod AdoptionMending
@@ -73,9 +74,12 @@ pub mod Resting
 pub mod Premises
 pub mod Packs
 pub mod Staying
+pub mod Readers
+pub mod ReadBytes
 pub mod Asked
 pub mod Roles
 pub mod Run
+pub mod Caching
 pub use Rattle.one_tree_laws.proofs as of_one_tree_laws
 pub use Rattle.one_tree_laws.proofs.of_call_row_laws as of_call_row_laws
 pub use Rattle.one_tree_laws.proofs.of_holding_laws as of_holding_laws
@@ -86,3 +90,4 @@ pub use Rattle.one_tree_laws.proofs.of_run_laws as of_run_laws
 pub use Rattle.one_tree_laws.proofs.of_store_laws as of_store_laws
 pub use Rattle.one_tree_laws.proofs.of_vector_laws as of_vector_laws
 pub use Rattle.tree_laws.proofs as of_tree_laws
+pub use Rattle.one_tree_laws.proofs.of_work_laws as of_work_laws

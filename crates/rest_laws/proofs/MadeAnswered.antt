@@ -241,7 +241,7 @@ module _ (c : Config) (n : ℕ) (trace : List Line) (f : Frame) (tab : SyncTable
       call = d;
       is_call = call_of_stays c n y trace sv.followed may f.epoch r.inst.us r.call r.process d here_now;
       group_is = fact.group_is;
-      stage = (granted_now, asked_as_said c trace f.epoch d r.request r.inst.serial r.file r.set r.kind asks);
+      stage = (granted_now, asked_as_said c trace f.epoch d r.request r.inst.serial r.file r.set r.kind asks, tt);
       vector_is = vector_is;
       sees = tt;
     }

@@ -28,7 +28,8 @@ users_beside c n t f v o past k fresh done = record {
   groups = k.groups;
   tables = stay_over c n (λ u x. IsOfUsers f.me x) (λ u. Every (TableFact c u f) v.tables) (λ x older comes mine facts. tables_stay c n f x older comes mine v.tables facts) o.told t past done.told fresh all_own k.tables;
   reports = k.reports;
-  pulls = stay_over c n (λ u x. IsOfUsers f.me x) (λ u. PullsFact c f u v.pulls) (λ x older comes mine facts. pulls_frame c n x older f v.pulls comes facts) o.told t past done.told fresh all_own k.pulls;
+  pulls = stay_over c n (λ u x. IsOfUsers f.me x) (λ u. PullsFact c f u v.pulls) (λ x older comes mine facts. pulls_frame c n x older f v.pulls comes (λ a. users_adopted f.me f.me x mine a) facts) o.told t past done.told fresh all_own k.pulls;
+  pulls_ascend = k.pulls_ascend;
 }
   where
     all_own : AllAt (λ u x. IsOfUsers f.me x) n t o.told

@@ -1,5 +1,5 @@
 -- The steps of all roles, as the laws of roles give them.
-use Rattle.std.proofs.Common.{◌≡◌, ◌≤◌, length, ℕ, Bool, true, false, cond, List, [], ◌∷◌, refl, sym, subst}
+use Rattle.std.proofs.Common.{◌≡◌, ◌≤◌, length, ℕ, true, List, [], ◌∷◌, Option, Some, None, refl, sym, subst}
 use Rattle.locus_ids.specs.declared.config.Config.{Config}
 use Rattle.locus_ids.specs.declared.ids.EpochId.{EpochId}
 use Rattle.locus_ids.specs.declared.ids.FileId.{FileId}
@@ -17,28 +17,34 @@ use Rattle.role_steps.specs.declared.instances.Instance.{Instance}
 use Rattle.role_steps.specs.declared.instances.Stage.{Stage}
 use Rattle.role_steps.specs.declared.instances.Stage.TheVariants as stage
 use Rattle.role_steps.specs.Opens.{OpenRequest}
-use Rattle.role_steps.specs.Pulling.{is_complete, next_page, on_notify, on_page, pull_packets}
+use Rattle.role_steps.specs.Pulling.{on_notify, on_page, pull_packets, on_delta}
 use Rattle.role_steps.specs.Reports.{on_open, on_look}
-use Rattle.role_steps.specs.Storage.{StoreRequest, closed_again, store_repeats, copy_of, on_open_ss, on_closed_ok, on_look_ss, on_pull}
+use Rattle.role_steps.specs.Storage.{StoreRequest, closed_again, store_repeats, copy_of, on_open_ss, on_closed_ok, on_look_ss, on_pull, on_want}
+use Rattle.role_steps.specs.declared.copies.FileCopy.{FileCopy}
 use Rattle.role_steps.specs.Using.{users_leave}
-use Rattle.role_steps.specs.Views.{Frame, Users, Store, Shown, packet}
+use Rattle.role_steps.specs.Views.{Frame, Users, Store, Shown}
 use Rattle.role_steps.specs.declared.pulls.Pull.{Pull}
 use Rattle.role_steps.specs.declared.synchronizing.SyncTable.{SyncTable}
 use Rattle.the_run.specs.Worlds.{Line}
+use Rattle.tree_model.specs.Epochs.{has_joined}
 use Rattle.tree_laws.specs.Doing.{IsOfUsers, NoWrite, Fine, StoreHeld, StoreFine, TableFine, PullsFact, PullsFine}
+use Rattle.tree_laws.specs.Deltas.{AnswerFact, DeltaFact, WantFact}
 use Rattle.tree_laws.specs.Packets.{BodyFact, PacketFact, LookFact, NotifyFact, OpenFact, OpenSsFact, ServeFact}
-use Rattle.tree_laws.specs.Instances.{Stands}
 use Rattle.tree_laws.specs.Past.{WasReleased}
-use Rattle.tree_laws.specs.Stores.{InstanceFact, PullFact, StageFact}
+use Rattle.tree_laws.specs.Printed.{entries}
+use Rattle.tree_laws.specs.Stores.{InstanceFact, StageFact}
 use Rattle.one_tree_laws.specs.of_user_laws.Leaving.{LeavesFine}
 use Rattle.one_tree_laws.proofs.of_user_laws.Leaving.{users_leave_fine}
 use Rattle.one_tree_laws.proofs.of_store_laws.Closes.{closed_ok_fine, closed_sent}
+use Rattle.one_tree_laws.proofs.of_store_laws.Differing.{remembered_differ}
 use Rattle.one_tree_laws.proofs.of_store_laws.MakingHere.{open_fine as begin_fine}
-use Rattle.one_tree_laws.proofs.of_store_laws.Pulls.{notify_fine, page_fine}
-use Rattle.one_tree_laws.proofs.of_store_laws.Serving.{look_served, page_sent}
+use Rattle.one_tree_laws.proofs.of_store_laws.Pulls.{notify_fine, asked_sent}
+use Rattle.one_tree_laws.proofs.of_store_laws.PullsComing.{page_fine, delta_fine}
+use Rattle.one_tree_laws.proofs.of_store_laws.Serving.{look_served, page_sent, want_sent}
 use Rattle.one_tree_laws.specs.of_sync_laws.Serving.{Serving}
 use Rattle.one_tree_laws.proofs.of_sync_laws.Looks.{look_fine}
 use Rattle.one_tree_laws.proofs.of_sync_laws.Makes.{make_fine}
+use Rattle.one_tree_laws.proofs.of_sync_laws.Members.{inside_joined}
 use Rattle.one_tree_laws.proofs.of_sync_laws.Notices.{repeats_fine}
 use Rattle.one_tree_laws.proofs.of_sync_laws.Opens.{open_fine}
 use Rattle.one_tree_laws.specs.Places.{UsersOf, UsersOutside}
@@ -53,7 +59,7 @@ use Rattle.rest_laws.proofs.EpochTreeJoins.{epochs_do}
 use Rattle.rest_laws.specs.TableNarrow.{CallsAreNarrow}
 use Rattle.rest_laws.proofs.TableClosing.{closes_fine as closes_fine_there}
 use Rattle.rest_laws.proofs.TableNotes.{notes_fine}
-use Rattle.rest_laws.proofs.StoreStepKnown.{known_call}
+use Rattle.rest_laws.proofs.StoreStepKnown.{known_call, stands_narrow}
 use Rattle.rest_laws.specs.MadeResting.{MadeRests}
 use Rattle.rest_laws.proofs.MadeOpened.{opens_answered}
 use Rattle.rest_laws.proofs.AdoptionChoosing.{adopts_fine}
@@ -68,6 +74,7 @@ use Rattle.rest_laws.specs.StoreStepSteps.{MendsRest}
 use Rattle.rest_laws.proofs.StoreStepNamed.{released_low}
 use Rattle.rest_laws.proofs.StoreStepResting.{store_rests}
 use Rattle.rest_laws.proofs.StoreStepStaying.{all_stay}
+use Rattle.rest_laws.proofs.StoreStepHeld.{reads_fine}
 use Rattle.rest_laws.proofs.StoreStepSteps.{acts_fine, closes_fine}
 use Rattle.rest_laws.proofs.MendStepWorking.{mends_as}
 use Rattle.rest_laws.proofs.Premises.{files_ordered, makes_said}
@@ -113,6 +120,9 @@ serves c n t f p us l stamp s ready held came =
 gives : (c : Config) (n : ℕ) (t : List Line) (f : Frame) (p : Packet) (file : FileId) (stamp : Stamp) (page : ℕ) (s : Store) → Ready c t f → StoreHeld c f t s → Came c t f p (body.Pull file stamp page) → StoreFine c n t f s (on_pull f p.from file stamp page s)
 gives c n t f p file stamp page s ready held came = page_sent c n t ready.past.followed (store_rests c t ready.past) f s held p.from file stamp page (its_fact c t f p (body.Pull file stamp page) came)
 
+wants : (c : Config) (n : ℕ) (t : List Line) (f : Frame) (p : Packet) (file : FileId) (wanted own : Stamp) (s : Store) → Ready c t f → StoreHeld c f t s → Came c t f p (body.Want file wanted own) → StoreFine c n t f s (on_want f p.from file wanted own s)
+wants c n t f p file wanted own s ready held came = want_sent c n t f s held p.from file wanted own (subst (λ (e : EpochId). WantFact c t e p.from file wanted own) came.received.epoch_is (its_fact c t f p (body.Want file wanted own) came))
+
 -- each close that isn't answered yet is told again
 closed_once : (c : Config) (t : List Line) (f : Frame) (i : Instance) (at : Stage) → StageFact c t f i at → Every (PacketFact c t) (closed_again f i at)
 closed_once c t f i (stage.Closing made a) k = closed_sent c t f i made a k.0
@@ -154,28 +164,32 @@ requests c = record {
 
 -- ---- propagation ----
 
+-- over which copy it is pulled, and which pages of it, is chosen as it begins
+begins_any : (f : Frame) (from : ℕ) (o : Option FileCopy) (p : Pull) (ps : List Pull) → on_notify f from o (record p { base = None; wanted = None }) ps ≡ on_notify f from o p ps
+begins_any f from None p ps = refl
+begins_any f from (Some own) p ps = refl
+
 notified : (c : Config) (n : ℕ) (t : List Line) (f : Frame) (p : Packet) (pull : Pull) (s : Store) (ps : List Pull) → Ready c t f → StoreHeld c f t s → PullsFact c f t ps → pull.content ≡ [] →
     Came c t f p (body.Notify pull.file pull.kind pull.set pull.size pull.stamp pull.vector pull.holder) → PullsFine c n t f (on_notify f p.from (copy_of s pull.file) pull ps)
 notified c n t f p pull s ps ready held all empty came =
-    subst (λ (b : List ℕ). PullsFine c n t f (on_notify f p.from (copy_of s pull.file) (record { file = pull.file; kind = pull.kind; set = pull.set; size = pull.size; stamp = pull.stamp; vector = pull.vector; holder = pull.holder; content = b }) ps)) (sym empty)
+    subst (PullsFine c n t f) (begins_any f p.from (copy_of s pull.file) pull ps)
+    (subst (λ (b : List ℕ). PullsFine c n t f (on_notify f p.from (copy_of s pull.file) (record pull { base = None; wanted = None; content = b }) ps)) (sym empty)
     (notify_fine c n t ready.past.followed (store_rests c t ready.past) f ready.frame s held.copies ps all p.from pull.file pull.kind pull.set pull.size pull.stamp pull.vector pull.holder
     (subst (λ (me : ℕ). NotifyFact c t f.epoch me pull.file pull.kind pull.set pull.size pull.stamp pull.vector pull.holder) came.received.to_is
-    (subst (λ (e : EpochId). NotifyFact c t e p.to pull.file pull.kind pull.set pull.size pull.stamp pull.vector pull.holder) came.received.epoch_is (its_fact c t f p (body.Notify pull.file pull.kind pull.set pull.size pull.stamp pull.vector pull.holder) came))))
+    (subst (λ (e : EpochId). NotifyFact c t e p.to pull.file pull.kind pull.set pull.size pull.stamp pull.vector pull.holder) came.received.epoch_is (its_fact c t f p (body.Notify pull.file pull.kind pull.set pull.size pull.stamp pull.vector pull.holder) came)))))
 
 paged : (c : Config) (n : ℕ) (t : List Line) (f : Frame) (p : Packet) (file : FileId) (stamp : Stamp) (page : ℕ) (bytes : List ℕ) (ps : List Pull) → Ready c t f → PullsFact c f t ps → Came c t f p (body.Page file stamp page bytes) → PullsFine c n t f (on_page f file stamp page bytes ps)
-paged c n t f p file stamp page bytes ps ready all came = page_fine c n t (store_rests c t ready.past) f ps all file stamp page bytes (its_fact c t f p (body.Page file stamp page bytes) came)
+paged c n t f p file stamp page bytes ps ready all came = page_fine c n t ready.past.followed (store_rests c t ready.past) f ready.frame ps all file stamp page bytes (its_fact c t f p (body.Page file stamp page bytes) came)
 
--- the next page of what is pulled stands
-pull_once : (c : Config) (t : List Line) (f : Frame) (x : Pull) → PullFact c t f.epoch f.me x → Every (PacketFact c t) (pull_packets f x)
-pull_once c t f x k = over (is_complete x)
-  where
-    over : (b : Bool) → Every (PacketFact c t) (cond b [] (packet f x.holder (body.Pull x.file x.stamp (next_page x)) ∷ []))
-    over true = tt
-    over false = (subst (λ (z : Stamp). Stands c t x.file z) k.stamp_is k.is_version.stands, tt)
+told : (c : Config) (n : ℕ) (t : List Line) (f : Frame) (p : Packet) (own : Option FileCopy) (file : FileId) (wanted : Stamp) (pages : List ℕ) (ps : List Pull) → Ready c t f → PullsFact c f t ps → Came c t f p (body.Delta file wanted pages) → DeltaFact c t f.me ps file wanted pages → PullsFine c n t f (on_delta f own file wanted pages ps)
+told c n t f p own file wanted pages ps ready all came delta =
+    delta_fine c n t ready.past.followed (store_rests c t ready.past) f ready.frame ps all own file wanted pages
+    (subst (λ (me : ℕ). AnswerFact c t f.epoch me file wanted) came.received.to_is (subst (λ (e : EpochId). AnswerFact c t e p.to file wanted) came.received.epoch_is (its_fact c t f p (body.Delta file wanted pages) came))) delta
 
-pulls_again : (c : Config) (t : List Line) (f : Frame) (ps : List Pull) → PullsFact c f t ps → Every (λ (x : Pull). Every (PacketFact c t) (pull_packets f x)) ps
-pulls_again c t f [] all = tt
-pulls_again c t f (x ∷ xs) all = (pull_once c t f x all.0, pulls_again c t f xs all.1)
+-- what is asked next of each pull stands
+pulls_again : (c : Config) (t : List Line) (f : Frame) (ps : List Pull) → has_joined (entries t) f.me f.epoch ≡ true → PullsFact c f t ps → Every (λ (x : Pull). Every (PacketFact c t) (pull_packets f x)) ps
+pulls_again c t f [] joined all = tt
+pulls_again c t f (x ∷ xs) joined all = (asked_sent c t f x joined all.0, pulls_again c t f xs joined all.1)
 
 -- ---- all ----
 
@@ -199,18 +213,23 @@ roles_do c few = record {
     calls_outside = λ n t me boot process words u past up outside k may rest. calls_outside c n t me boot process words u past up outside k may;
     opened = λ n t f p serial a v ready k came rest. opening.opened c (user_rests c few) n t f p serial a v ready k came rest;
     acted = λ n t f p serial k r u ready has came rest. answers.acted c (user_rests c few) n t f p serial k r u ready has came rest;
+    held = λ n t f p serial k len u ready has came rest. answers.held c (user_rests c few) n t f p serial k len u ready has came rest;
     closed = λ n t f p serial a u ready has came rest. answers.closed c (user_rests c few) n t f p serial a u ready has came rest;
     looked = λ n t f p call request take a u ready k came rest. answers.looked c (user_rests c few) n t f p call request take a u ready k came rest;
     leaves = λ n t f u ready k rest. leaves c n t f u ready k;
   };
   stores = record {
     first = λ me. first_held c few me;
+    narrow = λ t past f stamp stands. stands_narrow c t past.rest.each f stamp stands;
     opens = λ n t f p r s ready held came rest. opens c n t f p r s ready held came rest;
     acts = λ n t f p serial k o seen v ready inside came rest. acts_fine c (mends_rest c few) n t f p serial k o seen v ready inside came rest;
+    reads = λ n t f p serial k at len s ready held came rest. reads_fine c n t f p serial k at len s ready held came rest;
     closes = λ n t f p serial s ready held came rest. closes_fine c n t f p serial s ready held came rest;
     ends = λ n t f p i s ready held came rest. ends c n t f p i s ready held came;
     serves = λ n t f p us l stamp s ready held came rest. serves c n t f p us l stamp s ready held came;
     gives = λ n t f p file stamp page s ready held came rest. gives c n t f p file stamp page s ready held came;
+    wants = λ n t f p file wanted own s ready held came rest. wants c n t f p file wanted own s ready held came;
+    differs = λ t f file wanted own s ready held one two. remembered_differ c t file (store_rests c t ready.past).narrow s.steps held.instances.steps own wanted two one;
     repeats = λ t f s ready held. stores_again c t f s held;
   };
   tables = record {
@@ -225,7 +244,8 @@ roles_do c few = record {
   pulls = record {
     notified = λ n t f p pull s ps ready held all empty came. notified c n t f p pull s ps ready held all empty came;
     paged = λ n t f p file stamp page bytes ps ready all came. paged c n t f p file stamp page bytes ps ready all came;
-    repeats = λ t f ps ready all. every_flat (PacketFact c t) (pull_packets f) ps (pulls_again c t f ps all);
+    told = λ n t f p own file wanted pages ps ready all came delta. told c n t f p own file wanted pages ps ready all came delta;
+    repeats = λ t f ps ready all. every_flat (PacketFact c t) (pull_packets f) ps (pulls_again c t f ps (inside_joined c t ready.past.followed f.me f.epoch ready.frame.inside) all);
     adopts = λ n t f v ready inside fresh. adopts_fine c n t f v ready inside fresh;
     mends = λ n t f v ready inside rest. mends_start c (user_rests c few) n t f v ready inside rest;
   };

@@ -8,6 +8,7 @@ use Rattle.the_run.specs.Runs.{run, run_in}
 use Rattle.one_tree_laws.specs.of_row_laws.Voids.{LinesFit}
 use Rattle.one_tree_laws.proofs.of_row_laws.Fitting.{schedule_fits}
 use Rattle.one_tree_laws.specs.of_order_laws.Joining.{PacksAreOfSites}
+use Rattle.one_tree_laws.specs.Places.{WorldFact}
 use Rattle.tree_laws.specs.Following.{IsFollowed, RowsAreLawful}
 use Rattle.tree_laws.specs.Printed.{entries}
 use Rattle.tree_laws.proofs.Rows.{followed_rows}
@@ -18,8 +19,11 @@ use Rattle.rest_laws.proofs.Packs.{schedule_packs}
 use Rattle.rest_laws.proofs.Resting.{run_low, run_rests}
 use Rattle.rest_laws.proofs.Roles.{roles_do}
 
+pub run_facts : (c : Config) (lines : List ScheduleLine) → LinesFit c lines → PacksAreOfSites c → length c.packs ≤ 4 → WorldFact c (run_in c lines)
+run_facts c lines fit packs few = run_holds c lines fit (roles_do c few) (stays c) (run_rests c lines fit packs (run_low c lines))
+
 pub run_followed : (c : Config) (lines : List ScheduleLine) → LinesFit c lines → PacksAreOfSites c → length c.packs ≤ 4 → IsFollowed c (run_in c lines).trace
-run_followed c lines fit packs few = (run_holds c lines fit (roles_do c few) (stays c) (run_rests c lines fit packs (run_low c lines))).followed
+run_followed c lines fit packs few = (run_facts c lines fit packs few).followed
 
 pub schedule_rows : (lines : List ScheduleLine) → AreInOrder lines → RowsAreLawful (config_of lines) (entries (run lines).trace)
 schedule_rows lines order =

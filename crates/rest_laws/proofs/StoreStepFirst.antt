@@ -198,7 +198,7 @@ roots_ascend c p (g ∷ gs) k = over (p g) (roots_ascend c p gs k.1)
 groups_ascend : (c : Config) → Ascends (λ (g : ℕ). copy_key (root_copy c g)) all_groups
 groups_ascend c = ((omega arith, (omega arith, (omega arith, tt))), ((omega arith, (omega arith, tt)), ((omega arith, tt), (tt, tt))))
 
-pub first_held : (c : Config) → length c.packs ≤ 4 → (me : ℕ) → CopiesAreHeld c [] me (record { copies = formatted c me; instances = [] })
+pub first_held : (c : Config) → length c.packs ≤ 4 → (me : ℕ) → CopiesAreHeld c [] me (record { copies = formatted c me; instances = []; steps = [] })
 first_held c few me = record {
   are = λ f low. held_found c few me f low (f.ino == 1) (has_pack c f.group me) refl refl;
   ascends = roots_ascend c (λ g. has (pack_sites c g) me) all_groups (groups_ascend c);

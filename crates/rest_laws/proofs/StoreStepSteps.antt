@@ -40,11 +40,11 @@ use Rattle.rest_laws.proofs.StoreStepResting.{op_rests, plain_rests, store_rests
 use Rattle.rest_laws.proofs.StoreStepStaying.{all_stay, unspent_told}
 use Rattle.rest_laws.proofs.StoreStepWriting.{may_write}
 
-abbrev user_of : Packet → ℕ → Serial
+abbrev pub user_of : Packet → ℕ → Serial
 user_of p serial = record { us = p.from; serial = serial }
 
 -- the fact of the packet that came
-its_fact : (c : Config) (t : List Line) (f : Frame) (p : Packet) (b : Body) → Came c t f p b → BodyFact c t p b
+pub its_fact : (c : Config) (t : List Line) (f : Frame) (p : Packet) (b : Body) → Came c t f p b → BodyFact c t p b
 its_fact c t f p b came = subst (BodyFact c t p) came.body_is came.fact
 
 -- ---- closes ----
@@ -63,7 +63,7 @@ closes_fine c n t f p serial s ready held came rest =
 
 -- ---- operations ----
 
-op_low : (c : Config) (t : List Line) → Past c t → (e : EpochId) (ss : ℕ) (i : Serial) (k : ℕ) (o : Op) (seen : List ℕ) → OpFact c t e ss i k o seen → i.us ≤ sites_max
+pub op_low : (c : Config) (t : List Line) → Past c t → (e : EpochId) (ss : ℕ) (i : Serial) (k : ℕ) (o : Op) (seen : List ℕ) → OpFact c t e ss i k o seen → i.us ≤ sites_max
 op_low c t past e ss i k o seen (inl d) = named_low c t past.followed past.rest.each e i (done_named c t past.followed e i k o d.0 d.1)
 op_low c t past e ss i k o seen (inr q) = named_low c t past.followed past.rest.each e i (open_named c t e i q.at q.open_at.found)
 

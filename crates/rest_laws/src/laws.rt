@@ -15,6 +15,7 @@ ghost use Rattle.one_tree_laws.specs.of_sync_laws.Making.{MakesAreSaid};
 ghost use Rattle.one_tree_laws.specs.of_sync_laws.Serving.{CallsAreKnown, FilesAreOrdered};
 ghost use Rattle.one_tree_laws.specs.Rest.{IsRest, Past};
 ghost use Rattle.rest_laws.specs.Asking.{OpensAreSaid};
+ghost use Rattle.rest_laws.specs.Caching.{CachedPagesAreRight};
 ghost use Rattle.one_tree_laws.specs.Roles.{RolesDo};
 ghost use Rattle.tree_laws.specs.Following.{IsFollowed, RowsAreLawful};
 ghost use Rattle.tree_laws.specs.Printed.{entries};
@@ -48,4 +49,11 @@ pub fn every_run_is_one_tree()
     ensures told { (c : Config) (lines : List ScheduleLine) → LinesFit c lines → PacksAreOfSites c → length c.packs ≤ 4 → IsFollowed c (run_in c lines).trace }
     ensures rows { (c : Config) (lines : List ScheduleLine) → LinesFit c lines → PacksAreOfSites c → length c.packs ≤ 4 → RowsAreLawful c (entries (run_in c lines).trace) }
     ensures read { (lines : List ScheduleLine) → AreInOrder lines → RowsAreLawful (config_of lines) (entries (run lines).trace) }
+{}
+
+/// After every schedule whose lines are in range for the cluster each page that a running site has in memory is that page of its version:
+/// of the content that the commit with this stamp told. So it is of the lines that the reader of schedules accepts.
+pub fn cached_pages_are_of_their_versions()
+    ensures told { (c : Config) (lines : List ScheduleLine) → LinesFit c lines → PacksAreOfSites c → length c.packs ≤ 4 → CachedPagesAreRight c (run_in c lines) }
+    ensures read { (lines : List ScheduleLine) → AreInOrder lines → CachedPagesAreRight (config_of lines) (run lines) }
 {}

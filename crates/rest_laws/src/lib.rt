@@ -17,7 +17,8 @@ pub use epoch_tree::{
     requests_that_waited_are_served, sites_join_with_nothing,
 };
 pub use laws::{
-    every_run_has_its_rest, every_run_is_one_tree, roles_do_as_they_may, roles_rest_on_the_past,
+    cached_pages_are_of_their_versions, every_run_has_its_rest, every_run_is_one_tree,
+    roles_do_as_they_may, roles_rest_on_the_past,
 };
 pub use made::makes_get_their_numbers;
 pub use mend_step::{

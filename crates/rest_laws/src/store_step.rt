@@ -30,7 +30,7 @@ pub fn clusters_have_four_groups()
 /// A freshly formatted disk holds what its site holds before anything was told: of each group of which the site has a pack the empty
 /// root directory, and nothing else.
 pub fn formatted_disks_are_held()
-    ensures { (c : Config) → length c.packs ≤ 4 → (me : ℕ) → CopiesAreHeld c [] me (record { copies = formatted c me; instances = [] }) }
+    ensures { (c : Config) → length c.packs ≤ 4 → (me : ℕ) → CopiesAreHeld c [] me (record { copies = formatted c me; instances = []; steps = [] }) }
 {}
 
 /// What the steps of a storage site rest on is so wherever all that was told came as it may: who is in an epoch and who calls are of the

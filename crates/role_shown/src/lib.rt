@@ -4,6 +4,7 @@
 
 mod made;
 mod texts;
+mod versions;
 
 pub use made::{
     FILE, ROOT, boots, bytes, config, epoch, frame, inst, links, mounts, site, stamp, vector,

@@ -1,4 +1,5 @@
 // What an outbox has, as text: each packet by its receiver, its kind and what it says, and then each record as a trace has it.
+use crate::versions::push_pulling;
 use locus_ids::{Bytes, FileId, Mode, Refusal, Serial, Stamp};
 use std::alloc::Global;
 use std::test::Fail;
@@ -74,7 +75,7 @@ pub fn push_file(text: &mut String, file: FileId) -> Result<(), Fail> {
     Ok(())
 }
 
-fn push_stamp(text: &mut String, stamp: Stamp) -> Result<(), Fail> {
+pub(crate) fn push_stamp(text: &mut String, stamp: Stamp) -> Result<(), Fail> {
     let Stamp { site, n } = stamp;
     write!(text, " {site}.{n}")?;
     Ok(())
@@ -89,7 +90,9 @@ fn push_body(alloc: Global, text: &mut String, body: &Body) -> Result<(), Fail> 
         Body::Open { .. } | Body::OpenSs { .. } | Body::Opened { .. } | Body::OpenDone { .. } => {
             push_opening(alloc, text, body)
         }
-        Body::Op { .. } | Body::OpDone { .. } => push_operation(alloc, text, body),
+        Body::Op { .. } | Body::OpDone { .. } | Body::ReadHeld { .. } | Body::AsHeld { .. } => {
+            push_operation(alloc, text, body)
+        }
         Body::Close { .. } | Body::Closed { .. } => push_closing(text, body),
         Body::ClosedOk { .. } | Body::CloseDone { .. } => push_closed(alloc, text, body),
         Body::Look { .. } | Body::LookSs { .. } | Body::LookDone { .. } => {
@@ -221,6 +224,23 @@ fn push_operation(alloc: Global, text: &mut String, body: &Body) -> Result<(), F
             write!(text, "opdone {serial} {number} ")?;
             push_outcome(alloc, text, outcome)
         }
+        Body::ReadHeld {
+            serial,
+            number,
+            at,
+            len,
+        } => {
+            write!(text, "readheld {serial} {number} {at} {len}")?;
+            Ok(())
+        }
+        Body::AsHeld {
+            serial,
+            number,
+            len,
+        } => {
+            write!(text, "asheld {serial} {number} {len}")?;
+            Ok(())
+        }
         _ => Ok(()),
     }
 }
@@ -330,43 +350,4 @@ fn push_look_answer(alloc: Global, text: &mut String, answer: &LookAnswer) -> Re
         LookAnswer::No { why } => push_refusal(alloc, text, why)?,
     }
     Ok(())
-}
-
-fn push_pulling(text: &mut String, body: &Body) -> Result<(), Fail> {
-    match body {
-        Body::Notify {
-            file,
-            stamp,
-            holder,
-            ..
-        } => {
-            let holder = holder.get();
-            write!(text, "notify from {holder} ")?;
-            push_version(text, *file, *stamp)
-        }
-        Body::Pull { file, stamp, page } => {
-            write!(text, "pull {page} ")?;
-            push_version(text, *file, *stamp)
-        }
-        Body::Page {
-            file,
-            stamp,
-            page,
-            bytes,
-        } => {
-            let count = bytes.len();
-            write!(text, "page {page} of {count} ")?;
-            push_version(text, *file, *stamp)
-        }
-        Body::Have { file, stamp } => {
-            text.push_str("have ")?;
-            push_version(text, *file, *stamp)
-        }
-        _ => Ok(()),
-    }
-}
-
-fn push_version(text: &mut String, file: FileId, stamp: Stamp) -> Result<(), Fail> {
-    push_file(text, file)?;
-    push_stamp(text, stamp)
 }

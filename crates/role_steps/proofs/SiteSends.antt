@@ -11,7 +11,7 @@ use Rattle.wire_messages.specs.declared.packet.Packet.{Packet}
 use Rattle.role_steps.specs.Tables.{row, without_row, first_that}
 use Rattle.role_steps.specs.Views.{Frame, SiteView, Outcome, Promises, quiet, sends, tells, and_then}
 use Rattle.role_steps.specs.Epochs.{is_epoch_below, frame_in, leaves_of, leaves, promises, promised_view, reached, poll_packet, polled_sites, polls, round_id, begins_round, starts_merge, boots_where, merge_boot, part_boot, starts_part_of, starts_part, promise_packet, refuse_packet, on_poll, on_promise_of, on_refuse_of, report_packets, all_reports, joined_view, joins, may_install, is_in, joined_packet, on_install, on_joined, passed_over, unanswered, chosen_members, chosen_set, others_of, install_packet, installs_all, decides, decides_if, passes_over_of, passes_over, poll_repeats, install_repeats}
-use Rattle.role_steps.specs.Adoption.{notes_own_at, table_group, is_ready, is_above_own, adopts_pull, without_pull, adopts_first, adopts}
+use Rattle.role_steps.specs.Adoption.{notes_own_at, table_group, is_ready, fits_own, adopts_pull, without_pull, adopts_first, adopts}
 use Rattle.role_steps.specs.Storage.{copy_of}
 use Rattle.role_steps.specs.Mends.{has_mend_in, wants_mend, starts_mend_of, starts_mend, starts_mends_in, starts_mends, row_file}
 use Rattle.role_steps.specs.declared.pulls.Pull.{Pull}
@@ -142,8 +142,8 @@ adopts_pull_sends me boot f p v h b = record { view = notes_boot f p (row table_
 adopts_first_sends : (me boot : ℕ) (f : Frame) (ps : List Pull) (v : SiteView) → OfFrame (IsOwn me boot) f → v.boot ≡ boot → Sends me boot (adopts_first f ps v)
 adopts_first_sends me boot f [] v h b = quiet_sends me boot v b
 adopts_first_sends me boot f (p ∷ ps) v h b =
-    elim (is_ready v p) as (λ t. Sends me boot (elim t [ true ↦ elim (is_above_own p (copy_of v.store p.file)) [ true ↦ adopts_pull f p v | false ↦ adopts_first f ps (without_pull p v) ] | false ↦ adopts_first f ps v ])) [
-      | true ↦ elim (is_above_own p (copy_of v.store p.file)) as (λ t. Sends me boot (elim t [ true ↦ adopts_pull f p v | false ↦ adopts_first f ps (without_pull p v) ])) [
+    elim (is_ready v p) as (λ t. Sends me boot (elim t [ true ↦ elim (fits_own p (copy_of v.store p.file)) [ true ↦ adopts_pull f p v | false ↦ adopts_first f ps (without_pull p v) ] | false ↦ adopts_first f ps v ])) [
+      | true ↦ elim (fits_own p (copy_of v.store p.file)) as (λ t. Sends me boot (elim t [ true ↦ adopts_pull f p v | false ↦ adopts_first f ps (without_pull p v) ])) [
         | true ↦ adopts_pull_sends me boot f p v h b
         | false ↦ adopts_first_sends me boot f ps (without_pull p v) h b
       ]

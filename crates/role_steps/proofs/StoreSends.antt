@@ -20,16 +20,17 @@ use Rattle.wire_messages.specs.declared.body.CloseAnswer.TheVariants as closing
 use Rattle.role_steps.specs.Views.{Frame, Store, quiet, sends, and_then, packet}
 use Rattle.role_steps.specs.Versions.{is_below}
 use Rattle.role_steps.specs.Looks.{LookRequest}
-use Rattle.role_steps.specs.Storage.{StoreRequest, copy_of, instance_of, is_open, opened_packets, own_ino, opens, opens_made, on_open_ss_of, on_open_ss, is_spent, commits, next_stamp, next_vector, shuts, shuts_again, closes_owing, closes, on_close_at, on_close_of, on_close, ends_at, on_closed_ok_of, on_closed_ok, on_look_ss, has_page, pulled_page, on_pull, closed_again, store_repeats}
-use Rattle.role_steps.specs.Operations.{acts, acts_committed, commits_owing, last_committed, commit_op, executes_effect, executes, op_again, by_number, on_op_at, on_op_of, on_op}
+use Rattle.role_steps.specs.Storage.{StoreRequest, copy_of, instance_of, is_open, opened_packets, own_ino, opens, opens_made, on_open_ss_of, on_open_ss, is_spent, commits, next_stamp, next_vector, shuts, shuts_again, closes_owing, closes, on_close_at, on_close_of, on_close, ends_at, on_closed_ok_of, on_closed_ok, on_look_ss, has_page, pulled_page, on_pull, wanted_delta, on_want, closed_again, store_repeats}
+use Rattle.role_steps.specs.Operations.{acts, acts_committed, commits_owing, last_committed, commit_op, executes_effect, executes, op_again, by_number, on_op_at, on_op_of, on_op, on_read_held}
 use Rattle.role_steps.specs.OperationEffects.{Mending, effect_of}
-use Rattle.role_steps.specs.Pulling.{pull_of, pull_packets, is_complete, goes_on, replaces_pull, begins_pull, on_notify, is_awaited, on_page_of, on_page, pull_repeats}
+use Rattle.role_steps.specs.Pulling.{pull_of, pull_packets, is_complete, goes_on, replaces_pull, pull_over, begins_pull, on_notify, pages_in, is_delta, on_delta_of, on_delta, is_awaited, on_page_of, on_page, pull_repeats}
 use Rattle.role_steps.specs.declared.copies.FileCopy.{FileCopy}
 use Rattle.role_steps.specs.declared.instances.Instance.{Instance}
 use Rattle.role_steps.specs.declared.instances.Stage.{Stage}
 use Rattle.role_steps.specs.declared.instances.Stage.TheVariants as stage
 use Rattle.role_steps.specs.declared.pulls.Pull.{Pull}
 use Rattle.role_steps.specs.Own.{Every}
+use Rattle.role_steps.proofs.HeldReads.{held_read_sent}
 use Rattle.role_steps.proofs.Sending.{OfFrame, AllSent, every_cond, every_flat_map, sync_sent}
 
 -- ---- opens ----
@@ -108,6 +109,13 @@ pulled_page_sent P f h from file stamp page (Some x) = every_cond P (has_page st
 pub on_pull_sent : (P : Packet → Type 0) (f : Frame) → OfFrame P f → (from : ℕ) (file : FileId) (stamp : Stamp) (page : ℕ) (s : Store) → AllSent P (on_pull f from file stamp page s)
 on_pull_sent P f h from file stamp page s = pulled_page_sent P f h from file stamp page (copy_of s file)
 
+wanted_delta_sent : (P : Packet → Type 0) (f : Frame) → OfFrame P f → (from : ℕ) (file : FileId) (wanted own : Stamp) (s : Store) (o : Option FileCopy) → Every P (wanted_delta f from file wanted own s o)
+wanted_delta_sent P f h from file wanted own s None = tt
+wanted_delta_sent P f h from file wanted own s (Some x) = every_cond P (same_stamp x.stamp wanted) _ [] (h _ _, tt) tt
+
+pub on_want_sent : (P : Packet → Type 0) (f : Frame) → OfFrame P f → (from : ℕ) (file : FileId) (wanted own : Stamp) (s : Store) → AllSent P (on_want f from file wanted own s)
+on_want_sent P f h from file wanted own s = wanted_delta_sent P f h from file wanted own s (copy_of s file)
+
 closed_again_sent : (P : Packet → Type 0) (f : Frame) → OfFrame P f → (i : Instance) (g : Stage) → Every P (closed_again f i g)
 closed_again_sent P f h i stage.Running = tt
 closed_again_sent P f h i (stage.Closing made a) = sync_sent P f h i.file.group _
@@ -184,22 +192,33 @@ on_op_of_sent P f h m (Some i) n o seen s = on_op_at_sent P f h m i i.stage n o 
 pub on_op_sent : (P : Packet → Type 0) (f : Frame) → OfFrame P f → (m : Mending) (inst : Serial) (n : ℕ) (o : Op) (seen : List ℕ) (s : Store) → AllSent P (on_op f m inst n o seen s)
 on_op_sent P f h m inst n o seen s = on_op_of_sent P f h m (instance_of s inst) n o seen s
 
+pub on_read_held_sent : (P : Packet → Type 0) (f : Frame) → OfFrame P f → (inst : Serial) (n at len : ℕ) (s : Store) → AllSent P (on_read_held f inst n at len s)
+on_read_held_sent P f h inst n at len s = held_read_sent P f (λ to serial m r. h to _) (λ to serial m l. h to _) inst n at len s
+
 -- ---- pulls ----
 
 pull_sent : (P : Packet → Type 0) (f : Frame) → OfFrame P f → (p : Pull) → Every P (pull_packets f p)
 pull_sent P f h p = every_cond P (is_complete p) [] _ tt (h _ _, tt)
 
-begins_pull_sent : (P : Packet → Type 0) (f : Frame) → OfFrame P f → (p : Pull) (ps : List Pull) → AllSent P (begins_pull f p ps)
-begins_pull_sent P f h p ps =
-    elim (replaces_pull p (pull_of ps p.file)) as (λ b. AllSent P (elim b [ true ↦ goes_on f p ps | false ↦ quiet ps ])) [ true ↦ pull_sent P f h p | false ↦ tt ]
+begins_pull_sent : (P : Packet → Type 0) (f : Frame) → OfFrame P f → (o : Option FileCopy) (p : Pull) (ps : List Pull) → AllSent P (begins_pull f o p ps)
+begins_pull_sent P f h o p ps =
+    elim (replaces_pull o p (pull_of ps p.file)) as (λ b. AllSent P (elim b [ true ↦ goes_on f (pull_over o p) ps | false ↦ quiet ps ])) [ true ↦ pull_sent P f h (pull_over o p) | false ↦ tt ]
 
 pub on_notify_sent : (P : Packet → Type 0) (f : Frame) → OfFrame P f → (from : ℕ) (o : Option FileCopy) (p : Pull) (ps : List Pull) → AllSent P (on_notify f from o p ps)
-on_notify_sent P f h from None p ps = begins_pull_sent P f h p ps
+on_notify_sent P f h from None p ps = begins_pull_sent P f h None p ps
 on_notify_sent P f h from (Some own) p ps =
-    elim (same_stamp own.stamp p.stamp) as (λ b. AllSent P (elim b [ true ↦ sends (packet f from (body.Have p.file p.stamp) ∷ []) ps | false ↦ elim (is_below own.vector p.vector) [ true ↦ begins_pull f p ps | false ↦ quiet ps ] ])) [
+    elim (same_stamp own.stamp p.stamp) as (λ b. AllSent P (elim b [ true ↦ sends (packet f from (body.Have p.file p.stamp) ∷ []) ps | false ↦ elim (is_below own.vector p.vector) [ true ↦ begins_pull f (Some own) p ps | false ↦ quiet ps ] ])) [
       | true ↦ (h _ _, tt)
-      | false ↦ elim (is_below own.vector p.vector) as (λ b. AllSent P (elim b [ true ↦ begins_pull f p ps | false ↦ quiet ps ])) [ true ↦ begins_pull_sent P f h p ps | false ↦ tt ]
+      | false ↦ elim (is_below own.vector p.vector) as (λ b. AllSent P (elim b [ true ↦ begins_pull f (Some own) p ps | false ↦ quiet ps ])) [ true ↦ begins_pull_sent P f h (Some own) p ps | false ↦ tt ]
     ]
+
+on_delta_of_sent : (P : Packet → Type 0) (f : Frame) → OfFrame P f → (own : ℕ) (stamp : Stamp) (pages : List ℕ) (o : Option Pull) (ps : List Pull) → AllSent P (on_delta_of f own stamp pages o ps)
+on_delta_of_sent P f h own stamp pages None ps = tt
+on_delta_of_sent P f h own stamp pages (Some p) ps =
+    elim (is_delta own p stamp pages) as (λ b. AllSent P (elim b [ true ↦ goes_on f (record p { wanted = Some pages }) ps | false ↦ quiet ps ])) [ true ↦ pull_sent P f h (record p { wanted = Some pages }) | false ↦ tt ]
+
+pub on_delta_sent : (P : Packet → Type 0) (f : Frame) → OfFrame P f → (own : Option FileCopy) (file : FileId) (stamp : Stamp) (pages : List ℕ) (ps : List Pull) → AllSent P (on_delta f own file stamp pages ps)
+on_delta_sent P f h own file stamp pages ps = on_delta_of_sent P f h (pages_in own) stamp pages (pull_of ps file) ps
 
 on_page_of_sent : (P : Packet → Type 0) (f : Frame) → OfFrame P f → (stamp : Stamp) (page : ℕ) (bytes : List ℕ) (o : Option Pull) (ps : List Pull) → AllSent P (on_page_of f stamp page bytes o ps)
 on_page_of_sent P f h stamp page bytes None ps = tt

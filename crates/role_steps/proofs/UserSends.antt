@@ -17,9 +17,8 @@ use Rattle.wire_messages.specs.declared.body.Granted.TheVariants as granted
 use Rattle.wire_messages.specs.declared.body.CloseAnswer.{CloseAnswer}
 use Rattle.role_steps.specs.Tables.{first_that}
 use Rattle.role_steps.specs.Views.{Frame, Users}
-use Rattle.role_steps.specs.Requests.{descriptors_of, request_packets, asks_op_of, asks_close_of, user_instance, users_repeats}
-use Rattle.call_rules.specs.Descriptors.{beginning}
-use Rattle.role_steps.specs.Using.{accepted, frees, with_brought, content_answer, asks_want, next_want, goes_on, on_call, takes_answer, with_answer, takes_open, on_open_done_of, on_open_done, on_op_done_of, on_op_done, on_close_done_of, on_close_done, looks_again, takes_look, on_look_done_of, on_look_done, asks_open_of, asks_op_number, asks_take, own_call}
+use Rattle.role_steps.specs.Requests.{request_packets, asks_op_of, asks_close_of, user_instance, users_repeats}
+use Rattle.role_steps.specs.Using.{accepted_call, counted_call, with_brought, content_answer, asks_want, next_want, goes_on, on_call, takes_answer, with_answer, takes_open, on_open_done_of, on_open_done, on_op_done_of, on_op_done, asks_held_number, takes_copied, on_as_held_of, on_as_held, on_close_done_of, on_close_done, looks_again, takes_look, on_look_done_of, on_look_done, asks_open_of, asks_op_number, asks_take}
 use Rattle.role_steps.specs.Using as using
 use Rattle.role_steps.specs.declared.users.Asking.{Asking}
 use Rattle.role_steps.specs.declared.users.Asking.TheVariants as asking
@@ -59,8 +58,7 @@ goes_on_sent : (P : Packet → Type 0) (f : Frame) → OfFrame P f → (w : Wait
 goes_on_sent P f h w u = asks_want_sent P f h w (next_want f w u) u
 
 pub on_call_sent : (P : Packet → Type 0) (f : Frame) → OfFrame P f → (now : Option EpochId) (process : ℕ) (words : Call) (u : Users) → AllSent P (on_call f now process words u)
-on_call_sent P f h now process words u =
-    goes_on_sent P f h (accepted process (u.calls + 1) words (beginning (descriptors_of u process) now (own_call f.me f.boot (u.calls + 1)) words)) (frees process words (record u { calls = u.calls + 1 }))
+on_call_sent P f h now process words u = goes_on_sent P f h (accepted_call f now process words u) (counted_call f now process words u)
 
 takes_answer_sent : (P : Packet → Type 0) (f : Frame) → OfFrame P f → (w : WaitingCall) (a : Answer) (u : Users) → AllSent P (takes_answer f w a u)
 takes_answer_sent P f h w a u = goes_on_sent P f h (with_answer w a) u
@@ -78,10 +76,21 @@ on_open_done_sent P f h kept serial a u = on_open_done_of_sent P f h kept serial
 
 on_op_done_of_sent : (P : Packet → Type 0) (f : Frame) → OfFrame P f → (r : Result) (o : Option WaitingCall) (u : Users) → AllSent P (on_op_done_of f r o u)
 on_op_done_of_sent P f h r None u = tt
-on_op_done_of_sent P f h r (Some w) u = takes_answer_sent P f h w _ u
+on_op_done_of_sent P f h r (Some w) u = takes_answer_sent P f h w _ _
 
 pub on_op_done_sent : (P : Packet → Type 0) (f : Frame) → OfFrame P f → (serial n : ℕ) (r : Result) (u : Users) → AllSent P (on_op_done f serial n r u)
 on_op_done_sent P f h serial n r u = on_op_done_of_sent P f h r (first_that (asks_op_number serial n r) u.waiting) u
+
+takes_copied_sent : (P : Packet → Type 0) (f : Frame) → OfFrame P f → (w : WaitingCall) (c : Option (List ℕ)) (u : Users) → AllSent P (takes_copied f w c u)
+takes_copied_sent P f h w None u = tt
+takes_copied_sent P f h w (Some bytes) u = takes_answer_sent P f h w _ u
+
+on_as_held_of_sent : (P : Packet → Type 0) (f : Frame) → OfFrame P f → (o : Option WaitingCall) (u : Users) → AllSent P (on_as_held_of f o u)
+on_as_held_of_sent P f h None u = tt
+on_as_held_of_sent P f h (Some w) u = takes_copied_sent P f h w w.copied u
+
+pub on_as_held_sent : (P : Packet → Type 0) (f : Frame) → OfFrame P f → (serial n : ℕ) (u : Users) → AllSent P (on_as_held f serial n u)
+on_as_held_sent P f h serial n u = on_as_held_of_sent P f h (first_that (asks_held_number serial n) u.waiting) u
 
 on_close_done_of_sent : (P : Packet → Type 0) (f : Frame) → OfFrame P f → (serial : ℕ) (a : CloseAnswer) (o : Option WaitingCall) (u : Users) → AllSent P (on_close_done_of f serial a o u)
 on_close_done_of_sent P f h serial a None u = tt

@@ -42,7 +42,7 @@ abbrev pub no_members : Members
 no_members = record { boot = [] }
 
 abbrev pub left_view : SiteView → SiteView
-left_view v = record v { epoch = None; installs = []; reports = []; tables = []; store = record { copies = v.store.copies; instances = [] }; pulls = [] }
+left_view v = record v { epoch = None; installs = []; reports = []; tables = []; store = record { copies = v.store.copies; instances = []; steps = [] }; pulls = [] }
 
 abbrev pub with_users : SiteView → Users → SiteView
 with_users v u = record v { users = u }

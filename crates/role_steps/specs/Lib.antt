@@ -21,3 +21,4 @@ pub use Rattle.dir_reconcile.specs.of_dir_format as of_dir_format
 pub use Rattle.file_effects.specs as of_file_effects
 pub use Rattle.wire_messages.specs.of_trace_book as of_trace_book
 pub use Rattle.wire_messages.specs as of_wire_messages
+pub use Rattle.page_cache.specs as of_page_cache

@@ -1,5 +1,5 @@
 -- Numbered operations at the storage site: each number is executed once.
-use Rattle.std.specs.Prelude.{ℕ, ◌+◌, ◌==◌, Bool, true, false, List, [], ◌∷◌, Option, Some, None}
+use Rattle.std.specs.Prelude.{ℕ, ◌+◌, ◌==◌, Bool, true, false, cond, List, [], ◌∷◌, length, map, Option, Some, None}
 use Rattle.locus_ids.specs.declared.ids.Serial.{Serial}
 use Rattle.locus_ids.specs.declared.ids.Stamp.{Stamp}
 use Rattle.locus_ids.specs.declared.refusal.Refusal.TheVariants as refusal
@@ -12,6 +12,9 @@ use Rattle.file_effects.specs.Effects.{Effect}
 use Rattle.file_effects.specs.Works.{result_in, operated, counted, aborted}
 use Rattle.file_effects.specs.declared.work.Work.{Work}
 use Rattle.wire_messages.specs.declared.packet.Packet.{Packet}
+use Rattle.dir_reconcile.specs.of_dir_format.Entries.{nothing_seen}
+use Rattle.call_rules.specs.of_commit_graph.Grants.{is_read}
+use Rattle.wire_messages.specs.declared.body.Body.{Body}
 use Rattle.wire_messages.specs.declared.body.Body.TheVariants as body
 use Rattle.role_steps.specs.Views.{Frame, Store, Told, Shown, Outcome, quiet, sends, and_then, packet}
 use Rattle.role_steps.specs.Storage.{copy_of, content_of, instance_of, with_instance, free_pages, is_spent, commits, next_stamp, next_vector}
@@ -105,3 +108,29 @@ on_op_of f m (Some i) n o seen s = on_op_at f m i i.stage n o seen s
 
 abbrev pub on_op : Frame → Mending → Serial → ℕ → Op → List ℕ → Store → Outcome Store
 on_op f m inst n o seen s = on_op_of f m (instance_of s inst) n o seen s
+
+-- ---- ReadHeld ----
+
+-- a result without its bytes, where these are all that it says
+abbrev pub short_body : Body → Body
+short_body (body.OpDone serial n (result.Data bytes)) = body.AsHeld serial n (length bytes)
+short_body b = b
+
+abbrev pub short_packet : Packet → Packet
+short_packet p = record p { body = short_body p.body }
+
+-- an instance that was opened to read is of one version, which the asker has; any other is answered in full
+abbrev pub sent_in_form : Instance → List Packet → List Packet
+sent_in_form i ps = cond (is_read i.mode) (map short_packet ps) ps
+
+abbrev pub in_form : Option Instance → Outcome Store → Outcome Store
+in_form None o = o
+in_form (Some i) o = record o { sent = sent_in_form i o.sent }
+
+-- no read works on what a mend does
+abbrev pub nothing_to_mend : Mending
+nothing_to_mend = record { contents = []; kept = [] }
+
+-- it is executed and told as any read is; the last executed number is answered in the form of the operation that asks it
+abbrev pub on_read_held : Frame → Serial → (number at len : ℕ) → Store → Outcome Store
+on_read_held f inst n at len s = in_form (instance_of s inst) (on_op f nothing_to_mend inst n (op.Read at len) nothing_seen s)

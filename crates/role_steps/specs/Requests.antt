@@ -21,6 +21,7 @@ use Rattle.call_rules.specs.declared.answer.Answer.TheVariants as answer
 use Rattle.wire_messages.specs.declared.packet.Packet.{Packet}
 use Rattle.wire_messages.specs.declared.body.Opening.{Opening}
 use Rattle.wire_messages.specs.declared.body.Opening.TheVariants as how
+use Rattle.wire_messages.specs.declared.body.Body.{Body}
 use Rattle.wire_messages.specs.declared.body.Body.TheVariants as body
 use Rattle.role_steps.specs.Tables.{row, with_row, without_row}
 use Rattle.role_steps.specs.Views.{Frame, Users, Outcome, quiet, sends, packet, to_sync, pack_sites}
@@ -84,10 +85,15 @@ without_descriptor process fd u = record u { descriptors = without_row descripto
 
 -- ---- packets of a request ----
 
+-- a read whose bytes are at the site asks for their number alone
+abbrev pub operation_body : Option (List ℕ) → ℕ → ℕ → Op → List ℕ → Body
+operation_body (Some bytes) serial number (op.Read at len) seen = body.ReadHeld serial number at len
+operation_body copied serial number o seen = body.Op serial number o seen
+
 abbrev pub request_packets : Frame → WaitingCall → Asking → List Packet
 request_packets f w (asking.Look file what take) = to_sync f file.group (body.Look w.call w.process w.request take file what)
 request_packets f w (asking.Open serial file how) = to_sync f file.group (body.Open serial w.call w.process w.request file how)
-request_packets f w (asking.Op serial ss number o seen) = packet f ss (body.Op serial number o seen) ∷ []
+request_packets f w (asking.Op serial ss number o seen) = packet f ss (operation_body w.copied serial number o seen) ∷ []
 request_packets f w (asking.Close serial ss) = packet f ss (body.Close serial) ∷ []
 
 abbrev pub asks : Frame → WaitingCall → Users → Outcome Users

@@ -1,6 +1,7 @@
 -- The storage site: opens, closes, looks and pulls of what its packs hold.
-use Rattle.std.specs.Prelude.{ℕ, zero, suc, ◌+◌, ◌-◌, ◌*◌, ◌==◌, nat_lt, Bool, true, false, ◌&&◌, cond, List, [], ◌∷◌, length, Option, Some, None, slice_index}
+use Rattle.std.specs.Prelude.{ℕ, zero, suc, ◌+◌, ◌-◌, ◌*◌, ◌==◌, nat_lt, Bool, true, false, ◌&&◌, cond, List, [], ◌∷◌, ◌++◌, length, filter, take, Option, Some, None, slice_index}
 use Rattle.std.specs.List.{list_any, flat_map}
+use Rattle.std.specs.Option.{option_map}
 use Rattle.locus_ids.specs.declared.ids.FileId.{FileId}
 use Rattle.locus_ids.specs.declared.ids.Serial.{Serial}
 use Rattle.locus_ids.specs.declared.ids.Stamp.{Stamp}
@@ -20,7 +21,7 @@ use Rattle.dir_reconcile.specs.of_dir_format.declared.looking.LookResult.{LookRe
 use Rattle.dir_reconcile.specs.of_dir_format.declared.looking.LookResult.TheVariants as found
 use Rattle.dir_reconcile.specs.of_dir_format.Contents.{entries_of}
 use Rattle.dir_reconcile.specs.of_dir_format.Lookups.{lookup}
-use Rattle.file_effects.specs.of_file_content.Pages.{pages_of, page_of, ascending}
+use Rattle.file_effects.specs.of_file_content.Pages.{pages_of, page_of, pages_from, has_page as is_among, ascending}
 use Rattle.file_effects.specs.declared.work.Work.{Work}
 use Rattle.file_effects.specs.Works.{begun, committed}
 use Rattle.wire_messages.specs.declared.packet.Packet.{Packet}
@@ -33,9 +34,10 @@ use Rattle.wire_messages.specs.declared.body.CloseAnswer.TheVariants as closing
 use Rattle.wire_messages.specs.declared.body.MadeVersion.{MadeVersion}
 use Rattle.wire_messages.specs.declared.body.ReportedCopy.{ReportedCopy}
 use Rattle.role_steps.specs.Tables.{row, with_row, with_latest, total}
-use Rattle.role_steps.specs.Views.{Frame, Store, Told, Shown, Begins, Shuts, Reserves, DiskWrite, Outcome, quiet, sends, and_then, packet, to_sync, file_key, serial_key}
+use Rattle.role_steps.specs.Views.{Frame, FileSteps, Store, Told, Shown, Begins, Shuts, Reserves, DiskWrite, Outcome, quiet, sends, and_then, packet, to_sync, file_key, serial_key}
 use Rattle.role_steps.specs.Looks.{LookRequest}
 use Rattle.role_steps.specs.declared.copies.FileCopy.{FileCopy}
+use Rattle.role_steps.specs.declared.copies.Step.{Step}
 use Rattle.role_steps.specs.declared.instances.Instance.{Instance}
 use Rattle.role_steps.specs.declared.instances.Stage.{Stage}
 use Rattle.role_steps.specs.declared.instances.Stage.TheVariants as stage
@@ -48,12 +50,41 @@ copy_key x = file_key x.file
 abbrev pub copy_of : Store → FileId → Option FileCopy
 copy_of s file = row copy_key (file_key file) s.copies
 
-abbrev pub with_copy : FileCopy → Store → Store
-with_copy x s = record s { copies = with_row copy_key x s.copies }
-
 abbrev pub content_of : Option FileCopy → List ℕ
 content_of None = []
 content_of (Some x) = x.content
+
+abbrev pub stamp_of : Option FileCopy → Option Stamp
+stamp_of None = None
+stamp_of (Some x) = Some x.stamp
+
+-- ---- what is remembered of the versions written here ----
+
+-- how many commits and adoptions of a file are remembered
+abbrev pub steps_kept : ℕ
+steps_kept = 16
+
+abbrev pub steps_key : FileSteps → ℕ
+steps_key x = file_key x.file
+
+abbrev pub steps_in : Option FileSteps → List Step
+steps_in None = []
+steps_in (Some x) = x.steps
+
+abbrev pub steps_of : FileId → List FileSteps → List Step
+steps_of file all = steps_in (row steps_key (file_key file) all)
+
+-- a step of the file is remembered; one more than the last few is forgotten
+abbrev pub with_step : FileId → Step → List FileSteps → List FileSteps
+with_step file x all = with_row steps_key (record { file = file; steps = take steps_kept (x ∷ steps_of file all) }) all
+
+-- this copy, of which these pages were written, over what was there
+abbrev pub step_to : FileCopy → List ℕ → Option FileCopy → Step
+step_to x pages before = record { before = stamp_of before; after = x.stamp; pages = pages }
+
+-- a version is written: it takes the place of the copy, and the step is remembered
+abbrev pub with_version : FileCopy → List ℕ → Store → Store
+with_version x pages s = record s { copies = with_row copy_key x s.copies; steps = with_step x.file (step_to x pages (copy_of s x.file)) s.steps }
 
 abbrev pub instance_key : Instance → ℕ
 instance_key i = serial_key i.inst
@@ -222,9 +253,13 @@ commit_record f i stamp = says.Commit i.file f.me stamp i.parents i.work.content
 abbrev pub commit_write : Frame → Instance → List ℕ → Stamp → DiskWrite
 commit_write f i vector stamp = record { copy = copy_made i vector stamp; pages = ascending i.work.changed; says = commit_record f i stamp }
 
+-- its version stands on the disk
+abbrev pub with_commit : Instance → List ℕ → Stamp → Store → Store
+with_commit i vector stamp s = with_version (copy_made i vector stamp) (ascending i.work.changed) s
+
 abbrev pub commits_as : Frame → Instance → List ℕ → Stamp → Store → Outcome Store
 commits_as f i vector stamp s = record {
-  view = with_instance (instance_committed i vector stamp) (with_copy (copy_made i vector stamp) s);
+  view = with_instance (instance_committed i vector stamp) (with_commit i vector stamp s);
   sent = [];
   told = Shown (commit_record f i stamp) ∷ [];
   written = Some (commit_write f i vector stamp);
@@ -342,6 +377,32 @@ pulled_page f from file stamp page (Some x) = cond (has_page stamp page x) (pack
 
 abbrev pub on_pull : Frame → ℕ → FileId → Stamp → ℕ → Store → Outcome Store
 on_pull f from file stamp page s = sends (pulled_page f from file stamp page (copy_of s file)) s
+
+-- ---- Want ----
+
+-- the pages of a step, and of the steps before it, which lead back to the own version
+abbrev pub pages_back : Stamp → Step → Option Stamp → (Stamp → Option (List ℕ)) → Option (List ℕ)
+pages_back own x None earlier = None
+pages_back own x (Some before) earlier = cond (same_stamp before own) (Some x.pages) (option_map (λ pages. x.pages ++ pages) (earlier before))
+
+-- the pages that were written from the own version of a file to the wanted one, where its last steps lead from one to the other
+abbrev pub pages_since : Stamp → Stamp → List Step → Option (List ℕ)
+pages_since own wanted [] = None
+pages_since own wanted (x ∷ xs) = cond (same_stamp x.after wanted) (pages_back own x x.before (λ before. pages_since own before xs)) None
+
+-- those of so many pages that were written; all of them where that isn't known
+abbrev pub delta_of : ℕ → Option (List ℕ) → List ℕ
+delta_of count None = pages_from 0 count
+delta_of count (Some pages) = filter (is_among pages) (pages_from 0 count)
+
+-- a Want is answered exactly where the wanted version is committed here
+abbrev pub wanted_delta : Frame → ℕ → FileId → Stamp → Stamp → Store → Option FileCopy → List Packet
+wanted_delta f from file wanted own s None = []
+wanted_delta f from file wanted own s (Some x) = cond (same_stamp x.stamp wanted)
+    (packet f from (body.Delta file wanted (delta_of (pages_of (length x.content)) (pages_since own wanted (steps_of file s.steps)))) ∷ []) []
+
+abbrev pub on_want : Frame → ℕ → FileId → Stamp → Stamp → Store → Outcome Store
+on_want f from file wanted own s = sends (wanted_delta f from file wanted own s (copy_of s file)) s
 
 -- ---- a tick: each Closed that the synchronization site hasn't answered ----
 

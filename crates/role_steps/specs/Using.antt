@@ -1,5 +1,6 @@
 -- The using site: calls are accepted, follow their scripts by the answers that come, and are replied to.
 use Rattle.std.specs.Prelude.{ℕ, ◌+◌, ◌==◌, Bool, true, false, ◌&&◌, cond, List, [], ◌∷◌, ◌++◌, map, Option, Some, None}
+use Rattle.std.specs.Option.{is_some}
 use Rattle.locus_ids.specs.declared.ids.FileId.{FileId}
 use Rattle.locus_ids.specs.declared.ids.Serial.{Serial}
 use Rattle.locus_ids.specs.declared.ids.CallId.{CallId}
@@ -39,13 +40,18 @@ use Rattle.wire_messages.specs.declared.body.Granted.TheVariants as granted
 use Rattle.wire_messages.specs.declared.body.CloseAnswer.{CloseAnswer}
 use Rattle.wire_messages.specs.declared.body.CloseAnswer.TheVariants as closing
 use Rattle.wire_messages.specs.declared.body.Opening.TheVariants as how
+use Rattle.page_cache.specs.Cached.{CachedPages}
+use Rattle.page_cache.specs.Parts.{held_part, looked_up, with_part}
+use Rattle.page_cache.specs.declared.part.Part.{Part}
 use Rattle.role_steps.specs.Tables.{first_that}
 use Rattle.role_steps.specs.Views.{Frame, Users, Told, Shown, Takes, LooksAgain, Outcome, quiet, tells, and_then, sync_site}
-use Rattle.role_steps.specs.Requests.{without_waiting, with_user_instance, without_user_instance, descriptors_of, with_descriptor, without_descriptor, asks, asks_look, asks_open, asks_make, asks_op, asks_close, opening_of}
+use Rattle.role_steps.specs.Requests.{without_waiting, user_instance, with_user_instance, without_user_instance, descriptors_of, with_descriptor, without_descriptor, asks, asks_look, asks_open, asks_make, asks_op, asks_close, opening_of}
 use Rattle.role_steps.specs.declared.users.Asking.{Asking}
 use Rattle.role_steps.specs.declared.users.Asking.TheVariants as asking
 use Rattle.role_steps.specs.declared.users.WaitingCall.{WaitingCall}
 use Rattle.role_steps.specs.declared.users.DescriptorRow.{DescriptorRow}
+use Rattle.role_steps.specs.declared.users.UserInstance.{UserInstance}
+use Rattle.role_steps.specs.declared.users.VersionRead.{VersionRead}
 
 -- ---- replies ----
 
@@ -150,19 +156,57 @@ accepted process n words begins = record {
   request = 0;
   asking = asking.Close 0 0;
   brought = [];
+  copied = None;
 }
+
+-- what a read asks of an instance that was opened to read
+abbrev pub part_of_version : ℕ → ℕ → Option VersionRead → Option Part
+part_of_version at len None = None
+part_of_version at len (Some v) = Some (record { file = v.file; stamp = v.stamp; size = v.size; at = at; len = len })
+
+abbrev pub part_of_instance : ℕ → ℕ → Option UserInstance → Option Part
+part_of_instance at len None = None
+part_of_instance at len (Some i) = part_of_version at len i.reads
+
+-- the part of a version that an accepted call reads, by a descriptor that is held
+abbrev pub part_read : Users → Call → Beginning → Option Part
+part_read u (call.Read fd at len) (begins.Uses epoch inst) = part_of_instance at len (user_instance u inst.serial)
+part_read u words begins = None
+
+-- the bytes of it, where the site has all of them in memory
+abbrev pub copied_part : Option Part → CachedPages → Option (List ℕ)
+copied_part None pages = None
+copied_part (Some p) pages = held_part p pages
+
+abbrev pub used_part : Option Part → CachedPages → CachedPages
+used_part None pages = pages
+used_part (Some p) pages = looked_up p pages
+
+abbrev pub with_copied : Option (List ℕ) → WaitingCall → WaitingCall
+with_copied copied w = record w { copied = copied }
 
 abbrev pub accept_record : ℕ → ℕ → ℕ → ℕ → Call → Told
 accept_record me boot process n words = Shown (says.Accept me process (own_call me boot n) words)
 
--- A site in no epoch has no frame: the script then replies at once, and nothing is asked. It is given the frame of no
--- members, in which no group is packed.
+-- the accepted call, with the bytes that it reads where its site has all of them in memory
+abbrev pub accepted_call : Frame → Option EpochId → ℕ → Call → Users → WaitingCall
+accepted_call f now process words u =
+    let begins : Beginning = beginning (descriptors_of u process) now (own_call f.me f.boot (u.calls + 1)) words in
+    with_copied (copied_part (part_read u words begins) u.cache) (accepted process (u.calls + 1) words begins)
+
+-- the users once it is counted, and the pages of its read were used
+abbrev pub counted_users : Frame → Option EpochId → ℕ → Call → Users → Users
+counted_users f now process words u = record u { calls = u.calls + 1; cache = used_part (part_read u words (beginning (descriptors_of u process) now (own_call f.me f.boot (u.calls + 1)) words)) u.cache }
+
+-- and a close has freed its descriptor
+abbrev pub counted_call : Frame → Option EpochId → ℕ → Call → Users → Users
+counted_call f now process words u = frees process words (counted_users f now process words u)
+
+-- The cache is asked once, as the call is accepted. A site in no epoch has no frame: the script then replies at once, and nothing is
+-- asked. It is given the frame of no members, in which no group is packed.
 abbrev pub on_call : Frame → Option EpochId → ℕ → Call → Users → Outcome Users
 on_call f now process words u =
-    let n : ℕ = u.calls + 1 in
-    let w : WaitingCall = accepted process n words (beginning (descriptors_of u process) now (own_call f.me f.boot n) words) in
-    let counted : Users = frees process words (record u { calls = n }) in
-    and_then (tells (accept_record f.me f.boot process n words ∷ []) counted) (goes_on f w)
+    and_then (tells (accept_record f.me f.boot process (u.calls + 1) words ∷ []) (counted_call f now process words u)) (goes_on f (accepted_call f now process words u))
 
 -- ---- an answer is taken ----
 
@@ -196,6 +240,11 @@ abbrev pub asked_answer : Frame → ℕ → ℕ → Stamp → Asking → Answer
 asked_answer f serial ino stamp (asking.Open s file how.Read) = answer.Reading (own_serial f serial) (record { file = file; stamp = stamp })
 asked_answer f serial ino stamp _ = answer.Opened (own_serial f serial) ino
 
+-- the version of an open to read
+abbrev pub version_read : ℕ → Stamp → Asking → Option VersionRead
+version_read size stamp (asking.Open s file how.Read) = Some (record { file = file; stamp = stamp; size = size })
+version_read size stamp _ = None
+
 -- a mend's open brings the stamps of the kept versions, ascending
 abbrev pub opened_answer : Frame → ℕ → ℕ → Stamp → List Stamp → Call → Asking → Answer
 opened_answer f serial ino stamp kept (call.Mend file) asked = answer.Merging (own_serial f serial) kept
@@ -212,7 +261,7 @@ kept_for kept (Some file) = kept file
 abbrev pub takes_open : Frame → (FileId → List Stamp) → ℕ → WaitingCall → Granted → Users → Outcome Users
 takes_open f kept serial w (granted.Open ss ino size stamp vector) u =
     takes_answer f w (opened_answer f serial ino stamp (kept_for kept (mended_file w.words)) w.words w.asking)
-    (with_user_instance (record { serial = serial; ss = ss; vector = vector; ops = 0 }) u)
+    (with_user_instance (record { serial = serial; ss = ss; vector = vector; ops = 0; reads = version_read size stamp w.asking }) u)
 takes_open f kept serial w (granted.No why) u = takes_answer f w (answer.Refused why) u
 
 abbrev pub on_open_done_of : Frame → (FileId → List Stamp) → ℕ → Granted → Option WaitingCall → Users → Outcome Users
@@ -247,12 +296,44 @@ abbrev pub op_answer : Result → Answer
 op_answer (result.No why) = answer.Refused why
 op_answer r = answer.Did r
 
+-- the pages that the bytes bring whole are kept
+abbrev pub keeps_part : List ℕ → Option Part → Users → Users
+keeps_part bytes None u = u
+keeps_part bytes (Some p) u = record u { cache = with_part p bytes u.cache }
+
+-- those that the answer to a read of an instance brings which was opened to read
+abbrev pub keeps_brought : Asking → Result → Users → Users
+keeps_brought (asking.Op s ss number (op.Read at len) seen) (result.Data bytes) u = keeps_part bytes (part_of_instance at len (user_instance u s)) u
+keeps_brought asked r u = u
+
 abbrev pub on_op_done_of : Frame → Result → Option WaitingCall → Users → Outcome Users
 on_op_done_of f r None u = quiet u
-on_op_done_of f r (Some w) u = takes_answer f w (op_answer r) u
+on_op_done_of f r (Some w) u = takes_answer f w (op_answer r) (keeps_brought w.asking r u)
 
 abbrev pub on_op_done : Frame → ℕ → ℕ → Result → Users → Outcome Users
 on_op_done f serial n r u = on_op_done_of f r (first_that (asks_op_number serial n r) u.waiting) u
+
+-- ---- AsHeld ----
+
+-- it waits for this operation, whose bytes are at the site
+abbrev pub asks_held_number : ℕ → ℕ → WaitingCall → Bool
+asks_held_number serial n w = is_some w.copied && is_of w.asking
+  where
+    is_of : Asking → Bool
+    is_of (asking.Op s ss number (op.Read at len) seen) = (s == serial) && (number == n)
+    is_of _ = false
+
+-- the answer is made of the copied bytes
+abbrev pub takes_copied : Frame → WaitingCall → Option (List ℕ) → Users → Outcome Users
+takes_copied f w None u = quiet u
+takes_copied f w (Some bytes) u = takes_answer f w (answer.Did (result.Data bytes)) u
+
+abbrev pub on_as_held_of : Frame → Option WaitingCall → Users → Outcome Users
+on_as_held_of f None u = quiet u
+on_as_held_of f (Some w) u = takes_copied f w w.copied u
+
+abbrev pub on_as_held : Frame → ℕ → ℕ → Users → Outcome Users
+on_as_held f serial n u = on_as_held_of f (first_that (asks_held_number serial n) u.waiting) u
 
 -- ---- CloseDone ----
 

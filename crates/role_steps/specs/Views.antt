@@ -15,7 +15,9 @@ use Rattle.wire_messages.specs.of_trace_book.declared.record.Record.{Record}
 use Rattle.call_rules.specs.declared.answer.Answer.{Answer}
 use Rattle.wire_messages.specs.declared.packet.Packet.{Packet}
 use Rattle.wire_messages.specs.declared.body.Body.{Body}
+use Rattle.page_cache.specs.Cached.{CachedPages}
 use Rattle.role_steps.specs.declared.copies.FileCopy.{FileCopy}
+use Rattle.role_steps.specs.declared.copies.Step.{Step}
 use Rattle.role_steps.specs.declared.instances.Instance.{Instance}
 use Rattle.role_steps.specs.declared.pulls.Pull.{Pull}
 use Rattle.role_steps.specs.declared.rounds.InEpoch.{InEpoch}
@@ -26,10 +28,16 @@ use Rattle.role_steps.specs.declared.users.WaitingCall.{WaitingCall}
 use Rattle.role_steps.specs.declared.users.DescriptorRow.{DescriptorRow}
 pub use Rattle.call_rules.specs.of_commit_graph.Vectors.{all_sites}
 
--- what the storage site of a site has: its copies are durable, its instances are those of the epoch that it is in
+-- the last commits and adoptions of a file at a site, the latest first
+pub record FileSteps : Type 0 where
+  pub file : FileId
+  pub steps : List Step
+
+-- what the storage site of a site has: its copies are durable, its instances and what it remembers are of the epoch that it is in
 pub record Store : Type 0 where
   pub copies : List FileCopy
   pub instances : List Instance
+  pub steps : List FileSteps
 
 -- what the using site has; the numbers and the descriptors last through all epochs of one boot
 pub record Users : Type 0 where
@@ -39,6 +47,7 @@ pub record Users : Type 0 where
   pub instances : List UserInstance
   pub descriptors : List DescriptorRow
   pub hopeless : List FileId  -- directories whose mend was refused for want of room in this epoch
+  pub cache : CachedPages  -- pages of versions that were read in this boot
 
 pub record SiteView : Type 0 where
   pub boot : ℕ

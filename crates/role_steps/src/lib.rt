@@ -11,13 +11,14 @@ mod rounds;
 mod synchronizing;
 mod users;
 
-pub use copies::FileCopy;
+pub use copies::{FileCopy, Step};
 pub use instances::{Instance, Stage};
+pub use page_cache;
 pub use pulls::Pull;
 pub use rounds::{InEpoch, Promise, Promises, Round};
 pub use synchronizing::{
     Earlies, Early, FileRow, FileRows, Holding, Holdings, LastLook, LastLooks, OpenRow, OpenRows,
     OpenStage, SyncTable, VersionRow, VersionRows,
 };
-pub use users::{Answers, Asking, Contents, DescriptorRow, UserInstance, WaitingCall};
+pub use users::{Answers, Asking, Contents, DescriptorRow, UserInstance, VersionRead, WaitingCall};
 pub use wire_messages;

@@ -1,8 +1,9 @@
 use dir_reconcile::version_vector::Vector;
 use locus_ids::sizes::SITES;
 use locus_ids::{Bytes, FileId, Kind, SiteId, Sites, Stamp};
+use wire_messages::PageNumbers;
 
-/// A version whose pages a site pulls from a holder, the first page first.
+/// A version of which a site pulls pages from a holder, over its own copy of the file.
 #[derive(Drop)]
 pub struct Pull {
     pub file: FileId,
@@ -12,6 +13,10 @@ pub struct Pull {
     pub stamp: Stamp,
     pub vector: Vector<SITES>,
     pub holder: SiteId,
-    /// The pages that came.
+    /// The version of the own copy; `None` where there is none.
+    pub base: Option<Stamp>,
+    /// The pages to pull, ascending; `None` while the holder hasn't said which.
+    pub wanted: Option<PageNumbers>,
+    /// Those that came, in this order.
     pub content: Bytes,
 }

@@ -8,7 +8,7 @@ pub struct InEpoch {
 }
 
 /// A site's promise to a poll, with the sites that it reaches.
-#[derive(Clone, Copy, PartialEq, Eq)]
+#[derive(Clone, Copy)]
 pub struct Promise {
     pub site: SiteId,
     pub reach: Sites,

@@ -4,7 +4,7 @@ use locus_ids::{FileId, ItemList, Kind, Mode, Refusal, Serial, SiteId, Sites, St
 use wire_messages::Body;
 
 /// A version that was brought to the epoch or published in it. Size in bytes.
-#[derive(Clone, Copy, PartialEq, Eq)]
+#[derive(Clone, Copy)]
 pub struct VersionRow {
     pub stamp: Stamp,
     pub vector: Vector<SITES>,
@@ -15,7 +15,7 @@ pub struct VersionRow {
 pub type VersionRows = ItemList<VersionRow>;
 
 /// The version that a member is known to hold.
-#[derive(Clone, Copy, PartialEq, Eq)]
+#[derive(Clone, Copy)]
 pub struct Holding {
     pub site: SiteId,
     pub stamp: Stamp,
@@ -89,11 +89,21 @@ pub struct LastLook {
 pub type LastLooks = ItemList<LastLook>;
 
 /// A request that came before the group had started.
-#[derive(Drop)]
 pub struct Early {
     pub site: SiteId,
     pub process: u8,
     pub body: Body,
+}
+
+// Taken apart in one place: where a request is dropped, the prover sees one call, and not each text that its body may hold.
+impl Drop for Early {
+    fn drop(self) {
+        let Early {
+            site: _,
+            process: _,
+            body: _,
+        } = self;
+    }
 }
 
 /// In the order in which they came.

@@ -1,12 +1,21 @@
 use call_rules::Answer;
 use dir_reconcile::version_vector::Vector;
 use locus_ids::sizes::SITES;
-use locus_ids::{Bytes, FileId, ItemList, SiteId};
+use locus_ids::{Bytes, FileId, ItemList, SiteId, Stamp};
 use wire_messages::Opening;
 use wire_messages::trace_book::{Beginning, Call, Descriptor, Op, What};
 
-/// An instance that a using site has opened.
+/// The version that an instance reads which was opened to read.
 #[derive(Clone, Copy, PartialEq, Eq)]
+pub struct VersionRead {
+    pub file: FileId,
+    pub stamp: Stamp,
+    /// Its bytes.
+    pub size: u32,
+}
+
+/// An instance that a using site has opened.
+#[derive(Clone, Copy)]
 pub struct UserInstance {
     pub serial: u32,
     pub ss: SiteId,
@@ -14,6 +23,8 @@ pub struct UserInstance {
     pub vector: Vector<SITES>,
     /// The operations asked of it.
     pub ops: u32,
+    /// What it reads, where it was opened to read.
+    pub reads: Option<VersionRead>,
 }
 
 /// The request that a call waits for.
@@ -63,10 +74,12 @@ pub struct WaitingCall {
     pub asking: Asking,
     /// The whole contents that its looks have brought, for a mend.
     pub brought: Contents,
+    /// The bytes of its read, where its site had all of them in memory as it accepted the call.
+    pub copied: Option<Bytes>,
 }
 
 /// An open descriptor of a process.
-#[derive(Clone, Copy, PartialEq, Eq)]
+#[derive(Clone, Copy)]
 pub struct DescriptorRow {
     pub process: u8,
     pub fd: u16,

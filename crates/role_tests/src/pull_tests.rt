@@ -56,6 +56,8 @@ impl Pulling {
             stamp: stamp(1, n),
             vector,
             holder: from,
+            base: None,
+            wanted: None,
             content: Bytes::new(self.alloc),
         };
         let done = self
@@ -70,6 +72,15 @@ impl Pulling {
         let done = self
             .puller
             .on_page(&self.frame, FILE, stamp(1, n), page, bytes, &mut out);
+        told(self.alloc, out, done)
+    }
+
+    /// The holder of version 1.n says which pages to pull of it, over a copy of so many bytes.
+    fn delta(&mut self, n: u32, own: Option<CopyHead>, pages: &[u16]) -> Result<String, Fail> {
+        let mut out = Outbox::new(self.alloc);
+        let done = self
+            .puller
+            .on_delta(&self.frame, own, FILE, stamp(1, n), pages, &mut out);
         told(self.alloc, out, done)
     }
 
@@ -116,6 +127,7 @@ fn own() -> Option<CopyHead> {
     Some(CopyHead {
         stamp: stamp(1, 2),
         vector: vector(2, 0, 0),
+        size: 1_024,
     })
 }
 
@@ -133,7 +145,7 @@ fn only_a_version_above_the_own_one_is_pulled(rt: HostRuntime) {
     is_text(
         &rt,
         pulling.notified(2, 3, vector(3, 0, 0), own()),
-        "1 pull 0 0.2 1.3",
+        "1 want 0.2 1.3 over 1.2",
     );
     // The same again, one beside it, and one above it.
     is_text(&rt, pulling.notified(2, 3, vector(3, 0, 0), own()), "");
@@ -141,11 +153,58 @@ fn only_a_version_above_the_own_one_is_pulled(rt: HostRuntime) {
     is_text(
         &rt,
         pulling.notified(2, 5, vector(4, 0, 0), own()),
-        "1 pull 0 0.2 1.5",
+        "1 want 0.2 1.5 over 1.2",
     );
     holds(&rt, pulling.puller.as_slice().len() == 1);
     pulling.puller.drop_pull(FILE);
     holds(&rt, pulling.puller.len() == 0);
+}
+
+#[test]
+fn only_the_pages_of_the_delta_are_pulled_over_the_own_copy(rt: HostRuntime) {
+    let mut pulling = given(&rt, Pulling::new(rt.alloc()));
+    is_text(&rt, pulling.delta(3, own(), &[1]), "");
+    is_text(
+        &rt,
+        pulling.notified(2, 3, vector(3, 0, 0), own()),
+        "1 want 0.2 1.3 over 1.2",
+    );
+    is_text(&rt, pulling.gets(3, 1, &[7; 512]), "");
+    is_text(&rt, pulling.ticks(), "1 want 0.2 1.3 over 1.2");
+    // Of another version, past its end, not ascending, without the page that the copy doesn't have.
+    is_text(&rt, pulling.delta(4, own(), &[1]), "");
+    is_text(&rt, pulling.delta(3, own(), &[1, 2]), "");
+    is_text(&rt, pulling.delta(3, own(), &[1, 0]), "");
+    is_text(&rt, pulling.delta(3, own(), &[0]), "");
+    is_text(&rt, pulling.delta(3, own(), &[1]), "1 pull 1 0.2 1.3");
+    is_text(&rt, pulling.delta(3, own(), &[0, 1]), "");
+    is_text(&rt, pulling.ticks(), "1 pull 1 0.2 1.3");
+    is_text(&rt, pulling.gets(3, 0, &[7; 1_024]), "");
+    is_text(&rt, pulling.gets(3, 1, &[7; 512]), "");
+    is_text(&rt, pulling.ticks(), "");
+    let pull = pulling.puller.take(FILE).expect(&rt, "no pull");
+    holds(&rt, pull.content.len() == 512);
+    holds(&rt, pull.base == Some(stamp(1, 2)));
+}
+
+#[test]
+fn a_pull_over_a_copy_that_is_gone_begins_anew(rt: HostRuntime) {
+    let mut pulling = given(&rt, Pulling::new(rt.alloc()));
+    is_text(
+        &rt,
+        pulling.notified(2, 4, vector(4, 0, 0), own()),
+        "1 want 0.2 1.4 over 1.2",
+    );
+    let newer = Some(CopyHead {
+        stamp: stamp(1, 3),
+        vector: vector(3, 0, 0),
+        size: 1_024,
+    });
+    is_text(
+        &rt,
+        pulling.notified(2, 4, vector(4, 0, 0), newer),
+        "1 want 0.2 1.4 over 1.3",
+    );
 }
 
 /// A site where each pull is ready, and that of inode 2 is stale.

@@ -92,6 +92,12 @@ impl Using {
         told(self.alloc, out, done)
     }
 
+    pub fn held(&mut self, serial: u32, number: u32) -> Result<String, Fail> {
+        let mut out = Outbox::new(self.alloc);
+        let done = self.users.on_as_held(&self.frame, serial, number, &mut out);
+        told(self.alloc, out, done)
+    }
+
     pub fn closed(&mut self, serial: u32, answer: CloseAnswer) -> Result<String, Fail> {
         let mut out = Outbox::new(self.alloc);
         let done = self

@@ -2,8 +2,9 @@
 use crate::checks::{given, holds, is_text};
 use crate::told::told;
 use crate::using::Using;
-use locus_ids::{Kind, Members, Mode, Refusal, Stamp, Stamps};
+use locus_ids::{FileId, Kind, Members, Mode, Refusal, Stamp, Stamps};
 use role_shown::{ROOT, bytes, epoch, site, stamp};
+use role_steps::page_cache::PageName;
 use std::alloc::Global;
 use std::process::Abort;
 use std::test::Fail;
@@ -19,10 +20,14 @@ fn found() -> LookAnswer {
 }
 
 fn granted() -> Result<Granted, Fail> {
+    granted_of(3)
+}
+
+fn granted_of(size: u32) -> Result<Granted, Fail> {
     Ok(Granted::Open {
         ss: site(2)?,
         ino: 2,
-        size: 3,
+        size,
         stamp: stamp(2, 1),
         vector: Vector::zero(),
     })
@@ -34,10 +39,15 @@ fn opened<R: Abort + Eprint>(rt: &R, alloc: Global) -> Using {
 }
 
 fn opened_in<R: Abort + Eprint>(rt: &R, alloc: Global, mode: OpenMode) -> Using {
+    opened_of(rt, alloc, mode, 3)
+}
+
+/// The same, of a file of so many bytes.
+fn opened_of<R: Abort + Eprint>(rt: &R, alloc: Global, mode: OpenMode, size: u32) -> Using {
     let mut using = given(rt, Using::new(alloc));
     given(rt, using.opens("/a", mode));
     given(rt, using.looked(1, 1, 1, found()));
-    given(rt, using.opened(1, given(rt, granted())));
+    given(rt, using.opened(1, given(rt, granted_of(size))));
     using
 }
 
@@ -97,6 +107,59 @@ fn an_operation_is_answered_by_its_own_outcome(rt: HostRuntime) {
     holds(&rt, using.users.lowest_free(1) == Some(0));
     let made = CloseAnswer::Made { stamp: stamp(2, 2) };
     is_text(&rt, using.closed(1, made), "reply 1 1 c1.1.3 ok 2.2");
+}
+
+#[test]
+fn a_read_of_pages_in_memory_brings_no_bytes(rt: HostRuntime) {
+    let mut using = opened_of(&rt, rt.alloc(), OpenMode::Read, 10);
+    is_text(
+        &rt,
+        using.calls(ten_bytes()),
+        "2 op 1 1; call 1 1 c1.1.2 read 0 0 10",
+    );
+    let read = given(&rt, bytes(using.alloc, "0123456789"));
+    is_text(
+        &rt,
+        using.did(1, 1, Outcome::Data { bytes: read }),
+        "reply 1 1 c1.1.2 ok 30313233343536373839",
+    );
+    let name = PageName {
+        file: FileId { group: 0, ino: 2 },
+        stamp: stamp(2, 1),
+        page: 0,
+    };
+    let kept = using.users.cache().peek(&name).expect(&rt, "no page");
+    holds(&rt, &kept[..10] == b"0123456789".as_slice());
+    holds(&rt, &kept[10..] == [0; 1014].as_slice());
+    is_text(
+        &rt,
+        using.calls(ten_bytes()),
+        "2 readheld 1 2 0 10; call 1 1 c1.1.3 read 0 0 10",
+    );
+    is_text(&rt, using.ticks(), "2 readheld 1 2 0 10");
+    is_text(&rt, using.held(1, 1), "");
+    is_text(
+        &rt,
+        using.held(1, 2),
+        "reply 1 1 c1.1.3 ok 30313233343536373839",
+    );
+}
+
+fn ten_bytes() -> Call {
+    Call::Read {
+        fd: 0,
+        at: 0,
+        len: 10,
+    }
+}
+
+/// A read whose bytes aren't in memory isn't answered by their number.
+#[test]
+fn an_answer_without_bytes_is_for_a_read_that_has_them(rt: HostRuntime) {
+    let mut using = opened(&rt, rt.alloc());
+    given(&rt, using.reads(0));
+    is_text(&rt, using.held(1, 1), "");
+    holds(&rt, using.users.is_busy(1));
 }
 
 /// Answers to a read that process 1 waits for: none of them is the one.
@@ -199,7 +262,11 @@ fn a_steady_descriptor_reads_on_in_the_next_epoch(rt: HostRuntime) {
     is_text(&rt, using.opened(2, given(&rt, granted())), "2 op 2 1");
     let bytes = given(&rt, bytes(using.alloc, "abc"));
     given(&rt, using.did(2, 1, Outcome::Data { bytes }));
-    is_text(&rt, using.reads(0), "2 op 2 2; call 1 1 c1.1.3 read 0 0 3");
+    is_text(
+        &rt,
+        using.reads(0),
+        "2 readheld 2 2 0 3; call 1 1 c1.1.3 read 0 0 3",
+    );
     given(&rt, using.leaves());
     using.frame.epoch = epoch(3, 1, 1);
     is_text(

@@ -9,7 +9,6 @@ use Rattle.trace_book.specs.declared.call.Call.{Call}
 use Rattle.trace_book.specs.declared.operation.Op.{Op}
 use Rattle.trace_book.specs.declared.record.Record.{Record}
 use Rattle.trace_book.specs.declared.record.Record.TheVariants as says
-use Rattle.call_rules.specs.Descriptors.{beginning}
 use Rattle.wire_messages.specs.declared.packet.Packet.{Packet}
 use Rattle.wire_messages.specs.declared.body.Body.{Body}
 use Rattle.wire_messages.specs.declared.body.Body.TheVariants as body
@@ -21,13 +20,13 @@ use Rattle.role_steps.specs.Views.{Frame, SiteView, Store, Users, Told, Shown, P
 use Rattle.role_steps.specs.Opens.{OpenRequest, on_opened}
 use Rattle.role_steps.specs.Looks.{LookRequest}
 use Rattle.role_steps.specs.Reports.{on_open, on_look, on_report, on_closed, on_have, on_have_of}
-use Rattle.role_steps.specs.Storage.{StoreRequest, on_open_ss, on_close, on_closed_ok, on_look_ss, on_pull}
-use Rattle.role_steps.specs.Operations.{on_op}
+use Rattle.role_steps.specs.Storage.{StoreRequest, on_open_ss, on_close, on_closed_ok, on_look_ss, on_pull, on_want}
+use Rattle.role_steps.specs.Operations.{on_op, on_read_held}
 use Rattle.role_steps.specs.OperationEffects.{Mending}
-use Rattle.role_steps.specs.Pulling.{on_notify, on_page}
+use Rattle.role_steps.specs.Pulling.{on_notify, on_page, on_delta}
 use Rattle.role_steps.specs.Versions.{file_row}
-use Rattle.role_steps.specs.Requests.{descriptors_of, waiting_span}
-use Rattle.role_steps.specs.Using.{accepted, frees, goes_on, own_call}
+use Rattle.role_steps.specs.Requests.{waiting_span}
+use Rattle.role_steps.specs.Using.{goes_on, counted_call, accepted_call}
 use Rattle.role_steps.specs.Epochs.{frame_in}
 use Rattle.role_steps.specs.declared.copies.FileCopy.{FileCopy}
 use Rattle.role_steps.specs.declared.pulls.Pull.{Pull}
@@ -39,7 +38,7 @@ use Rattle.lock_laws.specs.of_law_walks.Kinds.{IsInside, IsTableRecord, TellsTab
 use Rattle.lock_laws.specs.of_law_walks.Laws.{Law, TablesKeep, ReadersKeep, StoresKeep, VersionsKeep, SiteKeeps, SiteAnswers, TablePart, Stays}
 use Rattle.lock_laws.proofs.of_law_walks.Premises.{of_table, store_request, of_store, of_reader, user_request, of_user, table_tells, store_tells, call_tells, body_answers}
 use Rattle.lock_laws.proofs.of_law_walks.SyncWalks.{on_opened_walk, on_open_walk, on_look_walk, on_report_walk, on_closed_walk}
-use Rattle.lock_laws.proofs.of_law_walks.RoleWalks.{on_open_ss_walk, on_close_walk, on_closed_ok_walk, on_look_ss_walk, on_pull_walk, on_op_walk, on_notify_walk, on_page_walk, goes_on_walk}
+use Rattle.lock_laws.proofs.of_law_walks.RoleWalks.{on_open_ss_walk, on_close_walk, on_closed_ok_walk, on_look_ss_walk, on_pull_walk, on_want_walk, on_op_walk, on_read_held_walk, on_notify_walk, on_page_walk, on_delta_walk, goes_on_walk}
 use Rattle.lock_laws.proofs.of_law_walks.SiteWalks.{adopts_of_walk, tries_walk, mends_of_walk, framed_walk, repeats_inside_walk}
 use Rattle.row_laws.specs.Inward.{Inward, InwardPacket, RoleRecord, RoleTold, ServedRecord, ServedTold, RoleWrite, AllServed, Inwardly, LookInward, LooksInward, TableInwardly, Indoors}
 
@@ -179,8 +178,8 @@ inside_inward f e v = repeats_inside_walk inwardly f (keeps f) e v
 
 -- a call that is accepted, after the record of it
 pub on_call_rest : (f : Frame) (now : Option EpochId) (process : ℕ) (words : Call) (u : Users) →
-    Inwardly (goes_on f (accepted process (u.calls + 1) words (beginning (descriptors_of u process) now (own_call f.me f.boot (u.calls + 1)) words)) (frees process words (record u { calls = u.calls + 1 })))
-on_call_rest f now process words u = goes_on_walk inwardly f (keeps f).users (accepted process (u.calls + 1) words (beginning (descriptors_of u process) now (own_call f.me f.boot (u.calls + 1)) words)) (frees process words (record u { calls = u.calls + 1 }))
+    Inwardly (goes_on f (accepted_call f now process words u) (counted_call f now process words u))
+on_call_rest f now process words u = goes_on_walk inwardly f (keeps f).users (accepted_call f now process words u) (counted_call f now process words u)
 
 -- ---- tables and stores ----
 
@@ -224,14 +223,23 @@ on_look_ss_serves f us l stamp s = on_look_ss_walk servedly f (readers ServedTol
 pub on_pull_serves : (f : Frame) (from : ℕ) (file : FileId) (stamp : Stamp) (page : ℕ) (s : Store) → AllServed (on_pull f from file stamp page s)
 on_pull_serves f from file stamp page s = on_pull_walk servedly f (readers ServedTold f) from file stamp page (λ bytes. tt) s
 
+pub on_want_serves : (f : Frame) (from : ℕ) (file : FileId) (wanted own : Stamp) (s : Store) → AllServed (on_want f from file wanted own s)
+on_want_serves f from file wanted own s = on_want_walk servedly f (readers ServedTold f) from file wanted own (λ pages. tt) s
+
 pub on_op_serves : (f : Frame) (m : Mending) (inst : Serial) (n : ℕ) (o : Op) (seen : List ℕ) (s : Store) → AllServed (on_op f m inst n o seen s)
 on_op_serves f m inst n o seen s = on_op_walk servedly f (served_stores f) versions m inst n o seen s
+
+pub on_read_held_serves : (f : Frame) (inst : Serial) (n at len : ℕ) (s : Store) → AllServed (on_read_held f inst n at len s)
+on_read_held_serves f inst n at len s = on_read_held_walk servedly f (served_stores f) inst n at len s
 
 pub on_notify_serves : (f : Frame) (from : ℕ) (o : Option FileCopy) (p : Pull) (ps : List Pull) → AllServed (on_notify f from o p ps)
 on_notify_serves f from o p ps = on_notify_walk servedly f (readers ServedTold f) from o p tt ps
 
 pub on_page_serves : (f : Frame) (file : FileId) (stamp : Stamp) (page : ℕ) (bytes : List ℕ) (ps : List Pull) → AllServed (on_page f file stamp page bytes ps)
 on_page_serves f file stamp page bytes ps = on_page_walk servedly f (readers ServedTold f) file stamp page bytes ps
+
+pub on_delta_serves : (f : Frame) (own : Option FileCopy) (file : FileId) (stamp : Stamp) (pages : List ℕ) (ps : List Pull) → AllServed (on_delta f own file stamp pages ps)
+on_delta_serves f own file stamp pages ps = on_delta_walk servedly f (readers ServedTold f) own file stamp pages ps
 
 -- ---- the site ----
 

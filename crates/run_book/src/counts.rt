@@ -10,7 +10,7 @@ use packet_order::Part;
 use trace_book::{Record, Reply};
 
 /// How many records of some kinds a run has told.
-#[derive(Clone, Copy, PartialEq, Eq)]
+#[derive(Clone, Copy)]
 pub struct RunCounts {
     pub calls: u64,
     pub replies: u64,

@@ -3,7 +3,7 @@ use packet_mail::MailFault;
 use thiserror::Error;
 
 /// Why an event is not in the book.
-#[derive(Clone, Copy, Debug, PartialEq, Eq, Error)]
+#[derive(Clone, Copy, Debug, Error)]
 pub enum BookFault {
     #[error("no memory")]
     NoMemory,
@@ -25,7 +25,7 @@ impl From<MailFault> for BookFault {
 }
 
 /// The limit that an event passed.
-#[derive(Clone, Copy, Debug, PartialEq, Eq)]
+#[derive(Clone, Copy, Debug)]
 pub enum Passed {
     Packets,
     Bytes,

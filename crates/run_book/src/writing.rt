@@ -10,7 +10,7 @@ use trace_book::Record;
 use trace_text::render;
 
 /// What a book writes of the records of a run.
-#[derive(Clone, Copy, PartialEq, Eq)]
+#[derive(Clone, Copy)]
 pub enum Writing {
     /// The text of each record with its line's number.
     Trace,

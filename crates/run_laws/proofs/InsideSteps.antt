@@ -20,7 +20,7 @@ use Rattle.law_walks.specs.of_wire_messages.declared.body.Body.{Body}
 use Rattle.law_walks.specs.of_role_steps.Own.{Every}
 use Rattle.law_walks.specs.of_role_steps.Views.{Frame, Users, SiteView, Outcome, quiet, packet}
 use Rattle.law_walks.specs.of_role_steps.Requests.{descriptors_of}
-use Rattle.law_walks.specs.of_role_steps.Using.{accepted, frees, asks_want, is_packed, on_call}
+use Rattle.law_walks.specs.of_role_steps.Using.{asks_want, is_packed, on_call, counted_call, accepted_call}
 use Rattle.law_walks.specs.of_role_steps.Epochs.{frame_in}
 use Rattle.law_walks.specs.of_role_steps.declared.rounds.InEpoch.{InEpoch}
 use Rattle.law_walks.specs.of_role_steps.declared.users.WaitingCall.{WaitingCall}
@@ -108,7 +108,7 @@ begun_silent f w u (begins.Walks id) h = absurd h
 begun_silent f w u (begins.Reopens kept last) h = absurd h
 
 call_silent : (f : Frame) (process : ℕ) (words : Call) (u : Users) → (on_call f None process words u).sent ≡ []
-call_silent f process words u = begun_silent f (accepted process (u.calls + 1) words begun) (frees process words (record u { calls = u.calls + 1 })) begun (at_once (descriptors_of u process) (own_call f.me f.boot (u.calls + 1)) words)
+call_silent f process words u = begun_silent f (accepted_call f None process words u) (counted_call f None process words u) begun (at_once (descriptors_of u process) (own_call f.me f.boot (u.calls + 1)) words)
   where
     begun : Beginning
     begun = beginning (descriptors_of u process) None (own_call f.me f.boot (u.calls + 1)) words

@@ -21,16 +21,16 @@ use Rattle.law_walks.specs.of_wire_messages.declared.body.CloseAnswer.{CloseAnsw
 use Rattle.law_walks.specs.of_wire_messages.declared.body.LookAnswer.{LookAnswer}
 use Rattle.law_walks.specs.of_wire_messages.declared.body.Granted.{Granted}
 use Rattle.law_walks.specs.of_role_steps.Views.{Store, Users}
-use Rattle.law_walks.specs.of_role_steps.Storage.{StoreRequest, on_open_ss, on_closed_ok, on_look_ss, on_pull}
-use Rattle.law_walks.specs.of_role_steps.Pulling.{on_notify, on_page}
-use Rattle.law_walks.specs.of_role_steps.Using.{on_call, on_open_done, on_op_done, on_close_done, on_look_done}
+use Rattle.law_walks.specs.of_role_steps.Storage.{StoreRequest, on_open_ss, on_closed_ok, on_look_ss, on_pull, on_want}
+use Rattle.law_walks.specs.of_role_steps.Pulling.{on_notify, on_page, on_delta}
+use Rattle.law_walks.specs.of_role_steps.Using.{on_call, on_open_done, on_op_done, on_as_held, on_close_done, on_look_done}
 use Rattle.law_walks.specs.of_role_steps.declared.copies.FileCopy.{FileCopy}
 use Rattle.law_walks.specs.of_role_steps.declared.pulls.Pull.{Pull}
 use Rattle.law_walks.specs.Kinds.{IsVersion, IsPlainRecord, TellsPlain}
 use Rattle.law_walks.specs.Laws.{Law, frame_law, TablesKeep, StoresKeep, UsersKeep, SiteAnswers, Part, TablePart}
 use Rattle.law_walks.proofs.Premises.{every_unit, table_tells, store_tells, call_tells, frame_tables, frame_stores, frame_users, frame_answers}
 use Rattle.law_walks.proofs.SyncWalks.{on_opened_walk, on_open_walk, on_look_walk, on_report_walk, on_closed_walk}
-use Rattle.law_walks.proofs.RoleWalks.{on_open_ss_walk, on_closed_ok_walk, on_look_ss_walk, on_pull_walk, on_notify_walk, on_page_walk, on_call_walk, on_open_done_walk, on_op_done_walk, on_close_done_walk, on_look_done_walk}
+use Rattle.law_walks.proofs.RoleWalks.{on_open_ss_walk, on_closed_ok_walk, on_look_ss_walk, on_pull_walk, on_want_walk, on_notify_walk, on_page_walk, on_delta_walk, on_call_walk, on_open_done_walk, on_op_done_walk, on_as_held_walk, on_close_done_walk, on_look_done_walk}
 
 -- ---- what is told without a version ----
 
@@ -124,11 +124,17 @@ on_look_ss_talks f us l stamp s = part_talks (on_look_ss f us l stamp s) (on_loo
 pub on_pull_talks : (f : Frame) (from : ℕ) (file : FileId) (stamp : Stamp) (page : ℕ) (s : Store) → Talks (on_pull f from file stamp page s)
 on_pull_talks f from file stamp page s = part_talks (on_pull f from file stamp page s) (on_pull_walk talking f (stores f).reads from file stamp page (λ bytes. tt) s)
 
+pub on_want_talks : (f : Frame) (from : ℕ) (file : FileId) (wanted own : Stamp) (s : Store) → Talks (on_want f from file wanted own s)
+on_want_talks f from file wanted own s = part_talks (on_want f from file wanted own s) (on_want_walk talking f (stores f).reads from file wanted own (λ pages. tt) s)
+
 pub on_notify_talks : (f : Frame) (from : ℕ) (o : Option FileCopy) (p : Pull) (ps : List Pull) → Talks (on_notify f from o p ps)
 on_notify_talks f from o p ps = part_talks (on_notify f from o p ps) (on_notify_walk talking f (stores f).reads from o p tt ps)
 
 pub on_page_talks : (f : Frame) (file : FileId) (stamp : Stamp) (page : ℕ) (bytes : List ℕ) (ps : List Pull) → Talks (on_page f file stamp page bytes ps)
 on_page_talks f file stamp page bytes ps = part_talks (on_page f file stamp page bytes ps) (on_page_walk talking f (stores f).reads file stamp page bytes ps)
+
+pub on_delta_talks : (f : Frame) (own : Option FileCopy) (file : FileId) (stamp : Stamp) (pages : List ℕ) (ps : List Pull) → Talks (on_delta f own file stamp pages ps)
+on_delta_talks f own file stamp pages ps = part_talks (on_delta f own file stamp pages ps) (on_delta_walk talking f (stores f).reads own file stamp pages ps)
 
 -- ---- the using site ----
 
@@ -140,6 +146,9 @@ on_open_done_talks f kept serial a u = part_talks (on_open_done f kept serial a 
 
 pub on_op_done_talks : (f : Frame) (serial n : ℕ) (r : Result) (u : Users) → Talks (on_op_done f serial n r u)
 on_op_done_talks f serial n r u = part_talks (on_op_done f serial n r u) (on_op_done_walk talking f (users f) serial n r u)
+
+pub on_as_held_talks : (f : Frame) (serial n : ℕ) (u : Users) → Talks (on_as_held f serial n u)
+on_as_held_talks f serial n u = part_talks (on_as_held f serial n u) (on_as_held_walk talking f (users f) serial n u)
 
 pub on_close_done_talks : (f : Frame) (serial : ℕ) (a : CloseAnswer) (u : Users) → Talks (on_close_done f serial a u)
 on_close_done_talks f serial a u = part_talks (on_close_done f serial a u) (on_close_done_walk talking f (users f) serial a u)

@@ -85,8 +85,8 @@ written =
     codes "15 act e2.1.1 i1.3 2 remove d 2 ok\n" ++
     codes "15 commit 0.1 1 1.2 1.1 01640002020000000200000001000000000000000000000000000000000000000000000000000000000000000000000000000000000000000000000000000000000000000000000000\n" ++
     codes "15 release e2.1.1 i1.3 0.1 1.2\n" ++
-    codes "15 adopt 0.1 2 1.2\n" ++
     codes "15 release e2.1.1 i1.4 0.2 -\n" ++
+    codes "15 adopt 0.1 2 1.2\n" ++
     codes "15 reply 1 1 c1.1.2 ok\n" ++
     codes "18 leave 1 e2.1.1\n" ++
     codes "19 leave 2 e2.1.1\n" ++
@@ -99,10 +99,10 @@ written =
     codes "19 grant e3.1.1 c1.1.3 1 i1.5 m 0.1 1.2 1\n" ++
     codes "19 adopt 0.129 1 3.1\n" ++
     codes "19 adopt 0.129 2 3.1\n" ++
+    codes "19 look e3.1.1 c1.1.3 2 0.1 whole 1.2\n" ++
     codes "19 adopt 0.2 1 3.1\n" ++
     codes "19 adopt 0.2 2 3.1\n" ++
     codes "19 adopt 0.1 3 1.2\n" ++
-    codes "19 look e3.1.1 c1.1.3 2 0.1 whole 1.2\n" ++
     codes "19 act e3.1.1 i1.5 1 mend ok\n" ++
     codes "19 commit 0.1 1 1.3 1.2 016400020200000003\n" ++
     codes "19 release e3.1.1 i1.5 0.1 1.3\n" ++

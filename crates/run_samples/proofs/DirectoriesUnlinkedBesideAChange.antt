@@ -80,8 +80,8 @@ written =
     codes "13 act e2.1.1 i1.3 2 remove f 2 ok\n" ++
     codes "13 commit 0.1 1 1.2 1.1 01660002010000000200000001000000000000000000000000000000000000000000000000000000000000000000000000000000000000000000000000000000000000000000000000\n" ++
     codes "13 release e2.1.1 i1.3 0.1 1.2\n" ++
-    codes "13 adopt 0.1 2 1.2\n" ++
     codes "13 release e2.1.1 i1.4 0.2 -\n" ++
+    codes "13 adopt 0.1 2 1.2\n" ++
     codes "13 reply 1 1 c1.1.2 ok\n" ++
     codes "14 call 1 1 c1.1.3 list /\n" ++
     codes "15 look e2.1.1 c1.1.3 1 0.1 list 1.2\n" ++
@@ -106,10 +106,10 @@ written =
     codes "25 start e3.1.1 0 1=1.1 1=1.2 2=1.1 2=3.1\n" ++
     codes "25 call 1 0 c1.1.4 mend 0.1\n" ++
     codes "25 grant e3.1.1 c1.1.4 1 i1.5 m 0.1 1.2 1\n" ++
+    codes "25 look e3.1.1 c1.1.4 2 0.1 whole 1.2\n" ++
     codes "25 adopt 0.2 1 3.1\n" ++
     codes "25 adopt 0.2 2 3.1\n" ++
     codes "25 adopt 0.1 3 1.2\n" ++
-    codes "25 look e3.1.1 c1.1.4 2 0.1 whole 1.2\n" ++
     codes "25 act e3.1.1 i1.5 1 mend ok\n" ++
     codes "25 commit 0.1 1 1.3 1.2 016600020100000003\n" ++
     codes "25 release e3.1.1 i1.5 0.1 1.3\n" ++

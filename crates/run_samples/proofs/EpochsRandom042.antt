@@ -128,9 +128,9 @@ written =
     codes "27 void\n" ++
     codes "28 void\n" ++
     codes "32 void\n" ++
-    codes "33 packet 81 1 1 look\n" ++
-    codes "33 packet 82 1 1 look\n" ++
     codes "33 packet 83 1 1 look\n" ++
+    codes "33 packet 84 1 1 look\n" ++
+    codes "33 packet 85 1 1 look\n" ++
     codes "34 void\n" ++
     codes "35 look e1.1.1 c1.1.3 1 0.1 name a 2.1\n" ++
     codes "35 refuse e1.1.1 c1.1.3 2 i1.2 w 0.65 busy 1 8\n" ++

@@ -114,7 +114,7 @@ written =
     codes "22 void\n" ++
     codes "25 call 3 1 c3.1.3 open /a x 1\n" ++
     codes "26 void\n" ++
-    codes "27 packet 50 3 1 look\n" ++
+    codes "27 packet 52 3 1 look\n" ++
     codes "28 void\n" ++
     codes "29 look e1.3.1 c3.1.3 1 0.1 name a 1.1\n" ++
     codes "29 refuse e1.3.1 c3.1.3 2 i3.1 x 0.2 noconflict\n" ++

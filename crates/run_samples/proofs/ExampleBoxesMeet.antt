@@ -1,9 +1,7 @@
 -- The run of a recorded schedule of 31 lines, to the whole text of its trace, 92 records.
-use Rattle.std.specs.Prelude.{◌≡◌, refl, ℕ, List, [], ◌∷◌, ◌++◌, Option, Some, None, codes}
+use Rattle.std.specs.Prelude.{◌≡◌, refl, ℕ, List, [], ◌∷◌, ◌++◌, codes}
 use Rattle.trace_book.specs.declared.call.Call.TheVariants as call
-use Rattle.trace_book.specs.declared.call.OpenMode.TheVariants as how
 use Rattle.schedule_lines.specs.declared.header.HeaderLine.TheVariants as header
-use Rattle.schedule_lines.specs.declared.line.Leave.TheVariants as leave
 use Rattle.schedule_lines.specs.declared.line.Line.TheVariants as line
 use Rattle.schedule_lines.specs.declared.line.ScheduleLine.{ScheduleLine}
 use Rattle.schedule_lines.specs.declared.line.ScheduleLine.TheVariants.{Passed, Header, Event}
@@ -132,9 +130,9 @@ written =
     codes "29 act e3.1.1 i2.1 2 remove m1.1.2 3 ok\n" ++
     codes "29 commit 0.2 2 2.1 1.3 066d312e312e320003010000000200000001000000000000000000000000000000000000000000000000000000000000000000000000000000000000000000000000000000000000000000000000066d332e312e3100810100000001\n" ++
     codes "29 release e3.1.1 i2.1 0.2 2.1\n" ++
+    codes "29 release e3.1.1 i2.2 0.3 -\n" ++
     codes "29 adopt 0.2 1 2.1\n" ++
     codes "29 adopt 0.2 3 2.1\n" ++
-    codes "29 release e3.1.1 i2.2 0.3 -\n" ++
     codes "29 reply 2 1 c2.1.2 ok\n" ++
     codes "30 call 1 1 c1.1.4 mails /box\n" ++
     codes "31 look e3.1.1 c1.1.4 1 0.1 name box 1.1\n" ++

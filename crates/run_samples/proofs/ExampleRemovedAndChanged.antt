@@ -1,9 +1,8 @@
 -- The run of a recorded schedule of 35 lines, to the whole text of its trace, 79 records.
-use Rattle.std.specs.Prelude.{◌≡◌, refl, ℕ, List, [], ◌∷◌, ◌++◌, Option, Some, None, codes}
+use Rattle.std.specs.Prelude.{◌≡◌, refl, ℕ, List, [], ◌∷◌, ◌++◌, None, codes}
 use Rattle.trace_book.specs.declared.call.Call.TheVariants as call
 use Rattle.trace_book.specs.declared.call.OpenMode.TheVariants as how
 use Rattle.schedule_lines.specs.declared.header.HeaderLine.TheVariants as header
-use Rattle.schedule_lines.specs.declared.line.Leave.TheVariants as leave
 use Rattle.schedule_lines.specs.declared.line.Line.TheVariants as line
 use Rattle.schedule_lines.specs.declared.line.ScheduleLine.{ScheduleLine}
 use Rattle.schedule_lines.specs.declared.line.ScheduleLine.TheVariants.{Passed, Header, Event}
@@ -85,8 +84,8 @@ written =
     codes "15 act e2.1.1 i1.3 2 remove f 2 ok\n" ++
     codes "15 commit 0.1 1 1.2 1.1 01660002010000000200000001000000000000000000000000000000000000000000000000000000000000000000000000000000000000000000000000000000000000000000000000\n" ++
     codes "15 release e2.1.1 i1.3 0.1 1.2\n" ++
-    codes "15 adopt 0.1 2 1.2\n" ++
     codes "15 release e2.1.1 i1.4 0.2 -\n" ++
+    codes "15 adopt 0.1 2 1.2\n" ++
     codes "15 reply 1 1 c1.1.2 ok\n" ++
     codes "16 call 1 1 c1.1.3 list /\n" ++
     codes "17 look e2.1.1 c1.1.3 1 0.1 list 1.2\n" ++
@@ -111,10 +110,10 @@ written =
     codes "29 start e3.1.1 0 1=1.1 1=1.2 2=1.1 2=3.1\n" ++
     codes "29 call 1 0 c1.1.4 mend 0.1\n" ++
     codes "29 grant e3.1.1 c1.1.4 1 i1.5 m 0.1 1.2 1\n" ++
+    codes "29 look e3.1.1 c1.1.4 2 0.1 whole 1.2\n" ++
     codes "29 adopt 0.2 1 3.1\n" ++
     codes "29 adopt 0.2 2 3.1\n" ++
     codes "29 adopt 0.1 3 1.2\n" ++
-    codes "29 look e3.1.1 c1.1.4 2 0.1 whole 1.2\n" ++
     codes "29 act e3.1.1 i1.5 1 mend ok\n" ++
     codes "29 commit 0.1 1 1.3 1.2 016600020100000003\n" ++
     codes "29 release e3.1.1 i1.5 0.1 1.3\n" ++

@@ -1,4 +1,4 @@
--- The run of a recorded schedule of 229 lines, to the whole text of its trace, 175 records.
+-- The run of a recorded schedule of 229 lines, to the whole text of its trace, 174 records.
 use Rattle.std.specs.Prelude.{◌≡◌, refl, ℕ, List, [], ◌∷◌, ◌++◌, Some, None, codes}
 use Rattle.trace_book.specs.declared.call.Call.TheVariants as call
 use Rattle.trace_book.specs.declared.call.OpenMode.TheVariants as how
@@ -357,63 +357,62 @@ written =
     codes "138 adopt 0.1 3 2.1\n" ++
     codes "143 call 1 2 c1.1.9 create /h/a\n" ++
     codes "144 call 1 1 c1.1.10 list /\n" ++
-    codes "148 look e2.1.1 c1.1.9 1 0.1 name h 2.1\n" ++
-    codes "151 look e2.1.1 c1.1.10 1 0.1 list 2.1\n" ++
     codes "154 void\n" ++
+    codes "155 look e2.1.1 c1.1.9 1 0.1 name h 2.1\n" ++
+    codes "155 look e2.1.1 c1.1.10 1 0.1 list 2.1\n" ++
     codes "155 reply 1 2 c1.1.9 absent h\n" ++
     codes "155 reply 1 1 c1.1.10 ok a\n" ++
     codes "161 call 2 1 c2.1.12 list /usr\n" ++
     codes "162 call 1 2 c1.1.11 stat /usr\n" ++
     codes "163 call 2 2 c2.1.13 open /a x 3\n" ++
-    codes "165 look e2.1.1 c1.1.11 1 0.1 name usr 2.1\n" ++
-    codes "168 look e2.1.1 c2.1.12 1 0.1 name usr 2.1\n" ++
-    codes "170 look e2.1.1 c2.1.13 1 0.1 name a 2.1\n" ++
+    codes "169 look e2.1.1 c2.1.12 1 0.1 name usr 2.1\n" ++
     codes "172 call 1 1 c1.1.12 open /a r\n" ++
-    codes "174 reply 1 2 c1.1.11 absent usr\n" ++
-    codes "175 look e2.1.1 c1.1.12 1 0.1 name a 2.1\n" ++
-    codes "177 reply 2 1 c2.1.12 absent usr\n" ++
-    codes "180 call 1 2 c1.1.13 create /d/s/b\n" ++
-    codes "182 grant e2.1.1 c1.1.12 2 i1.2 r 0.65 2.1 1\n" ++
+    codes "176 look e2.1.1 c2.1.13 1 0.1 name a 2.1\n" ++
+    codes "177 look e2.1.1 c1.1.11 1 0.1 name usr 2.1\n" ++
+    codes "180 void\n" ++
+    codes "181 look e2.1.1 c1.1.12 1 0.1 name a 2.1\n" ++
     codes "183 call 3 2 c3.1.8 open /a w\n" ++
     codes "184 void\n" ++
-    codes "185 call 2 1 c2.1.14 open /a w\n" ++
-    codes "187 refuse e2.1.1 c2.1.13 2 i2.6 x 0.65 busy 1 1\n" ++
-    codes "189 look e2.1.1 c3.1.8 1 0.1 name a 2.1\n" ++
-    codes "191 reply 2 2 c2.1.13 busy 1 1\n" ++
-    codes "193 look e2.1.1 c2.1.14 1 0.1 name a 2.1\n" ++
-    codes "193 reply 1 1 c1.1.12 ok 0\n" ++
-    codes "193 look e2.1.1 c1.1.13 1 0.1 name d 2.1\n" ++
+    codes "185 void\n" ++
+    codes "188 reply 2 1 c2.1.12 absent usr\n" ++
+    codes "191 reply 1 2 c1.1.11 absent usr\n" ++
+    codes "193 look e2.1.1 c3.1.8 1 0.1 name a 2.1\n" ++
+    codes "193 grant e2.1.1 c1.1.12 2 i1.2 r 0.65 2.1 1\n" ++
     codes "193 refuse e2.1.1 c3.1.8 2 i3.2 w 0.65 busy 1 1\n" ++
-    codes "193 reply 1 2 c1.1.13 absent d\n" ++
+    codes "193 reply 1 1 c1.1.12 ok 0\n" ++
     codes "193 budget\n" ++
-    codes "194 call 2 2 c2.1.15 open /a w\n" ++
-    codes "195 call 2 3 c2.1.16 stat /h\n" ++
+    codes "194 void\n" ++
+    codes "195 call 2 3 c2.1.14 stat /h\n" ++
     codes "196 call 3 1 c3.1.9 open /a w\n" ++
-    codes "197 call 2 4 c2.1.17 create /usr/a\n" ++
-    codes "199 refuse e2.1.1 c2.1.14 2 i2.7 w 0.65 busy 1 1\n" ++
-    codes "200 look e2.1.1 c2.1.17 1 0.1 name usr 2.1\n" ++
-    codes "201 reply 3 2 c3.1.8 busy 1 1\n" ++
-    codes "201 look e2.1.1 c2.1.15 1 0.1 name a 2.1\n" ++
-    codes "201 look e2.1.1 c2.1.16 1 0.1 name h 2.1\n" ++
+    codes "197 call 2 4 c2.1.15 create /usr/a\n" ++
+    codes "198 refuse e2.1.1 c2.1.13 2 i2.6 x 0.65 busy 1 1\n" ++
+    codes "199 reply 3 2 c3.1.8 busy 1 1\n" ++
+    codes "200 void\n" ++
+    codes "201 look e2.1.1 c2.1.14 1 0.1 name h 2.1\n" ++
     codes "201 look e2.1.1 c3.1.9 1 0.1 name a 2.1\n" ++
-    codes "201 reply 2 1 c2.1.14 busy 1 1\n" ++
+    codes "201 look e2.1.1 c2.1.15 1 0.1 name usr 2.1\n" ++
+    codes "201 reply 2 2 c2.1.13 busy 1 1\n" ++
     codes "201 budget\n" ++
     codes "202 call 3 2 c3.1.10 create /b\n" ++
-    codes "205 reply 2 4 c2.1.17 absent usr\n" ++
-    codes "212 void\n" ++
+    codes "203 reply 2 3 c2.1.14 absent h\n" ++
+    codes "204 void\n" ++
+    codes "206 reply 2 4 c2.1.15 absent usr\n" ++
+    codes "208 void\n" ++
+    codes "210 grant e2.1.1 c3.1.10 1 i3.3 w 0.1 2.1 3\n" ++
+    codes "211 refuse e2.1.1 c3.1.9 2 i3.4 w 0.65 busy 1 1\n" ++
+    codes "212 call 2 2 c2.1.16 open /a x 2\n" ++
     codes "213 void\n" ++
-    codes "217 call 2 1 c2.1.18 mkdir /usr/h\n" ++
-    codes "220 grant e2.1.1 c3.1.10 1 i3.3 w 0.1 2.1 3\n" ++
-    codes "220 refuse e2.1.1 c2.1.15 2 i2.8 w 0.65 busy 1 1\n" ++
-    codes "220 reply 2 3 c2.1.16 absent h\n" ++
-    codes "220 refuse e2.1.1 c3.1.9 2 i3.4 w 0.65 busy 1 1\n" ++
-    codes "220 look e2.1.1 c2.1.18 1 0.1 name usr 2.1\n" ++
-    codes "220 reply 2 2 c2.1.15 busy 1 1\n" ++
+    codes "216 void\n" ++
+    codes "217 call 2 1 c2.1.17 mkdir /usr/h\n" ++
+    codes "220 reply 3 1 c3.1.9 busy 1 1\n" ++
+    codes "220 look e2.1.1 c2.1.17 1 0.1 name usr 2.1\n" ++
+    codes "220 look e2.1.1 c2.1.16 1 0.1 name a 2.1\n" ++
     codes "220 budget\n" ++
     codes "221 leave 1 e2.1.1\n" ++
-    codes "222 reply 3 1 c3.1.9 busy 1 1\n" ++
+    codes "222 reply 2 1 c2.1.17 absent usr\n" ++
+    codes "222 act e2.1.1 i3.3 1 probe b ok\n" ++
     codes "222 leave 2 e2.1.1\n" ++
-    codes "222 reply 2 1 c2.1.18 changed e2.1.1\n" ++
+    codes "222 reply 2 2 c2.1.16 changed e2.1.1\n" ++
     codes "222 leave 3 e2.1.1\n" ++
     codes "222 reply 3 2 c3.1.10 changed e2.1.1\n" ++
     codes "222 join 1 e3.1.1 1:1,2:1,3:1\n" ++

@@ -1,4 +1,4 @@
--- The run of a recorded schedule of 165 lines, to the whole text of its trace, 192 records.
+-- The run of a recorded schedule of 165 lines, to the whole text of its trace, 193 records.
 use Rattle.std.specs.Prelude.{◌≡◌, refl, ℕ, List, [], ◌∷◌, ◌++◌, Some, None, codes}
 use Rattle.trace_book.specs.declared.call.Call.TheVariants as call
 use Rattle.trace_book.specs.declared.call.OpenMode.TheVariants as how
@@ -243,9 +243,11 @@ written =
     codes "24 act e1.1.1 i3.1 2 remove d 2 ok\n" ++
     codes "24 commit 1.1 3 3.1 1.1 01640002020000000200000001000000000000000000000000000000000000000000000000000000000000000000000000000000000000000000000000000000000000000000000000\n" ++
     codes "24 release e1.1.1 i3.1 1.1 3.1\n" ++
+    codes "24 release e1.1.1 i3.2 1.2 -\n" ++
     codes "24 adopt 1.1 1 3.1\n" ++
     codes "24 stopped 1 fuse\n" ++
     codes "24 adopt 1.1 2 3.1\n" ++
+    codes "24 reply 3 1 c3.1.2 ok\n" ++
     codes "25 call 3 2 c3.1.3 stat /h\n" ++
     codes "27 call 2 1 c2.1.3 mkdir /d/s\n" ++
     codes "29 call 2 2 c2.1.4 stat /\n" ++
@@ -263,7 +265,6 @@ written =
     codes "38 call 2 1 c2.1.9 open /a r\n" ++
     codes "38 reply 2 1 c2.1.9 nopartition\n" ++
     codes "39 leave 3 e1.1.1\n" ++
-    codes "39 reply 3 1 c3.1.2 changed e1.1.1\n" ++
     codes "39 reply 3 2 c3.1.3 changed e1.1.1\n" ++
     codes "39 join 2 e2.2.1 2:1,3:1\n" ++
     codes "39 join 3 e2.2.1 2:1,3:1\n" ++

@@ -6,7 +6,7 @@ use locus_io::WriteFault;
 use std::io;
 
 /// What a run came to.
-#[derive(Clone, Copy, PartialEq, Eq)]
+#[derive(Clone, Copy)]
 pub enum Status {
     /// The whole input was run.
     Ok,
@@ -22,7 +22,7 @@ pub enum Status {
 }
 
 /// What has a limit.
-#[derive(Clone, Copy, PartialEq, Eq)]
+#[derive(Clone, Copy)]
 pub enum Limited {
     /// The packets that are sent.
     Packets,

@@ -4,7 +4,7 @@ use thiserror::Error;
 use world::WorldFault;
 
 /// Why a line was not run.
-#[derive(Clone, Copy, Debug, PartialEq, Eq, Error)]
+#[derive(Clone, Copy, Debug, Error)]
 pub enum RunFault {
     /// The line may not stand there.
     #[error("bad line")]

@@ -4,7 +4,7 @@ use thiserror::Error;
 use world::WorldFault;
 
 /// Why a load was not run to its end.
-#[derive(Clone, Copy, Debug, PartialEq, Eq, Error)]
+#[derive(Clone, Copy, Debug, Error)]
 pub enum LoadFault {
     /// Its run passes this limit.
     #[error("limit")]

@@ -6,7 +6,7 @@ use site_packs::MountFault;
 use thiserror::Error;
 
 /// Why a disk isn't booted. The label is asked first, then each pack by group.
-#[derive(Clone, Copy, Debug, PartialEq, Eq, Error)]
+#[derive(Clone, Copy, Debug, Error)]
 pub enum BootFault {
     /// The boot number is the one from before or the raised one, and the copies are those from before.
     #[error("the disk failed")]

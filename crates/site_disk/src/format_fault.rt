@@ -4,7 +4,7 @@ use disk_model::DiskFault;
 use thiserror::Error;
 
 /// Why a disk isn't formatted.
-#[derive(Clone, Copy, Debug, PartialEq, Eq, Error)]
+#[derive(Clone, Copy, Debug, Error)]
 pub enum FormatFault {
     #[error("the disk failed")]
     Disk,

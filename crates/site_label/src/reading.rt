@@ -12,7 +12,7 @@ use disk_model::{Disk, DiskFault};
 use locus_ids::SiteId;
 
 /// What a half says: nothing where its gate is closed, its boot number, or what no label of the site says.
-#[derive(Clone, Copy, PartialEq, Eq)]
+#[derive(Clone, Copy)]
 pub(crate) enum Reading {
     Closed,
     Boot(u32),
@@ -20,7 +20,7 @@ pub(crate) enum Reading {
 }
 
 /// The half that counts, with its boot number, and whether the other one is open too.
-#[derive(Clone, Copy, PartialEq, Eq)]
+#[derive(Clone, Copy)]
 pub(crate) struct Counted {
     pub half: Half,
     pub boot: u32,

@@ -5,32 +5,34 @@ use Rattle.role_steps.proofs.of_plain_facts.Tests.{and_first}
 use Rattle.disk_model.specs.Disk.{Moment}
 use Rattle.wire_messages.specs.Outboxes.{Outgoing}
 use Rattle.role_steps.specs.Tables.{row, with_row, without_row}
-use Rattle.role_steps.specs.Storage.{copy_key}
+use Rattle.role_steps.specs.Storage.{content_of, copy_key, stamp_of, with_step}
+use Rattle.role_steps.specs.declared.copies.Step.{Step}
 use Rattle.role_steps.specs.declared.copies.FileCopy.{FileCopy}
 use Rattle.trace_book.specs.declared.record.Record.TheVariants as says
 use Rattle.wire_messages.specs.declared.body.Body.TheVariants as body
 use Rattle.role_steps.specs.Views.{DiskWrite, Frame, SiteView, Outcome, quiet, to_sync}
-use Rattle.role_steps.specs.Pulling.{is_complete, pull_key}
+use Rattle.role_steps.specs.Pulling.{is_complete, pull_key, wanted_pages}
 use Rattle.role_steps.specs.Epochs.{frame_in}
-use Rattle.role_steps.specs.Adoption.{adopts_pull, is_ready, notes_own, notes_own_at, table_group, without_pull}
+use Rattle.role_steps.specs.Adoption.{adopts_pull, content_adopted, content_laid, is_ready, notes_own, notes_own_at, table_group, without_pull}
 use Rattle.role_steps.specs.declared.pulls.Pull.{Pull}
 use Rattle.role_steps.specs.declared.rounds.InEpoch.{InEpoch}
 use Rattle.role_steps.specs.declared.synchronizing.SyncTable.{SyncTable}
 use Rattle.locus_ids.specs.declared.config.Config.{Config}
+use Rattle.locus_ids.specs.declared.ids.Stamp.{Stamp}
 use Rattle.site_packs.specs.Copies.{copies_on}
-use Rattle.site_packs.specs.Packs.{AreShown, PacksState, SamePlaces, Stand, groups_of}
-use Rattle.site_parts.specs.of_storage_site.of_store_instances.Stores.{store_of}
+use Rattle.site_packs.specs.Packs.{AreShown, PacksState, SamePlaces, Stand, copy_at, groups_of}
+use Rattle.site_parts.specs.of_storage_site.of_store_instances.Stores.{StoreState}
 use Rattle.the_run.specs.Steps.{adopts_in, adopts_of}
 use Rattle.propagation.specs.Choosing.{Choice, adopted_of, chooses, without_chosen, without_one}
 use Rattle.propagation.proofs.Choices.{adoption_chosen}
 use Rattle.site_parts.specs.of_site_tables.Tables.{noting_own, noting_own_of}
 use Rattle.site_node.specs.Views.{view_of, Moves}
-use Rattle.site_node.specs.Adopting.{adopted_now, choice_at, is_above}
+use Rattle.site_node.specs.Adopting.{adopted_now, choice_at, fits_own_in}
 use Rattle.site_node.specs.Writing.{EventWrites}
 use Rattle.site_parts.specs.declared.fault.NodeFault.{NodeFault}
 use Rattle.site_node.specs.declared.node.SiteNode.{SiteNode}
 use Rattle.site_parts.proofs.of_site_tables.Giving.{gives_none, gives_as}
-use Rattle.site_parts.proofs.Cuts.{copy_with}
+use Rattle.site_parts.proofs.Cuts.{content_come, copy_with}
 use Rattle.site_node.proofs.Moving.{same_places}
 
 notes_of : (f : Frame) (p : Pull) (o : Option SyncTable) (v : SiteView) → notes_own_at f p o v ≡ record v { tables = noting_own_of f.me p.file p.stamp o v.tables }
@@ -105,25 +107,55 @@ adopted_some e p n frame mid new m o a b s h f k q w =
       me = y.me;
     }
 
--- a pulled version that was taken out is written, noted and told of
-pub adopted_moves : (p : Pull) (xs : List ℕ) (n : SiteNode) (packs : PacksState) (tables : List SyncTable) (me : ℕ) (m o : Moment) (a b d : Outgoing) → xs ≡ p.content → me ≡ n.frame.me
-    → copies_on (groups_of n.packs) o.seen ≡ with_row copy_key (copy_with p xs) (copies_on (groups_of n.packs) m.seen) → Stand packs o → SamePlaces n.packs packs
-    → tables ≡ noting_own n.frame.me p.file p.stamp n.tables
-    → b ≡ record a { records = a.records ++ says.Adopt p.file me p.stamp ∷ [] } → d.packets ≡ b.packets ++ to_sync n.frame p.file.group (body.Have p.file p.stamp) → d.records ≡ b.records
-    → Moves (adopted_now n.frame p) n m (record n { packs = packs; tables = tables }) o a d
-adopted_moves p xs n packs tables me m o a b d e i c s l t f g h = record {
-  gives = record {
-    view = ap (λ (ts : List SyncTable). record (view_of n m.seen) { store = store_of n.store packs o.seen; tables = ts }) t
-        ∙ ap (λ (cs : List FileCopy). record (view_of n m.seen) { store = record { copies = cs; instances = n.store }; tables = noting_own n.frame.me p.file p.stamp n.tables })
-        (ap (λ (gs : List ℕ). copies_on gs o.seen) l.groups ∙ (c ∙ ap (λ (ys : List ℕ). with_row copy_key (copy_with p ys) (copies_on (groups_of n.packs) m.seen)) e));
-    packets = g ∙ ap (λ (x : Outgoing). x.packets ++ to_sync n.frame p.file.group (body.Have p.file p.stamp)) f;
-    records = h ∙ (ap (λ (x : Outgoing). x.records) f ∙ ap (λ (k : ℕ). a.records ++ says.Adopt p.file k p.stamp ∷ []) i);
-  };
-  stands = s;
-  places = l;
-  config = refl;
-  me = refl;
-}
+-- the step that the adoption of a pull is, over this version
+abbrev step_of : Pull → Option Stamp → List ℕ → Step
+step_of p before pages = record { before = before; after = p.stamp; pages = pages }
+
+module _ (p : Pull) (numbers came pages : List ℕ) (before : Option Stamp) (n : SiteNode) (packs : PacksState) (store : StoreState) (tables : List SyncTable) (m o : Moment)
+    (numbered : numbers ≡ wanted_pages p) (filled : came ≡ p.content) (paged : pages ≡ wanted_pages p) (held : stamp_of (copy_at n.packs m.seen p.file) ≡ before)
+    (copied : copies_on (groups_of n.packs) o.seen ≡ with_row copy_key (copy_with p (content_come p n.packs m.seen numbers came)) (copies_on (groups_of n.packs) m.seen)) (places : SamePlaces n.packs packs)
+    (stored : store ≡ record n.store { steps = with_step p.file (step_of p before pages) n.store.steps }) (noted : tables ≡ noting_own n.frame.me p.file p.stamp n.tables) where
+  abbrev own : List ℕ
+  own = content_of (copy_at n.packs m.seen p.file)
+
+  abbrev seen : List ℕ → List FileCopy
+  seen content = with_row copy_key (copy_with p content) (copies_on (groups_of n.packs) m.seen)
+
+  laid : content_come p n.packs m.seen numbers came ≡ content_adopted p own
+  laid = λ i. content_laid p.size (numbered i) (filled i) own
+
+  copies_so : copies_on (groups_of packs) o.seen ≡ seen (content_adopted p own)
+  copies_so = ap (λ (gs : List ℕ). copies_on gs o.seen) places.groups ∙ (copied ∙ ap seen laid)
+
+  step_so : step_of p before pages ≡ step_of p (stamp_of (copy_at n.packs m.seen p.file)) (wanted_pages p)
+  step_so = ap (λ (b : Option Stamp). step_of p b pages) (sym held) ∙ ap (step_of p (stamp_of (copy_at n.packs m.seen p.file))) paged
+
+  abbrev with_these : List FileCopy → StoreState → List SyncTable → SiteView
+  with_these cs r ts = record (view_of n m.seen) { store = record { copies = cs; instances = r.instances; steps = r.steps }; tables = ts }
+
+  abbrev stepped : Step → StoreState
+  stepped x = record n.store { steps = with_step p.file x n.store.steps }
+
+  view_so : view_of (record n { packs = packs; store = store; tables = tables }) o.seen ≡ (adopted_now n.frame p (view_of n m.seen)).view
+  view_so =
+      ap (λ (cs : List FileCopy). with_these cs store tables) copies_so
+      ∙ (ap (λ (r : StoreState). with_these (seen (content_adopted p own)) r tables) (stored ∙ ap stepped step_so)
+      ∙ ap (with_these (seen (content_adopted p own)) (stepped (step_of p (stamp_of (copy_at n.packs m.seen p.file)) (wanted_pages p)))) noted)
+
+  -- a pulled version that was taken out is written, noted and told of
+  pub adopted_moves : (me : ℕ) (a b d : Outgoing) → me ≡ n.frame.me → Stand packs o → b ≡ record a { records = a.records ++ says.Adopt p.file me p.stamp ∷ [] } → d.packets ≡ b.packets ++ to_sync n.frame p.file.group (body.Have p.file p.stamp) → d.records ≡ b.records
+      → Moves (adopted_now n.frame p) n m (record n { packs = packs; store = store; tables = tables }) o a d
+  adopted_moves me a b d i s f g h = record {
+    gives = record {
+      view = view_so;
+      packets = g ∙ ap (λ (x : Outgoing). x.packets ++ to_sync n.frame p.file.group (body.Have p.file p.stamp)) f;
+      records = h ∙ (ap (λ (x : Outgoing). x.records) f ∙ ap (λ (k : ℕ). a.records ++ says.Adopt p.file k p.stamp ∷ []) i);
+    };
+    stands = s;
+    places = places;
+    config = refl;
+    me = refl;
+  }
 
 -- ---- what is written ----
 
@@ -160,5 +192,15 @@ pub chosen_ready : (ready above : Pull → Bool) (ps pulls : List Pull) (p : Pul
 chosen_ready ready above [] pulls p e = no_pull p e
 chosen_ready ready above (x ∷ xs) pulls p e = chosen_by ready above x p xs pulls (chosen_ready ready above xs (without_row pull_key (pull_key x) pulls) p) (chosen_ready ready above xs pulls p) (ready x) (above x) refl e
 
+fits_by : (ready above : Pull → Bool) (x p : Pull) (xs pulls : List Pull) → (◌≡◌ {A = Option Pull} (Some p) (chooses ready above xs (without_row pull_key (pull_key x) pulls)).chosen → above p ≡ true) → (◌≡◌ {A = Option Pull} (Some p) (chooses ready above xs pulls).chosen → above p ≡ true)
+    → (a b : Bool) → above x ≡ b → ◌≡◌ {A = Option Pull} (Some p) (cond a (cond b (record { pulls = pulls; chosen = Some x }) (chooses ready above xs (without_row pull_key (pull_key x) pulls))) (chooses ready above xs pulls)).chosen → above p ≡ true
+fits_by ready above x p xs pulls h k true true e c = subst (λ (q : Pull). above q ≡ true) (sym (same_pull p x c)) e
+fits_by ready above x p xs pulls h k true false e c = h c
+fits_by ready above x p xs pulls h k false b e c = k c
+
+pub chosen_above : (ready above : Pull → Bool) (ps pulls : List Pull) (p : Pull) → ◌≡◌ {A = Option Pull} (Some p) (chooses ready above ps pulls).chosen → above p ≡ true
+chosen_above ready above [] pulls p e = no_pull p e
+chosen_above ready above (x ∷ xs) pulls p e = fits_by ready above x p xs pulls (chosen_above ready above xs (without_row pull_key (pull_key x) pulls) p) (chosen_above ready above xs pulls p) (ready x) (above x) refl e
+
 pub chosen_complete : (v : SiteView) (p : Pull) → ◌≡◌ {A = Option Pull} (Some p) (choice_at v).chosen → is_complete p ≡ true
-chosen_complete v p e = and_first (is_complete p) _ (chosen_ready (is_ready v) (is_above v) v.pulls v.pulls p e)
+chosen_complete v p e = and_first (is_complete p) _ (chosen_ready (is_ready v) (fits_own_in v) v.pulls v.pulls p e)

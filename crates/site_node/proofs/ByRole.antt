@@ -39,6 +39,8 @@ takes_by_role f from (body.Opened inst answer) v = table_with (on_opened f inst 
 takes_by_role f from (body.OpenDone serial answer) v = refl
 takes_by_role f from (body.Op serial n o seen) v = refl
 takes_by_role f from (body.OpDone serial n result) v = refl
+takes_by_role f from (body.ReadHeld serial n at len) v = refl
+takes_by_role f from (body.AsHeld serial n len) v = refl
 takes_by_role f from (body.Close serial) v = refl
 takes_by_role f from (body.Closed inst made) v = table_with (on_closed f from inst made) inst v
 takes_by_role f from (body.ClosedOk inst) v = refl
@@ -49,6 +51,8 @@ takes_by_role f from (body.LookDone call request take answer) v = refl
 takes_by_role f from (body.Notify file kind set size stamp vector holder) v = refl
 takes_by_role f from (body.Pull file stamp page) v = refl
 takes_by_role f from (body.Page file stamp page bytes) v = refl
+takes_by_role f from (body.Want file wanted own) v = refl
+takes_by_role f from (body.Delta file wanted pages) v = refl
 takes_by_role f from (body.Have file stamp) v = table_at (on_have from file stamp) file.group v
 takes_by_role f from _ v = refl
 

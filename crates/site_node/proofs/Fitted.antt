@@ -38,7 +38,7 @@ use Rattle.propagation.specs.Choosing.{chooses}
 use Rattle.site_parts.specs.Faults.{fault_of_commit, fault_of_epoch, fault_of_mend, fault_of_order}
 use Rattle.site_parts.specs.declared.fault.NodeFault.{NodeFault}
 use Rattle.site_parts.specs.declared.fault.NodeFault.TheVariants.{NoMemory, Disk, Cut, NoNumber, Unfit}
-use Rattle.site_node.specs.Adopting.{choice_at, is_above}
+use Rattle.site_node.specs.Adopting.{choice_at, fits_own_in}
 use Rattle.site_node.specs.Fitting.{CanKeep, HasInodes}
 use Rattle.site_node.specs.Repeats.{forming_repeats, installs_again}
 use Rattle.site_node.specs.Taking.{taken}
@@ -166,7 +166,7 @@ chosen_among ready above (x ∷ xs) pulls p e = over (ready x) (above x) e (chos
     over false b e h k = inr (k e)
 
 pub chosen_pull : (v : SiteView) (p : Pull) → ◌≡◌ {A = Option Pull} (Some p) (choice_at v).chosen → Among p v.pulls
-chosen_pull v p e = chosen_among (is_ready v) (is_above v) v.pulls v.pulls p e
+chosen_pull v p e = chosen_among (is_ready v) (fits_own_in v) v.pulls v.pulls p e
 
 -- ---- what is sent again ----
 

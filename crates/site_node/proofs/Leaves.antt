@@ -42,7 +42,7 @@ leaves_by f me left expected old new part a b c law l e p r w = record {
 
 -- the rest leaves an epoch
 pub rest_left : (me boot : ℕ) (id : EpochId) (old : SiteNode) (users : Users) (a b : Outgoing) → boot ≡ old.epochs.boot → users ≡ (users_leave me boot id old.users).view → b.packets ≡ a.packets
-    → b.records ≡ a.records ++ printed (users_leave me boot id old.users).told → Works (rest_leaves me (Some id)) old (record old { tables = []; store = []; users = users; pulls = [] }) a b
+    → b.records ≡ a.records ++ printed (users_leave me boot id old.users).told → Works (rest_leaves me (Some id)) old (record old { tables = []; store = record { instances = []; steps = [] }; users = users; pulls = [] }) a b
 rest_left me boot id old users a b e u p r = record {
   gives = λ image h. record {
     view = ap (with_users (dropped (view_of old image))) u;

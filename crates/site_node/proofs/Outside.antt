@@ -1,5 +1,5 @@
 -- A call of a site in no epoch is answered at once, whatever boot numbers the frame of no members has.
-use Rattle.std.proofs.Common.{◌≡◌, ℕ, ◌+◌, cond, true, false, Bool, [], ◌∷◌, Option, Some, None, refl, sym, ap, subst}
+use Rattle.std.proofs.Common.{◌≡◌, ℕ, ◌+◌, cond, true, false, Bool, List, [], ◌∷◌, Option, Some, None, refl, sym, ap, subst}
 use Rattle.locus_ids.specs.declared.ids.CallId.{CallId}
 use Rattle.locus_ids.specs.declared.config.Config.{Config}
 use Rattle.locus_ids.specs.declared.ids.EpochId.{EpochId}
@@ -19,7 +19,8 @@ use Rattle.call_rules.specs.declared.want.Want.TheVariants.{Give}
 use Rattle.role_steps.specs.Epochs.{with_users}
 use Rattle.role_steps.specs.Views.{Users, Outcome, joined_to, tells}
 use Rattle.role_steps.specs.Requests.{descriptors_of}
-use Rattle.role_steps.specs.Using.{accepted, accept_record, asks_want, frees, goes_on, is_packed, on_call, own_call}
+use Rattle.role_steps.specs.Using.{accepted, accept_record, asks_want, copied_part, counted_call, goes_on, is_packed, on_call, own_call, part_read, with_copied}
+use Rattle.role_steps.specs.declared.users.WaitingCall.{WaitingCall}
 use Rattle.role_steps.specs.declared.rounds.InEpoch.{InEpoch}
 use Rattle.site_parts.proofs.of_site_tables.Giving.{gives_as, gives_within}
 use Rattle.the_run.specs.Steps.{call_frame, epoch_id, takes_call}
@@ -75,23 +76,29 @@ begins_answered table id (call.Abort fd) = change_answered (table fd)
 begins_answered table id (call.Close fd) = close_answered (table fd)
 begins_answered table id _ = tt
 
-abbrev gives_as_well : Config → ℕ → ℕ → ℕ → ℕ → Call → Beginning → Reply → Users → Bool → Type 0
-gives_as_well c me boot process n words begins r u b =
-    asks_want (outside c me boot) (accepted process n words begins) (where_packed (is_packed (outside c me boot)) (cond b (Give (reply.No refusal.BadName)) (Give r))) u
-    ≡ asks_want (call_frame c me boot None) (accepted process n words begins) (where_packed (is_packed (call_frame c me boot None)) (cond b (Give (reply.No refusal.BadName)) (Give r))) u
+-- a call that was accepted, with the bytes that it reads, if the site has them in memory
+abbrev waits_with : ℕ → ℕ → Call → Beginning → Option (List ℕ) → WaitingCall
+waits_with process n words b copied = with_copied copied (accepted process n words b)
 
-goes_outside : (c : Config) (me boot process n : ℕ) (words : Call) (b : Beginning) (u : Users) → IsAnswered b → goes_on (outside c me boot) (accepted process n words b) u ≡ goes_on (call_frame c me boot None) (accepted process n words b) u
-goes_outside c me boot process n words (Denied why) u h = elim (is_badly_named c.mounts words) as (gives_as_well c me boot process n words (Denied why) (reply.No why) u) [ true ↦ refl | false ↦ refl ]
-goes_outside c me boot process n words Frees u h = elim (is_badly_named c.mounts words) as (gives_as_well c me boot process n words Frees (reply.Closed None) u) [ true ↦ refl | false ↦ refl ]
-goes_outside c me boot process n words (Uses e inst) u h = absurd h
-goes_outside c me boot process n words (Walks id) u h = absurd h
-goes_outside c me boot process n words (Reopens version last) u h = absurd h
+abbrev gives_as_well : Config → ℕ → ℕ → WaitingCall → Call → Reply → Users → Bool → Type 0
+gives_as_well c me boot w words r u b =
+    asks_want (outside c me boot) w (where_packed (is_packed (outside c me boot)) (cond b (Give (reply.No refusal.BadName)) (Give r))) u
+    ≡ asks_want (call_frame c me boot None) w (where_packed (is_packed (call_frame c me boot None)) (cond b (Give (reply.No refusal.BadName)) (Give r))) u
+
+goes_outside : (c : Config) (me boot process n : ℕ) (words : Call) (b : Beginning) (copied : Option (List ℕ)) (u : Users) → IsAnswered b → goes_on (outside c me boot) (waits_with process n words b copied) u ≡ goes_on (call_frame c me boot None) (waits_with process n words b copied) u
+goes_outside c me boot process n words (Denied why) copied u h = elim (is_badly_named c.mounts words) as (gives_as_well c me boot (waits_with process n words (Denied why) copied) words (reply.No why) u) [ true ↦ refl | false ↦ refl ]
+goes_outside c me boot process n words Frees copied u h = elim (is_badly_named c.mounts words) as (gives_as_well c me boot (waits_with process n words Frees copied) words (reply.Closed None) u) [ true ↦ refl | false ↦ refl ]
+goes_outside c me boot process n words (Uses e inst) copied u h = absurd h
+goes_outside c me boot process n words (Walks id) copied u h = absurd h
+goes_outside c me boot process n words (Reopens version last) copied u h = absurd h
 
 pub call_outside : (c : Config) (me boot process : ℕ) (words : Call) (u : Users) → on_call (call_frame c me boot None) None process words u ≡ on_call (outside c me boot) None process words u
 call_outside c me boot process words u =
     let n : ℕ = u.calls + 1 in
-    let told = tells (accept_record me boot process n words ∷ []) (frees process words (record u { calls = n })) in
-    ap (λ (o : Outcome Users). joined_to told o) (sym (goes_outside c me boot process n words (beginning (descriptors_of u process) None (own_call me boot n) words) (frees process words (record u { calls = n })) (begins_answered (descriptors_of u process) (own_call me boot n) words)))
+    let begins : Beginning = beginning (descriptors_of u process) None (own_call me boot n) words in
+    let counted : Users = counted_call (outside c me boot) None process words u in
+    ap (λ (o : Outcome Users). joined_to (tells (accept_record me boot process n words ∷ []) counted) o)
+    (sym (goes_outside c me boot process n words begins (copied_part (part_read u words begins) u.cache) counted (begins_answered (descriptors_of u process) (own_call me boot n) words)))
 
 -- ---- a call in the frame of the site's epoch, or in that of no epoch ----
 

@@ -14,7 +14,7 @@ use Rattle.propagation.specs.declared.adopting.Verdict.{Verdict}
 use Rattle.propagation.specs.declared.adopting.Verdict.TheVariants as verdict
 use Rattle.propagation.proofs.Choices.{adopt_now, drop_next, fewer_gone, wait_next}
 use Rattle.site_packs.specs.Packs.{AreShown}
-use Rattle.site_node.specs.Adopting.{ShowsPull, choice_at, is_above}
+use Rattle.site_node.specs.Adopting.{ShowsPull, choice_at, fits_own_in}
 use Rattle.site_node.specs.Views.{view_of}
 use Rattle.site_node.specs.declared.choosing.Fate.{Fate}
 use Rattle.site_node.specs.declared.choosing.Fate.TheVariants as fate
@@ -34,33 +34,33 @@ judged true true = refl
 judged true false = refl
 judged false b = refl
 
-looks : (v : SiteView) (place : ℕ) (seen : PullSeen) → ShowsPull v place seen → LooksAt (is_ready v) (is_above v) v.pulls place (look_of seen)
-looks v place seen s = record { pull = s.pull; stands = s.stands; file = s.file; verdict = ap verdict_as s.fate ∙ judged (is_ready v s.pull) (is_above v s.pull); rising = s.rising }
+looks : (v : SiteView) (place : ℕ) (seen : PullSeen) → ShowsPull v place seen → LooksAt (is_ready v) (fits_own_in v) v.pulls place (look_of seen)
+looks v place seen s = record { pull = s.pull; stands = s.stands; file = s.file; verdict = ap verdict_as s.fate ∙ judged (is_ready v s.pull) (fits_own_in v s.pull); rising = s.rising }
 
 pub record Choosing (old now : SiteNode) (place : ℕ) (image : List ℕ) : Type 0 where
   pub rest : now ≡ record old { pulls = now.pulls }
-  pub choice : chooses (is_ready (view_of old image)) (is_above (view_of old image)) (drop place now.pulls) now.pulls ≡ choice_at (view_of old image)
+  pub choice : chooses (is_ready (view_of old image)) (fits_own_in (view_of old image)) (drop place now.pulls) now.pulls ≡ choice_at (view_of old image)
 
-pub choosing : (old now : SiteNode) (place : ℕ) (image : List ℕ) → now ≡ record old { pulls = now.pulls } → chooses (is_ready (view_of old image)) (is_above (view_of old image)) (drop place now.pulls) now.pulls ≡ choice_at (view_of old image) → Choosing old now place image
+pub choosing : (old now : SiteNode) (place : ℕ) (image : List ℕ) → now ≡ record old { pulls = now.pulls } → chooses (is_ready (view_of old image)) (fits_own_in (view_of old image)) (drop place now.pulls) now.pulls ≡ choice_at (view_of old image) → Choosing old now place image
 choosing old now place image r c = record { rest = r; choice = c }
 
 pub shown_now : (old now : SiteNode) (image : List ℕ) → now ≡ record old { pulls = now.pulls } → AreShown old.packs.packs image → AreShown now.packs.packs image
 shown_now old now image r h = subst (λ (n : SiteNode). AreShown n.packs.packs image) (sym r) h
 
-looks_old : (old now : SiteNode) (place : ℕ) (image : List ℕ) (seen : PullSeen) → now ≡ record old { pulls = now.pulls } → ShowsPull (view_of now image) place seen → LooksAt (is_ready (view_of old image)) (is_above (view_of old image)) now.pulls place (look_of seen)
-looks_old old now place image seen r s = subst (λ (n : SiteNode). LooksAt (is_ready (view_of n image)) (is_above (view_of n image)) now.pulls place (look_of seen)) r (looks (view_of now image) place seen s)
+looks_old : (old now : SiteNode) (place : ℕ) (image : List ℕ) (seen : PullSeen) → now ≡ record old { pulls = now.pulls } → ShowsPull (view_of now image) place seen → LooksAt (is_ready (view_of old image)) (fits_own_in (view_of old image)) now.pulls place (look_of seen)
+looks_old old now place image seen r s = subst (λ (n : SiteNode). LooksAt (is_ready (view_of n image)) (fits_own_in (view_of n image)) now.pulls place (look_of seen)) r (looks (view_of now image) place seen s)
 
 pub waited : (old now : SiteNode) (place : ℕ) (image : List ℕ) (seen : PullSeen) → Choosing old now place image → ShowsPull (view_of now image) place seen → seen.fate ≡ fate.Wait
-    → chooses (is_ready (view_of old image)) (is_above (view_of old image)) (drop (place + 1) now.pulls) now.pulls ≡ choice_at (view_of old image)
-waited old now place image seen k s f = wait_next (is_ready (view_of old image)) (is_above (view_of old image)) now.pulls place (look_of seen) (choice_at (view_of old image)) (looks_old old now place image seen k.rest s) (ap verdict_as f) k.choice
+    → chooses (is_ready (view_of old image)) (fits_own_in (view_of old image)) (drop (place + 1) now.pulls) now.pulls ≡ choice_at (view_of old image)
+waited old now place image seen k s f = wait_next (is_ready (view_of old image)) (fits_own_in (view_of old image)) now.pulls place (look_of seen) (choice_at (view_of old image)) (looks_old old now place image seen k.rest s) (ap verdict_as f) k.choice
 
 pub dropped_next : (old now : SiteNode) (place : ℕ) (image : List ℕ) (seen : PullSeen) (pulls : List Pull) → Choosing old now place image → ShowsPull (view_of now image) place seen → seen.fate ≡ fate.Drop → pulls ≡ without_row pull_key (file_key seen.file) now.pulls
-    → chooses (is_ready (view_of old image)) (is_above (view_of old image)) (drop place pulls) pulls ≡ choice_at (view_of old image)
-dropped_next old now place image seen pulls k s f p = drop_next (is_ready (view_of old image)) (is_above (view_of old image)) now.pulls pulls place (look_of seen) (choice_at (view_of old image)) (looks_old old now place image seen k.rest s) (ap verdict_as f) p k.choice
+    → chooses (is_ready (view_of old image)) (fits_own_in (view_of old image)) (drop place pulls) pulls ≡ choice_at (view_of old image)
+dropped_next old now place image seen pulls k s f p = drop_next (is_ready (view_of old image)) (fits_own_in (view_of old image)) now.pulls pulls place (look_of seen) (choice_at (view_of old image)) (looks_old old now place image seen k.rest s) (ap verdict_as f) p k.choice
 
 pub taken_now : (old now : SiteNode) (place : ℕ) (image : List ℕ) (seen : PullSeen) (pulls : List Pull) (taken : Option Pull) → Choosing old now place image → ShowsPull (view_of now image) place seen → seen.fate ≡ fate.Adopt → taken ≡ row pull_key (file_key seen.file) now.pulls
     → pulls ≡ without_row pull_key (file_key seen.file) now.pulls → (taken ≡ (choice_at (view_of old image)).chosen) × (pulls ≡ without_chosen (choice_at (view_of old image)))
-taken_now old now place image seen pulls taken k s f t p = adopt_now (is_ready (view_of old image)) (is_above (view_of old image)) now.pulls pulls place (look_of seen) (choice_at (view_of old image)) taken (looks_old old now place image seen k.rest s) (ap verdict_as f) t p k.choice
+taken_now old now place image seen pulls taken k s f t p = adopt_now (is_ready (view_of old image)) (fits_own_in (view_of old image)) now.pulls pulls place (look_of seen) (choice_at (view_of old image)) taken (looks_old old now place image seen k.rest s) (ap verdict_as f) t p k.choice
 
 abbrev with_left : SiteNode → List Pull → SiteNode
 with_left n pulls = record n { pulls = pulls }

@@ -21,11 +21,13 @@ use Rattle.site_node.proofs.Moving.{moves_as, moves_from, moves_none, same_place
 pub tried : (c : Config) (me : ℕ) (b : Body) (v : SiteView) → true ≡ is_tried b → tries_at c me b v ≡ adopts_in c me v
 tried c me (body.Notify file kind set size stamp vector holder) v e = refl
 tried c me (body.Page file stamp page bytes) v e = refl
+tried c me (body.Delta file wanted pages) v e = refl
 tried c me _ v e = absurd (cc)
 
 untried : (c : Config) (me : ℕ) (b : Body) (v : SiteView) → false ≡ is_tried b → tries_at c me b v ≡ quiet v
 untried c me (body.Notify file kind set size stamp vector holder) v e = absurd (cc)
 untried c me (body.Page file stamp page bytes) v e = absurd (cc)
+untried c me (body.Delta file wanted pages) v e = absurd (cc)
 untried c me _ v e = refl
 
 pub tries_none : (c : Config) (me : ℕ) (b : Body) (t : Bool) (n : SiteNode) (m : Moment) (a : Outgoing) → Stand n.packs m → t ≡ is_tried b → t ≡ false → Moves (tries_at c me b) n m n m a a

@@ -1,33 +1,40 @@
 -- What an event needs, as each of its parts meets it.
 use Rattle.std.proofs.Common.{◌≡◌, ◌≤◌, ◌<◌, ◌-◌, ℕ, true, false, List, [], ◌++◌, length, Option, Some, refl, sym, ap, ◌∙◌, subst, arith}
 use Rattle.std.specs.List.{AllByRecursion}
+use Rattle.std.specs.Option.{is_some}
 use Rattle.disk_model.specs.Disk.{Moment}
 use Rattle.locus_ids.specs.declared.config.Config.{Config}
 use Rattle.locus_ids.specs.declared.sites.Links.{Links}
-use Rattle.file_content.specs.Pages.{pages_of}
+use Rattle.file_content.specs.Pages.{has_page, pages_of}
 use Rattle.wire_messages.specs.Outboxes.{Outgoing}
 use Rattle.packet_order.specs.Counts.{FitsIfCounted}
 use Rattle.wire_messages.specs.declared.body.Body.{Body}
 use Rattle.wire_messages.specs.declared.packet.Packet.{Packet}
 use Rattle.role_steps.specs.Epochs.{frame_in, passes_over}
-use Rattle.role_steps.specs.Storage.{copy_pages}
-use Rattle.role_steps.specs.Tables.{total}
+use Rattle.role_steps.proofs.of_plain_facts.Numbers.{same as is_same}
+use Rattle.role_steps.proofs.of_plain_facts.Tests.{and_second}
+use Rattle.role_steps.specs.Storage.{content_of}
+use Rattle.role_steps.specs.Pulling.{bytes_in, is_complete, pages_got, wanted_pages}
 use Rattle.role_steps.specs.Views.{Frame, Outcome, Receives, SiteView, Ticks}
 use Rattle.role_steps.specs.declared.pulls.Pull.{Pull}
 use Rattle.role_steps.specs.declared.rounds.InEpoch.{InEpoch}
 use Rattle.the_run.specs.Steps.{adopts_in, ends_event, in_order, is_dropped, repeats, step, tries_at}
 use Rattle.site_parts.specs.of_using_site.Steps.{Gives}
+use Rattle.stored_versions.specs.declared.new_version.NewVersion.{NewVersion}
+use Rattle.site_packs.specs.of_inode_pack.of_new_contents.declared.laid_pages.LaidPages.{LaidPages}
 use Rattle.site_packs.specs.Committing.{IsWholeFit, room}
-use Rattle.site_packs.specs.Packs.{groups_of}
-use Rattle.site_node.specs.Adopting.{choice_at, is_above}
+use Rattle.site_packs.specs.Laying.{AreLaid, ArePagesOf, AreRising, IsLaidFit}
+use Rattle.site_packs.specs.Packs.{copy_at, groups_of}
+use Rattle.site_node.specs.Adopting.{choice_at, fits_own_in}
 use Rattle.role_steps.specs.Adoption.{is_ready}
 use Rattle.propagation.specs.Choosing.{without_chosen}
+use Rattle.propagation.specs.Sized.{IsSized}
 use Rattle.site_node.specs.Fitting.{CanAdopt, CanKeep, CanTakeIn, CanTakeInside, HasInodes, acted}
 use Rattle.site_node.specs.Repeats.{Repeats}
 use Rattle.site_node.specs.Taking.{taken}
 use Rattle.site_node.specs.Views.{Moves, view_of}
 use Rattle.site_node.specs.declared.node.SiteNode.{SiteNode}
-use Rattle.site_node.proofs.Adoptions.{chosen_ready}
+use Rattle.site_node.proofs.Adoptions.{chosen_above, chosen_ready}
 use Rattle.site_node.proofs.Fitted.{all_first, all_last, all_ordered, chosen_pull, own_fit, step_taken, tables_then}
 use Rattle.site_node.proofs.Moving.{moves_from}
 
@@ -139,13 +146,34 @@ pub chosen_keeps : (p : Pull) (n : SiteNode) (frame : Frame) (mid : SiteNode) (i
     → CanAdopt (groups_of n.packs) (view_of n image) → CanKeep (groups_of mid.packs) (view_of mid image).store p
 chosen_keeps p n frame mid image chosen left can =
     let v : SiteView = view_of n image in
-    subst (λ (x : SiteNode). CanKeep (groups_of x.packs) (view_of x image).store p) (sym left) (can p (chosen_pull v p chosen) (chosen_ready (is_ready v) (is_above v) v.pulls v.pulls p chosen))
+    subst (λ (x : SiteNode). CanKeep (groups_of x.packs) (view_of x image).store p) (sym left) (can p (chosen_pull v p chosen) (chosen_ready (is_ready v) (fits_own_in v) v.pulls v.pulls p chosen) (chosen_above (is_ready v) (fits_own_in v) v.pulls v.pulls p chosen))
 
-pub keeps_whole : (n : SiteNode) (image : List ℕ) (p : Pull) (xs : List ℕ) → xs ≡ p.content → CanKeep (groups_of n.packs) (view_of n image).store p → IsWholeFit n.packs p.file (record { kind = p.kind; set = p.set; stamp = p.stamp; vector = p.vector }) (length xs)
-keeps_whole n image p xs is can = subst (λ (ys : List ℕ). IsWholeFit n.packs p.file (record { kind = p.kind; set = p.set; stamp = p.stamp; vector = p.vector }) (length ys)) (sym is) (record { group = can.group; low = can.low; high = can.high; version = can.version })
+-- the pages that came of a pulled version may be laid over the site's own copy
+module _ (n : SiteNode) (image : List ℕ) (p : Pull) (came : LaidPages) (size : came.size ≡ p.size) (numbered : came.numbers.now ≡ wanted_pages p) (filled : came.bytes.now ≡ p.content) (can : CanKeep (groups_of n.packs) (view_of n image).store p) where
+  abbrev given : NewVersion
+  given = record { kind = p.kind; set = p.set; stamp = p.stamp; vector = p.vector }
 
-pub has_room : (n : SiteNode) (image : List ℕ) (p : Pull) (xs : List ℕ) → xs ≡ p.content → CanKeep (groups_of n.packs) (view_of n image).store p → room n.packs image p.file.group < pages_of (length xs) → ⊥
-has_room n image p xs is can few = over (pages_of (length p.content)) (room n.packs image p.file.group) can.room (subst (λ (ys : List ℕ). room n.packs image p.file.group < pages_of (length ys)) is few)
-  where
-    over : (a b : ℕ) → a ≤ b → b < a → ⊥
-    over a b l k = omega (arith, l, k)
+  abbrev has : ℕ → ℕ
+  has page = bytes_in (length (content_of (copy_at n.packs image p.file))) page
+
+  abbrev Keeps : ℕ → List ℕ → Type 0
+  Keeps bytes numbers = (page : ℕ) → page < pages_of bytes → has_page numbers page ≡ false → bytes_in bytes page ≤ has page
+
+  pub keeps_laid : IsSized p → is_complete p ≡ true → IsLaidFit n.packs image p.file given came
+  keeps_laid sized full =
+      let all : pages_got p ≡ length (wanted_pages p) = is_same (pages_got p) (length (wanted_pages p)) (and_second (is_some p.wanted) _ full) in
+      let whole : IsWholeFit n.packs p.file given p.size = record { group = can.group; low = can.low; high = can.high; version = can.version } in
+      let rising : AreRising (pages_of p.size) (wanted_pages p) = record { ascend = sized.ascend; inside = sized.inside } in
+      let bytes : ArePagesOf p.size (wanted_pages p) p.content = λ k l. sized.bytes k (omega (arith, all, l)) in
+      let laid : AreLaid (length (content_of (copy_at n.packs image p.file))) came = record {
+        pages = subst (λ (k : ℕ). AreRising (pages_of k) came.numbers.now) (sym size) (subst (λ (ps : List ℕ). AreRising (pages_of p.size) ps) (sym numbered) rising);
+        bytes = subst (λ (k : ℕ). ArePagesOf k came.numbers.now came.bytes.now) (sym size) (subst (λ (ps : List ℕ). ArePagesOf p.size ps came.bytes.now) (sym numbered) (subst (λ (bs : List ℕ). ArePagesOf p.size (wanted_pages p) bs) (sym filled) bytes));
+        kept = subst (λ (k : ℕ). Keeps k came.numbers.now) (sym size) (subst (λ (ps : List ℕ). Keeps p.size ps) (sym numbered) can.kept);
+      } in
+      record { whole = subst (λ (k : ℕ). IsWholeFit n.packs p.file given k) (sym size) whole; laid = laid }
+
+  pub has_room : room n.packs image p.file.group < length came.numbers.now → ⊥
+  has_room few = over (length (wanted_pages p)) (room n.packs image p.file.group) can.room (subst (λ (ps : List ℕ). room n.packs image p.file.group < length ps) numbered few)
+    where
+      over : (a b : ℕ) → a ≤ b → b < a → ⊥
+      over a b l k = omega (arith, l, k)

@@ -24,7 +24,7 @@ use Rattle.role_steps.specs.declared.rounds.Round.{Round}
 use Rattle.role_steps.specs.declared.synchronizing.FileRow.{FileRow}
 use Rattle.role_steps.specs.declared.synchronizing.SyncTable.{SyncTable}
 use Rattle.the_run.specs.Steps.{adopts_in, at_table_of, call_frame, ends_after, ends_event, epoch_id, is_opened_in, starts_mends_of, takes, takes_call, takes_framed, takes_inside, ticks_after, tries_at, whole}
-use Rattle.site_parts.proofs.of_run_laws.Telling.{on_opened_talks, on_open_talks, on_look_talks, on_report_talks, on_closed_talks, on_have_talks, on_notify_talks, on_page_talks, on_call_talks, on_open_done_talks, on_op_done_talks, on_close_done_talks, on_look_done_talks}
+use Rattle.site_parts.proofs.of_run_laws.Telling.{on_opened_talks, on_open_talks, on_look_talks, on_report_talks, on_closed_talks, on_have_talks, on_notify_talks, on_page_talks, on_delta_talks, on_call_talks, on_open_done_talks, on_op_done_talks, on_as_held_talks, on_close_done_talks, on_look_done_talks}
 use Rattle.site_parts.specs.Roles.{role_of}
 use Rattle.site_node.specs.Taking.{is_tried, taken}
 use Rattle.site_parts.specs.declared.roles.Role.{Role}
@@ -128,6 +128,8 @@ unwritten f from (body.Opened inst answer) v h = table_none (on_opened f inst an
 unwritten f from (body.OpenDone serial answer) v h = (on_open_done_talks f (kept_stamps v) serial answer v.users).1
 unwritten f from (body.Op serial n o seen) v h = absurd (h refl)
 unwritten f from (body.OpDone serial n result) v h = (on_op_done_talks f serial n result v.users).1
+unwritten f from (body.ReadHeld serial n at len) v h = absurd (h refl)
+unwritten f from (body.AsHeld serial n len) v h = (on_as_held_talks f serial n v.users).1
 unwritten f from (body.Close serial) v h = absurd (h refl)
 unwritten f from (body.Closed inst made) v h = table_none (on_closed f from inst made) (first_that (is_opened_in inst) v.tables) v (λ t. (on_closed_talks f from inst made t).1)
 unwritten f from (body.ClosedOk inst) v h = absurd (h refl)
@@ -135,9 +137,11 @@ unwritten f from (body.CloseDone serial answer) v h = (on_close_done_talks f ser
 unwritten f from (body.Look call process request take file what) v h = table_none (on_look f from (record { call = call; process = process; request = request; take = take; file = file; what = what })) (row table_group file.group v.tables) v (λ t. (on_look_talks f from (record { call = call; process = process; request = request; take = take; file = file; what = what }) t).1)
 unwritten f from (body.LookSs us call process request take file what serve) v h = absurd (h refl)
 unwritten f from (body.LookDone call request take answer) v h = (on_look_done_talks f call request take answer v.users).1
-unwritten f from (body.Notify file kind set size stamp vector holder) v h = (on_notify_talks f from (copy_of v.store file) (record { file = file; kind = kind; set = set; size = size; stamp = stamp; vector = vector; holder = holder; content = [] }) v.pulls).1
+unwritten f from (body.Notify file kind set size stamp vector holder) v h = (on_notify_talks f from (copy_of v.store file) (record { file = file; kind = kind; set = set; size = size; stamp = stamp; vector = vector; holder = holder; base = None; wanted = None; content = [] }) v.pulls).1
 unwritten f from (body.Pull file stamp page) v h = absurd (h refl)
 unwritten f from (body.Page file stamp page bytes) v h = (on_page_talks f file stamp page bytes v.pulls).1
+unwritten f from (body.Want file wanted own) v h = absurd (h refl)
+unwritten f from (body.Delta file wanted pages) v h = (on_delta_talks f (copy_of v.store file) file wanted pages v.pulls).1
 unwritten f from (body.Have file stamp) v h = table_none (on_have from file stamp) (row table_group file.group v.tables) v (λ t. (on_have_talks from file stamp t).1)
 unwritten f from body.Poll v h = refl
 unwritten f from (body.Promise reach) v h = refl
@@ -187,6 +191,7 @@ pulls_no_store e = cc
 tried_as : (c : Config) (me : ℕ) (links : Links) (p : Packet) (b : Body) (v : SiteView) → p.body ≡ b → is_tried b ≡ true → (takes c me links p b v).written ≡ None
 tried_as c me links p (body.Notify file kind set size stamp vector holder) v e h = framed_none c me p v.epoch v (λ k. pulls_no_store (sym (ap role_of e) ∙ k))
 tried_as c me links p (body.Page file stamp page bytes) v e h = framed_none c me p v.epoch v (λ k. pulls_no_store (sym (ap role_of e) ∙ k))
+tried_as c me links p (body.Delta file wanted pages) v e h = framed_none c me p v.epoch v (λ k. pulls_no_store (sym (ap role_of e) ∙ k))
 tried_as c me links p _ v e h = absurd (cc)
 
 -- what tries an adoption writes nothing itself
@@ -196,6 +201,7 @@ tried_none c me links p v h = tried_as c me links p p.body v refl h
 pub untried_none : (c : Config) (me : ℕ) (b : Body) (v : SiteView) → is_tried b ≡ false → (tries_at c me b v).written ≡ None
 untried_none c me (body.Notify file kind set size stamp vector holder) v e = absurd (cc)
 untried_none c me (body.Page file stamp page bytes) v e = absurd (cc)
+untried_none c me (body.Delta file wanted pages) v e = absurd (cc)
 untried_none c me _ v e = refl
 
 -- ---- a call ----

@@ -1,17 +1,18 @@
 -- What an event of a site needs so that it isn't refused as unfit.
-use Rattle.std.specs.Prelude.{◌≡◌, ◌≢◌, ℕ, ◌-◌, ◌≤◌, true, false, List, length, Option, None, Some}
+use Rattle.std.specs.Prelude.{◌≡◌, ◌≢◌, ℕ, ◌-◌, ◌<◌, ◌≤◌, true, false, List, length, Option, None, Some}
 use Rattle.std.specs.List.{AllByRecursion}
 use Rattle.locus_ids.specs.Sizes.{inodes_max, file_bytes_max, pack_pages}
 use Rattle.locus_ids.specs.declared.config.Config.{Config}
 use Rattle.locus_ids.specs.declared.sites.Links.{Links}
-use Rattle.file_content.specs.Pages.{pages_of}
+use Rattle.file_content.specs.Pages.{has_page, pages_of}
 use Rattle.stored_versions.specs.Versions.{IsVersion}
 use Rattle.packet_order.specs.Counts.{FitsIfCounted}
 use Rattle.wire_messages.specs.declared.body.Body.{Body}
 use Rattle.wire_messages.specs.declared.body.Body.TheVariants as body
-use Rattle.role_steps.specs.Adoption.{is_ready}
+use Rattle.role_steps.specs.Adoption.{is_ready, fits_own}
 use Rattle.role_steps.specs.Epochs.{frame_in, leaves, passes_over, starts_merge, starts_part}
-use Rattle.role_steps.specs.Storage.{copy_pages}
+use Rattle.role_steps.specs.Pulling.{bytes_in, wanted_pages}
+use Rattle.role_steps.specs.Storage.{content_of, copy_of, copy_pages}
 use Rattle.role_steps.specs.Tables.{total}
 use Rattle.role_steps.specs.Views.{Frame, Store, SiteView, Event, Calls, Receives, Ticks, Parts, Merges, GivesUp}
 use Rattle.role_steps.specs.declared.pulls.Pull.{Pull}
@@ -48,19 +49,21 @@ CanTake c me groups home v _ = Unit {0}
 
 -- ---- an adoption ----
 
--- the pulled version may be kept in a pack of its group: its inode is one, a slot may say what it is, and there is room for it
+-- The pulled version may be kept in a pack of its group: its inode is one, a slot may say what it is, of each page that wasn't pulled the
+-- site's own copy has the bytes, and there is room for those that were.
 pub record CanKeep (groups : List ℕ) (s : Store) (p : Pull) : Type 0 where
   pub group : has_group groups p.file.group ≡ true
   pub low : 1 ≤ p.file.ino
   pub high : p.file.ino ≤ inodes_max
-  pub version : IsVersion (record { kind = p.kind; set = p.set; stamp = p.stamp; vector = p.vector }) (length p.content)
-  pub room : pages_of (length p.content) ≤ pack_pages - total (copy_pages p.file.group) s.copies
+  pub version : IsVersion (record { kind = p.kind; set = p.set; stamp = p.stamp; vector = p.vector }) p.size
+  pub kept : (page : ℕ) → page < pages_of p.size → has_page (wanted_pages p) page ≡ false → bytes_in p.size page ≤ bytes_in (length (content_of (copy_of s p.file))) page
+  pub room : length (wanted_pages p) ≤ pack_pages - total (copy_pages p.file.group) s.copies
 
--- each pull that is ready may be adopted
+-- each pull that is ready and fits the site's own copy may be adopted
 abbrev pub CanAdopt : List ℕ → SiteView → Type 0
-CanAdopt groups v = (p : Pull) → Among p v.pulls → is_ready v p ≡ true → CanKeep groups v.store p
+CanAdopt groups v = (p : Pull) → Among p v.pulls → is_ready v p ≡ true → fits_own p (copy_of v.store p.file) ≡ true → CanKeep groups v.store p
 
--- in the view in which an adoption is tried: at a Notify and a Page that have been taken, and at a tick
+-- in the view in which an adoption is tried: at a Notify, a Page and a Delta that have been taken, and at a tick
 abbrev pub CanTry : Config → ℕ → List ℕ → Links → SiteView → Event → Type 0
 CanTry c me groups links v (Receives p) = is_dropped p v ≡ false → is_tried p.body ≡ true → CanAdopt groups (takes c me links p p.body v).view
 CanTry c me groups links v Ticks = CanAdopt groups v

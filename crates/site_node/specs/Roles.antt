@@ -1,5 +1,5 @@
 -- What each role of a site takes of the packets of its epoch.
-use Rattle.std.specs.Prelude.{ℕ, List, [], Option}
+use Rattle.std.specs.Prelude.{ℕ, List, [], Option, None}
 use Rattle.locus_ids.specs.declared.ids.FileId.{FileId}
 use Rattle.locus_ids.specs.declared.ids.Stamp.{Stamp}
 use Rattle.wire_messages.specs.declared.body.Body.{Body}
@@ -8,8 +8,8 @@ use Rattle.wire_messages.specs.declared.body.Body.TheVariants as body
 use Rattle.role_steps.specs.Tables.{without_row}
 use Rattle.role_steps.specs.Views.{Frame, Users, SiteView, Outcome, quiet, within}
 use Rattle.role_steps.specs.Storage.{copy_of}
-use Rattle.role_steps.specs.Pulling.{on_notify, on_page}
-use Rattle.role_steps.specs.Using.{on_open_done, on_op_done, on_close_done, on_look_done}
+use Rattle.role_steps.specs.Pulling.{on_notify, on_page, on_delta}
+use Rattle.role_steps.specs.Using.{on_open_done, on_op_done, on_as_held, on_close_done, on_look_done}
 use Rattle.role_steps.specs.Epochs.{with_users}
 use Rattle.role_steps.specs.Adoption.{with_store}
 use Rattle.role_steps.specs.Mends.{kept_stamps}
@@ -28,14 +28,16 @@ use Rattle.site_parts.specs.declared.roles.Role.TheVariants as role
 abbrev pub users_take : Frame → (FileId → List Stamp) → Body → Users → Outcome Users
 users_take f all (body.OpenDone serial answer) u = on_open_done f all serial answer u
 users_take f all (body.OpDone serial n result) u = on_op_done f serial n result u
+users_take f all (body.AsHeld serial n len) u = on_as_held f serial n u
 users_take f all (body.CloseDone serial answer) u = on_close_done f serial answer u
 users_take f all (body.LookDone call request take answer) u = on_look_done f call request take answer u
 users_take f all _ u = quiet u
 
 abbrev pub pulls_take : Frame → (FileId → Option FileCopy) → ℕ → Body → List Pull → Outcome (List Pull)
 pulls_take f own from (body.Notify file kind set size stamp vector holder) pulls =
-    on_notify f from (own file) (record { file = file; kind = kind; set = set; size = size; stamp = stamp; vector = vector; holder = holder; content = [] }) pulls
+    on_notify f from (own file) (record { file = file; kind = kind; set = set; size = size; stamp = stamp; vector = vector; holder = holder; base = None; wanted = None; content = [] }) pulls
 pulls_take f own from (body.Page file stamp page bytes) pulls = on_page f file stamp page bytes pulls
+pulls_take f own from (body.Delta file wanted pages) pulls = on_delta f (own file) file wanted pages pulls
 pulls_take f own from _ pulls = quiet pulls
 
 abbrev pub without_report : Body → SiteView → SiteView

@@ -20,10 +20,11 @@ in_epoch_takes_of c me from b (Some e) v = takes_inside (frame_in c me v.boot e)
 abbrev pub in_epoch_takes : Config → ℕ → ℕ → Body → SiteView → Outcome SiteView
 in_epoch_takes c me from b v = in_epoch_takes_of c me from b v.epoch v
 
--- an adoption is tried at each Notify and each Page
+-- an adoption is tried at each Notify, each Page and each Delta
 abbrev pub is_tried : Body → Bool
 is_tried (body.Notify file kind set size stamp vector holder) = true
 is_tried (body.Page file stamp page bytes) = true
+is_tried (body.Delta file wanted pages) = true
 is_tried _ = false
 
 -- it refuses for an id of the greatest number

@@ -1,19 +1,19 @@
 // Which pulled version is adopted.
-ghost use Rattle.std.specs.Prelude.{◌≡◌, ◌<◌, ℕ, List, length, slice_get, Some};
+ghost use Rattle.std.specs.Prelude.{◌≡◌, ◌<◌, ℕ, List, length, slice_get, Some, IfSome};
 ghost use Rattle.std.specs.Option.{option_map};
 ghost use Rattle.keyed_tables.specs.Rising.{Rising};
 ghost use Rattle.role_steps.specs.Adoption.{has_room, is_ready};
-ghost use Rattle.role_steps.specs.Pulling.{is_complete, pull_key};
+ghost use Rattle.role_steps.specs.Pulling.{pull_key, wanted_pages};
 ghost use Rattle.role_steps.specs.declared.pulls.Pull.{Pull};
 ghost use Rattle.propagation.specs.Choosing.{without_chosen};
+ghost use Rattle.propagation.specs.Sized.{IsSized};
 ghost use Rattle.site_packs.specs.Packs.{AreShown};
 ghost use Rattle.site_node.specs.Views.{view_of};
-ghost use Rattle.site_node.specs.Adopting.{choice_at, fate_of, is_above, ShowsPull};
+ghost use Rattle.site_node.specs.Adopting.{choice_at, fate_of, fits_own_in, ShowsPull};
 
 use crate::SiteNode;
-use file_content::pages_of;
 use locus_ids::FileId;
-use propagation::is_above_own;
+use propagation::{fits_own, is_complete};
 use role_steps::Pull;
 
 /// What becomes of a pull.
@@ -32,10 +32,11 @@ pub(crate) struct PullSeen {
 }
 
 impl SiteNode {
-    /// Takes out the pull whose version is adopted: of those that are ready and above the site's own copy, that of the least
-    /// group and inode. A ready one before it that isn't above the own copy is dropped.
+    /// Takes out the pull whose version is adopted: of those that are ready and fit the site's own copy, that of the least group and
+    /// inode. A ready one before it that doesn't is dropped.
     pub(crate) fn choose(&mut self) -> Option<Pull>
         ensures chosen { (image : List ℕ) → AreShown self.old.packs.packs image → result ≡ (choice_at (view_of self.old image)).chosen }
+        ensures sized { IfSome result (λ pull. IsSized pull) }
         ensures left { (image : List ℕ) → AreShown self.old.packs.packs image → self.new ≡ record self.old { pulls = without_chosen (choice_at (view_of self.old image)) } }
     {
         let mut place = 0;
@@ -65,11 +66,11 @@ impl SiteNode {
     }
 
     fn fate_of(&self, pull: &Pull) -> Fate
-        ensures { (image : List ℕ) → AreShown self.now.packs.packs image → result ≡ fate_of (is_ready (view_of self.now image)) (is_above (view_of self.now image)) pull.now }
+        ensures { (image : List ℕ) → AreShown self.now.packs.packs image → result ≡ fate_of (is_ready (view_of self.now image)) (fits_own_in (view_of self.now image)) pull.now }
     {
         if !self.is_ready(pull) {
             Fate::Wait
-        } else if self.is_above_own(pull) {
+        } else if self.fits_own(pull) {
             Fate::Adopt
         } else {
             Fate::Drop
@@ -89,20 +90,23 @@ impl SiteNode {
         ensures { (image : List ℕ) → AreShown self.now.packs.packs image → result ≡ has_room (view_of self.now image).store pull.now }
     {
         let free = self.store.free_pages(&self.packs, pull.file.group);
-        pages_of(pull.size as usize) <= usize::from(free)
+        pages_wanted(pull) <= usize::from(free)
     }
 
-    /// It is above the site's own copy of the file, or the site has none.
-    fn is_above_own(&self, pull: &Pull) -> bool
-        ensures { (image : List ℕ) → AreShown self.now.packs.packs image → result ≡ is_above (view_of self.now image) pull.now }
+    /// The site's own copy is that over which it was pulled, or there is still none, and it is above it.
+    fn fits_own(&self, pull: &Pull) -> bool
+        ensures { (image : List ℕ) → AreShown self.now.packs.packs image → result ≡ fits_own_in (view_of self.now image) pull.now }
     {
-        is_above_own(pull, self.head_of(pull.file))
+        fits_own(pull, self.head_of(pull.file))
     }
 }
 
-/// All pages are there.
-fn is_complete(pull: &Pull) -> bool
-    ensures { result ≡ is_complete pull.now }
+/// How many pages are pulled.
+fn pages_wanted(pull: &Pull) -> usize
+    ensures { result ≡ length (wanted_pages pull.now) }
 {
-    pull.content.len() == pull.size as usize
+    match &pull.wanted {
+        Some(pages) => pages.len(),
+        None => 0,
+    }
 }

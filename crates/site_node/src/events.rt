@@ -174,13 +174,14 @@ fn cut_off(fault: NodeFault, told: Outbox, out: &mut Dispatch) -> NodeFault
     }
 }
 
-/// An adoption is tried at each Notify and each Page.
+/// An adoption is tried at each Notify, each Page and each Delta.
 fn tries_at(body: &Body) -> bool
     ensures { result ≡ is_tried body.now }
 {
     match body {
         Body::Notify { .. } => true,
         Body::Page { .. } => true,
+        Body::Delta { .. } => true,
         _ => false,
     }
 }

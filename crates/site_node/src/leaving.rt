@@ -41,7 +41,7 @@ impl SiteNode {
 
     /// Nothing is synchronized, open here or pulled any more.
     fn drop_rest(&mut self)
-        ensures { self.new ≡ record self.old { tables = []; store = []; pulls = [] } }
+        ensures { self.new ≡ record self.old { tables = []; store = record { instances = []; steps = [] }; pulls = [] } }
     {
         self.tables.clear();
         self.store.leave();

@@ -1,5 +1,6 @@
 // What comes to the site that pulls versions.
 ghost use Rattle.std.specs.Prelude.{◌≡◌, ℕ, List, Err, IfErr, OnOk};
+ghost use Rattle.role_steps.specs.Storage.{stamp_of};
 ghost use Rattle.propagation.specs.Sized.{head_of};
 ghost use Rattle.site_packs.specs.Packs.{AreShown, copy_at};
 ghost use Rattle.site_node.specs.Views.{Works};
@@ -11,7 +12,7 @@ ghost use Rattle.site_parts.specs.declared.roles.Role.TheVariants as role;
 
 use crate::SiteNode;
 use locus_ids::sizes::FILE_BYTES;
-use locus_ids::{Bytes, FileId, SiteId};
+use locus_ids::{Bytes, FileId, SiteId, Stamp};
 use propagation::CopyHead;
 use role_steps::Pull;
 use site_parts::NodeFault;
@@ -61,6 +62,8 @@ impl SiteNode {
                     stamp: *stamp,
                     vector: *vector,
                     holder: *holder,
+                    base: None,
+                    wanted: None,
                     content: Bytes::new(self.alloc),
                 };
                 let own = self.head_of(*file);
@@ -77,7 +80,28 @@ impl SiteNode {
                     .on_page(&self.frame, *file, *stamp, *page, bytes.as_slice(), out)?;
                 Ok(())
             }
+            Body::Delta {
+                file,
+                wanted,
+                pages,
+            } => {
+                let held = self.head_of(*file);
+                let numbers = pages.as_slice();
+                self.pulls
+                    .on_delta(&self.frame, held, *file, *wanted, numbers, out)?;
+                Ok(())
+            }
             _ => Ok(()),
+        }
+    }
+
+    /// The version of the site's own copy of a file.
+    pub(crate) fn stamp_held(&self, file: FileId) -> Option<Stamp>
+        ensures { (image : List ℕ) → AreShown self.now.packs.packs image → stamp_of (copy_at self.now.packs image file) ≡ result }
+    {
+        match self.packs.head(file) {
+            Some(copy) => Some(copy.stamp),
+            None => None,
         }
     }
 
@@ -89,6 +113,7 @@ impl SiteNode {
             Some(copy) => Some(CopyHead {
                 stamp: copy.stamp,
                 vector: copy.vector,
+                size: copy.size,
             }),
             None => None,
         }

@@ -64,7 +64,7 @@ impl SiteNode {
                 self.take_joined(from, header.id);
                 Ok(())
             }
-            _ => self.take_in_epoch(disk, from, packet.body, out),
+            _ => self.take_in_epoch(disk, from, packet.into_body(), out),
         }
     }
 

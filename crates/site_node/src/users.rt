@@ -71,6 +71,10 @@ impl SiteNode {
                     .on_op_done(&self.frame, serial, number, outcome, out)?;
                 Ok(())
             }
+            Body::AsHeld { serial, number, .. } => {
+                self.users.on_as_held(&self.frame, serial, number, out)?;
+                Ok(())
+            }
             Body::CloseDone { serial, answer } => {
                 self.users.on_close_done(&self.frame, serial, answer, out)?;
                 Ok(())

@@ -1,23 +1,23 @@
 -- A content whose unmarked pages are those of the copy so far is what storing its marked pages makes.
-use Rattle.std.proofs.Common.{◌≡◌, ℕ, zero, suc, ◌+◌, ◌*◌, ◌/◌, ◌%◌, ◌≤◌, ◌<◌, Bool, true, false, cond, List, [], length, drop, get_or, Option, None, Some, refl, sym, ap, subst, ◌∙◌, arith, length-take, length-drop}
-use Rattle.std.specs.Prelude.{is_some, slice_get, replicate, if◌then◌else◌}
+use Rattle.std.proofs.Common.{◌≡◌, ℕ, ◌+◌, ◌*◌, ◌/◌, ◌%◌, ◌≤◌, ◌<◌, Bool, true, false, cond, List, [], length, drop, get_or, Option, None, Some, refl, sym, ap, subst, ◌∙◌, arith, length-take, length-drop}
+use Rattle.std.specs.Prelude.{is_some, slice_get}
 use Rattle.std.proofs.lemmas.Bool.{lt-ltb, false≢true}
 use Rattle.std.proofs.lemmas.List.{same_lists, get_or_default, get_or-take, get_or-drop}
 use Rattle.locus_ids.specs.Sizes.{inodes_max, page_bytes}
 use Rattle.file_content.specs.Pages.{pages_of, page_of}
-use Rattle.inode_pack.specs.of_shadow_pages.Working.{byte_in, byte_at, content, count_below}
+use Rattle.inode_pack.specs.of_shadow_pages.Working.{byte_in, byte_at, content}
 use Rattle.inode_pack.proofs.of_shadow_pages.Bytes.{length_below, below_at}
 use Rattle.pack_slots.specs.of_inode_switch.View.{Version, view}
 use Rattle.pack_slots.specs.declared.inode_copy.InodeCopy.{InodeCopy}
 use Rattle.inode_pack.specs.Pack.{PackState, Shows}
 use Rattle.pack_slots.specs.Copies.{AreCopies, copy_of}
-use Rattle.inode_pack.specs.Whole.{full_page}
-use Rattle.inode_pack.specs.Marked.{is_marked, page_if, marked}
-use Rattle.inode_pack.specs.Committing.{size_of, content_of, needed}
-use Rattle.inode_pack.proofs.Whole.{page_byte}
-use Rattle.inode_pack.proofs.Marked.{page_here, needed_marked}
+use Rattle.inode_pack.specs.of_new_contents.Whole.{full_page}
+use Rattle.inode_pack.specs.of_new_contents.Marked.{is_marked, page_if, marked}
+use Rattle.inode_pack.specs.Committing.{size_of, content_of}
+use Rattle.inode_pack.proofs.of_new_contents.Whole.{page_byte}
+use Rattle.inode_pack.proofs.of_new_contents.Marked.{page_here}
 use Rattle.pack_layout.specs.of_stored_versions.Changes.{IsKept}
-use Rattle.site_packs.specs.Marking.{Fills, FillsAt, AreAll, KeepsRest}
+use Rattle.site_packs.specs.Marking.{Fills, FillsAt, KeepsRest}
 use Rattle.locus_ids.specs.declared.ids.FileId.{FileId}
 use Rattle.role_steps.specs.Storage.{content_of as content_at_site}
 use Rattle.site_packs.specs.Packs.{PacksState, ArePacks, AreShown, pack_in, copy_at}
@@ -60,7 +60,7 @@ module _ (pack : PackState) (ino : ℕ) (image new : List ℕ) (marks : List Boo
     byte_by page k lt small true is = page_byte new page k small
     byte_by page k lt small false is = kept_byte page k lt small is
 
-    pub fills_kept : Fills pack ino new marks image
+    pub fills_kept : Fills pack ino new (marked new marks) image
     fills_kept = record {
       rests = λ k lt none.
           let i = k / page_bytes in
@@ -87,20 +87,6 @@ module _ (pack : PackState) (ino : ℕ) (image new : List ℕ) (marks : List Boo
           ∙ get_or_default new k 0 d less);
     }
 
--- where each page is marked nothing is kept
-pub all_kept : (old new : List ℕ) (marks : List Bool) → AreAll (pages_of (length new)) marks → KeepsRest old new marks
-all_kept old new marks all page lt unmarked = absurd (false≢true (sym unmarked ∙ all page lt))
-
-count_all : (test : ℕ → Bool) (n : ℕ) → ((i : ℕ) → i < n → test i ≡ true) → count_below test n ≡ n
-count_all test zero all = refl
-count_all test (suc n) all =
-    let before = count_all test n (λ i lt. all i (omega arith)) in
-    let here = ap (λ (b : Bool). let m : ℕ = if b then 1 else 0 in count_below test n + m) (all n (omega arith)) in
-    omega arith
-
-pub needed_all : (new : List ℕ) (marks : List Bool) → AreAll (pages_of (length new)) marks → needed (marked new marks) ≡ pages_of (length new)
-needed_all new marks all = needed_marked new marks ∙ count_all (is_marked marks) (pages_of (length new)) all
-
 -- nothing of an empty content is kept
 pub none_kept : (new : List ℕ) (page : ℕ) → page < pages_of (length new) → IsKept [] new page → ⊥
 none_kept new page lt kept =
@@ -108,17 +94,8 @@ none_kept new page lt kept =
     let none : List ℕ = [] in
     omega (arith, length-take (length (page_of new page)) (page_of none page), length-take page_bytes (drop (page_bytes * page) new), length-drop (page_bytes * page) new, length-take page_bytes (drop (page_bytes * page) none), length-drop (page_bytes * page) none)
 
--- all marks
-pub all_true : (n count : ℕ) → count ≤ n → AreAll count (replicate n true)
-all_true n count le i lt = is_true n i (omega arith)
-  where
-    is_true : (n i : ℕ) → i < n → get_or (replicate n true) i false ≡ true
-    is_true zero i lt = absurd (omega arith)
-    is_true (suc n) zero lt = refl
-    is_true (suc n) (suc i) lt = is_true n i (omega arith)
-
 fills_by : (p : PacksState) (image : List ℕ) (file : FileId) (new : List ℕ) (marks : List Bool) (o : Option PackState) → ArePacks 0 0 p.site p.packs → AreShown p.packs image → pack_in file.group p.packs ≡ o → is_some o ≡ true → 1 ≤ file.ino → file.ino ≤ inodes_max
-    → KeepsRest (content_at_site (copy_at p image file)) new marks → FillsAt o file.ino new marks image
+    → KeepsRest (content_at_site (copy_at p image file)) new marks → FillsAt o file.ino new (marked new marks) image
 fills_by p image file new marks None are shown is some low high keeps = absurd (false≢true some)
 fills_by p image file new marks (Some pack) are shown is some low high keeps =
     let f = found_pack p.site file.group p.packs image pack are shown is in
@@ -127,7 +104,7 @@ fills_by p image file new marks (Some pack) are shown is some low high keeps =
 
 -- the marked pages make the content in the pack of the group
 pub fills_at : (p : PacksState) (image : List ℕ) (file : FileId) (at ino : ℕ) (new : List ℕ) (marks : List Bool) → ArePacks 0 0 p.site p.packs → AreShown p.packs image → at < length p.packs → slice_get p.packs at ≡ pack_in file.group p.packs → ino ≡ file.ino → 1 ≤ file.ino → file.ino ≤ inodes_max
-    → KeepsRest (content_at_site (copy_at p image file)) new marks → FillsAt (pack_in file.group p.packs) ino new marks image
+    → KeepsRest (content_at_site (copy_at p image file)) new marks → FillsAt (pack_in file.group p.packs) ino new (marked new marks) image
 fills_at p image file at ino new marks are shown inside place own low high keeps =
-    subst (λ (n : ℕ). FillsAt (pack_in file.group p.packs) n new marks image) (sym own)
+    subst (λ (n : ℕ). FillsAt (pack_in file.group p.packs) n new (marked new marks) image) (sym own)
     (fills_by p image file new marks (pack_in file.group p.packs) are shown refl (sym (ap (λ (o : Option PackState). is_some o) place) ∙ some_at p.packs at inside) low high keeps)

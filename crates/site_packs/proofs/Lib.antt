@@ -1,4 +1,6 @@
 pub mod Areas
+pub mod Laid
+pub mod Rising
 pub mod Live
 pub mod Fields
 pub mod Rows

@@ -7,7 +7,7 @@ use Rattle.std.proofs.lemmas.List.{get_or_append_left, get_or_at, get_or-take, t
 use Rattle.locus_ids.specs.Sizes.{content_pages_max}
 use Rattle.file_content.specs.Pages.{has_page}
 use Rattle.inode_pack.specs.of_shadow_pages.Working.{count_below}
-use Rattle.inode_pack.specs.Marked.{is_marked}
+use Rattle.inode_pack.specs.of_new_contents.Marked.{is_marked}
 use Rattle.pack_layout.specs.of_stored_versions.Changes.{ArePages}
 use Rattle.site_packs.specs.Marking.{AreMarks}
 
@@ -25,7 +25,7 @@ has_more (x ∷ xs) page i = ap (λ (b : Bool). (x == i) || b) (has_more xs page
     assoc true b c = refl
     assoc false b c = refl
 
-has_at : (xs : List ℕ) (i : ℕ) → i < length xs → has_page xs (get_or xs i 0) ≡ true
+pub has_at : (xs : List ℕ) (i : ℕ) → i < length xs → has_page xs (get_or xs i 0) ≡ true
 has_at [] i lt = absurd (omega arith)
 has_at (x ∷ xs) zero lt = ap (λ (b : Bool). b || has_page xs x) (eq-eqb x x refl)
 has_at (x ∷ xs) (suc i) lt = or_true (x == get_or xs i 0) (has_at xs i (omega arith))
@@ -149,3 +149,10 @@ not_once count changed marks i page are lt is marked pages =
 
 pub all_marks : (count : ℕ) (changed : List ℕ) (marks : List Bool) (i : ℕ) → AreMarks count (take i changed) marks → length changed ≤ i → AreMarks count changed marks
 all_marks count changed marks i are le = subst (λ (xs : List ℕ). AreMarks count xs marks) (take_all i changed le) are
+
+-- one of pages that stand once each is marked
+pub once_marked : (count : ℕ) (changed : List ℕ) (marks : List Bool) (i page : ℕ) → AreMarks count (take i changed) marks → i < length changed → page ≡ get_or changed i 0 → count ≤ length marks → ArePages count changed → AreMarks count (take (i + 1) changed) (slice_set marks page true)
+once_marked count changed marks i page are lt is fits pages =
+    let below : page < count = (let h = pages.inside i lt in omega arith) in
+    next_mark count changed marks i page are lt is below (omega arith)
+    (⊎_elim (λ (marked : is_marked marks page ≡ true). absurd (not_once count changed marks i page are lt is marked pages)) (λ (fresh : is_marked marks page ≡ false). fresh) (cases_Bool (is_marked marks page)))

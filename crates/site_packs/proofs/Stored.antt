@@ -21,7 +21,6 @@ use Rattle.inode_pack.specs.declared.pack_fault.PackFault.{PackFault}
 use Rattle.inode_pack.specs.declared.pack_fault.PackFault.TheVariants as pack_says
 use Rattle.inode_pack.specs.Pack.{PackState, Stands}
 use Rattle.pack_slots.specs.Copies.{AreCopies, copy_of, named_pages}
-use Rattle.inode_pack.specs.Marked.{marked}
 use Rattle.inode_pack.specs.Committing.{Commits, new_version, content_of, commit_calls, commit_answer as pack_answer, MayBeLeft as MayBeLeftIn}
 use Rattle.pack_layout.specs.of_stored_versions.Versions.{IsVersion}
 use Rattle.role_steps.specs.Tables.{with_row}
@@ -50,8 +49,8 @@ place_below at [] pack is = absurd (let e : None ≡ Some pack = is in cc)
 place_below zero (one ∷ packs) pack is = omega arith
 place_below (suc at) (one ∷ packs) pack is = let rest = place_below at packs pack is in omega arith
 
-module _ (p : PacksState) (old : List ℕ) (at : ℕ) (file : FileId) (pack : PackState) (given : NewVersion) (bytes : List ℕ) (marks : List Bool) (are : ArePacks 0 0 p.site p.packs) (shown : AreShown p.packs old)
-    (place : slice_get p.packs at ≡ Some pack) (is : pack_in file.group p.packs ≡ Some pack) (low : 1 ≤ file.ino) (high : file.ino ≤ inodes_max) (fits : given.set.0 < set_span) (version : IsVersion given (length bytes)) (fills : Fills pack file.ino bytes marks old) where
+module _ (p : PacksState) (old : List ℕ) (at : ℕ) (file : FileId) (pack : PackState) (given : NewVersion) (bytes : List ℕ) (w : Working) (are : ArePacks 0 0 p.site p.packs) (shown : AreShown p.packs old)
+    (place : slice_get p.packs at ≡ Some pack) (is : pack_in file.group p.packs ≡ Some pack) (low : 1 ≤ file.ino) (high : file.ino ≤ inodes_max) (fits : given.set.0 < set_span) (version : IsVersion given w.size) (fills : Fills pack file.ino bytes w old) where
   found : PackFound p.site file.group p.packs old pack
   found = found_pack p.site file.group p.packs old pack are shown is
 
@@ -60,17 +59,17 @@ module _ (p : PacksState) (old : List ℕ) (at : ℕ) (file : FileId) (pack : Pa
   here = pack_here 0 0 p.site at p.packs pack are place
 
   abbrev version_made : Version
-  version_made = new_version pack.base file.ino given (marked bytes marks) old
+  version_made = new_version pack.base file.ino given w old
 
   abbrev copy : FileCopy
   copy = copy_made file given bytes
 
   abbrev slot : Slot
-  slot = record { turn = 0; kind = given.kind; ino = file.ino; set = given.set; size = length bytes; stamp = given.stamp; vector = given.vector; pages = []; tables = [] }
+  slot = record { turn = 0; kind = given.kind; ino = file.ino; set = given.set; size = w.size; stamp = given.stamp; vector = given.vector; pages = []; tables = [] }
 
   made_is : copy_in pack.group file.ino version_made ≡ copy
   made_is =
-      let all = spelled pack.group file.ino slot (content (content_of (view old pack.base file.ino)) (marked bytes marks)) fits (stamp_fits slot version.named) version.agrees in
+      let all = spelled pack.group file.ino slot (content (content_of (view old pack.base file.ino)) w) fits (stamp_fits slot version.named) version.agrees in
       let own = found.own in
       all ∙ (λ i. record { file = record { group = own i; ino = file.ino }; kind = given.kind; set = given.set; stamp = given.stamp; vector = given.vector; content = fills.is i })
 
@@ -80,11 +79,11 @@ module _ (p : PacksState) (old : List ℕ) (at : ℕ) (file : FileId) (pack : Pa
   torn_here : (new : List ℕ) → Torn pack.base area_length old new → Torn (area_at (0 + at)) area_length old new
   torn_here new torn = subst (λ (b : ℕ). Torn b area_length old new) here.base torn
 
-  pub replaced : (new : List ℕ) → Torn pack.base area_length old new → Replaced pack.base file.ino (new_version pack.base file.ino given (marked bytes marks) old) old new
+  pub replaced : (new : List ℕ) → Torn pack.base area_length old new → Replaced pack.base file.ino (new_version pack.base file.ino given w old) old new
       → copies_on (groups_of p) new ≡ with_row copy_key (copy_made file given bytes) (copies_on (groups_of p) old)
   replaced new torn by = behind_replaced 0 0 p.site at file.ino p.packs pack version_made copy old new are place shown (torn_here new torn) low high by made_is copy_key_is
 
-  pub left : (new : List ℕ) → MayBeLeftIn pack file.ino (new_version pack.base file.ino given (marked bytes marks) old) old new → MayBeLeft p (copy_made file given bytes) old new
+  pub left : (new : List ℕ) → MayBeLeftIn pack file.ino (new_version pack.base file.ino given w old) old new → MayBeLeft p (copy_made file given bytes) old new
   left new may =
       let base = here.base in
       let below = place_below at p.packs pack place in
@@ -122,7 +121,7 @@ module _ (p : PacksState) (old : List ℕ) (at : ℕ) (file : FileId) (pack : Pa
   had_copy = sym (ap (λ (o : Option FileCopy). is_some o) (copy_found p old file are shown (omega arith) pack is low high) ∙ some_made file.group file.ino (view old pack.base file.ino) ∙ had (copy_of pack.copies file.ino) refl)
 
   -- what is left of a write that was cut off
-  pub cut_left : (pages : ℕ) (how : Cut) (passed : ℕ) (new : List ℕ) → IsCutCommit pack file.ino (new_version pack.base file.ino given (marked bytes marks) old) pages how passed old new → IsCut p (copy_made file given bytes) pages how passed old new
+  pub cut_left : (pages : ℕ) (how : Cut) (passed : ℕ) (new : List ℕ) → IsCutCommit pack file.ino (new_version pack.base file.ino given w old) pages how passed old new → IsCut p (copy_made file given bytes) pages how passed old new
   cut_left pages how passed new cut = record {
     left = left new cut.left;
     copies = copies_by new cut.left (new_gate pages how passed) cut.view;

@@ -9,10 +9,15 @@ use Rattle.locus_ids.specs.Sizes.{slot_pages, table_pages, content_tables_max}
 use Rattle.file_content.specs.Pages.{pages_of, has_page, table_of, is_under, pages_under, pages_from, is_table_written, tables_written, ascending, placed}
 use Rattle.file_content.proofs.Paging.{next_page}
 use Rattle.inode_pack.specs.of_shadow_pages.Working.{Working}
-use Rattle.inode_pack.specs.Marked.{is_marked, marked}
-use Rattle.inode_pack.specs.Committing.{is_changed, changed_below}
-use Rattle.inode_pack.proofs.Marked.{changed_here}
-use Rattle.site_packs.specs.Marking.{AreMarks, AreMarked, AreAll}
+use Rattle.inode_pack.specs.of_new_contents.Marked.{is_marked, marked}
+use Rattle.inode_pack.specs.of_new_contents.Changed.{is_changed, needed}
+use Rattle.inode_pack.specs.of_new_contents.Laid.{laid}
+use Rattle.inode_pack.specs.Committing.{changed_below}
+use Rattle.inode_pack.proofs.of_new_contents.Counting.{needed_by}
+use Rattle.inode_pack.proofs.of_new_contents.Laid.{changed_here as come_here}
+use Rattle.inode_pack.proofs.of_new_contents.Marked.{changed_here}
+use Rattle.site_packs.specs.Marking.{AreMarks, AreMarked}
+use Rattle.site_packs.proofs.Laid.{come_has}
 use Rattle.site_packs.proofs.Marks.{has_some}
 
 or_true : (a : Bool) {b : Bool} → b ≡ true → (a || b) ≡ true
@@ -99,13 +104,6 @@ has_from : (n first i : ℕ) → has_page (pages_from first n) i ≡ (nat_le fir
 has_from zero first i = let e : false ≡ (nat_le first i && nat_lt i (first + zero)) = grind (arith, nat_tests) in e
 has_from (suc n) first i = ap (λ (b : Bool). (first == i) || b) (has_from n (first + 1) i) ∙ (let e : ((first == i) || (nat_le (first + 1) i && nat_lt i (first + 1 + n))) ≡ (nat_le first i && nat_lt i (first + suc n)) = grind (arith, nat_tests) in e)
 
--- where each page is marked they are all pages
-pub all_marked : (count : ℕ) (marks : List Bool) → AreAll count marks → AreMarked count (pages_from 0 count) marks
-all_marked count marks all i = has_from count 0 i ∙ ⊎_elim
-    (λ (lt : i < count). let here = all i lt in let e : (nat_le 0 i && nat_lt i (0 + count)) ≡ (nat_lt i count && is_marked marks i) = grind (arith, nat_tests) in e)
-    (λ (le : count ≤ i). let e : (nat_le 0 i && nat_lt i (0 + count)) ≡ (nat_lt i count && is_marked marks i) = grind (arith, nat_tests) in e)
-    (cases_lt i count)
-
 has_if : (b : Bool) (n i : ℕ) → has_page (cond b (n ∷ []) []) i ≡ (b && (n == i))
 has_if true n i = or_false (n == i)
   where
@@ -137,12 +135,22 @@ below_marked new marks i =
     (λ (le : n ≤ i). let e : (nat_lt i n && is_changed w i) ≡ (nat_lt i n && is_marked marks i) = grind (arith, nat_tests) in e)
     (cases_lt i n)
 
--- the tables that are written with the marked pages
-pub tables_marked : (before : ℕ) (new changed : List ℕ) (marks : List Bool) → AreMarked (pages_of (length new)) changed marks
-    → tables_written before (pages_of (length new)) (changed_below (marked new marks) (pages_of (length new))) ≡ tables_written before (pages_of (length new)) changed
-tables_marked before new changed marks are =
-    let n = pages_of (length new) in
-    tables_same before n (changed_below (marked new marks) n) changed (λ i. below_marked new marks i ∙ sym (are i))
+pub has_marked : (new changed : List ℕ) (marks : List Bool) → AreMarked (pages_of (length new)) changed marks → (i : ℕ) → has_page (changed_below (marked new marks) (pages_of (length new))) i ≡ has_page changed i
+has_marked new changed marks are i = below_marked new marks i ∙ sym (are i)
+
+-- those that came
+pub has_laid : (size : ℕ) (numbers bytes : List ℕ) (marks : List Bool) → AreMarks (pages_of size) numbers marks → (i : ℕ) → has_page (changed_below (laid size numbers bytes) (pages_of size)) i ≡ has_page numbers i
+has_laid size numbers bytes marks are i =
+    let n = pages_of size in
+    let w = laid size numbers bytes in
+    has_below w n i ∙ ⊎_elim
+    (λ (lt : i < n). ap (λ (b : Bool). b && is_changed w i) (let e : nat_lt i n ≡ true = grind (arith, nat_tests) in e) ∙ come_here size numbers bytes i lt ∙ come_has 0 numbers i)
+    (λ (le : n ≤ i). ap (λ (b : Bool). b && is_changed w i) (let e : nat_lt i n ≡ false = grind (arith, nat_tests) in e) ∙ sym (none_past n numbers marks i are le))
+    (cases_lt i n)
+
+-- so many are written as came
+pub needed_laid : (size : ℕ) (numbers bytes : List ℕ) (marks : List Bool) → AreMarks (pages_of size) numbers marks → needed (laid size numbers bytes) ≡ length numbers
+needed_laid size numbers bytes marks are = needed_by (laid size numbers bytes) (is_marked marks) (λ i lt. come_here size numbers bytes i lt ∙ come_has 0 numbers i ∙ sym (are.each i)) ∙ are.number
 
 -- ---- marked pages under a table ----
 

@@ -1,9 +1,9 @@
 -- Which pages of a content are marked as new.
-use Rattle.std.specs.Prelude.{◌≡◌, ℕ, ◌<◌, Bool, true, false, ◌&&◌, nat_lt, List, length, Option, None, Some}
+use Rattle.std.specs.Prelude.{◌≡◌, ℕ, ◌<◌, Bool, false, ◌&&◌, nat_lt, List, length, Option, None, Some}
 use Rattle.file_content.specs.Pages.{pages_of, has_page}
 use Rattle.inode_pack.specs.of_shadow_pages.Working.{Working, content, count_below}
 use Rattle.pack_slots.specs.of_inode_switch.View.{view}
-use Rattle.inode_pack.specs.Marked.{is_marked, marked}
+use Rattle.inode_pack.specs.of_new_contents.Marked.{is_marked}
 use Rattle.inode_pack.specs.Pack.{PackState}
 use Rattle.pack_slots.specs.Copies.{copy_of}
 use Rattle.inode_pack.specs.Committing.{RestsOn, blocks_over, size_of, content_of}
@@ -19,23 +19,19 @@ pub record AreMarks (count : ℕ) (changed : List ℕ) (marks : List Bool) : Typ
 abbrev pub AreMarked : ℕ → List ℕ → List Bool → Type 0
 AreMarked count pages marks = (i : ℕ) → has_page pages i ≡ (nat_lt i count && is_marked marks i)
 
--- with the marked pages in the place of the inode's, its content is this one
-pub record Fills (pack : PackState) (ino : ℕ) (new : List ℕ) (marks : List Bool) (image : List ℕ) : Type 0 where
-  pub rests : RestsOn (size_of (copy_of pack.copies ino)) (marked new marks)
-  pub is : content (content_of (view image pack.base ino)) (marked new marks) ≡ new
+-- with the new pages in the place of the inode's, its content is this one
+pub record Fills (pack : PackState) (ino : ℕ) (new : List ℕ) (w : Working) (image : List ℕ) : Type 0 where
+  pub rests : RestsOn (size_of (copy_of pack.copies ino)) w
+  pub is : content (content_of (view image pack.base ino)) w ≡ new
 
-abbrev pub FillsAt : Option PackState → ℕ → List ℕ → List Bool → List ℕ → Type 0
-FillsAt None ino new marks image = ⊥
-FillsAt (Some pack) ino new marks image = Fills pack ino new marks image
+abbrev pub FillsAt : Option PackState → ℕ → List ℕ → Working → List ℕ → Type 0
+FillsAt None ino new w image = ⊥
+FillsAt (Some pack) ino new w image = Fills pack ino new w image
 
--- the pages and the tables that are written with the marked pages in the place of the inode's
+-- the pages and the tables that are written with the new pages in the place of the inode's
 abbrev pub blocks_at : Option PackState → ℕ → Working → ℕ
 blocks_at None ino w = 0
 blocks_at (Some pack) ino w = blocks_over (copy_of pack.copies ino) w
-
--- each page of the content is marked
-abbrev pub AreAll : ℕ → List Bool → Type 0
-AreAll count marks = (i : ℕ) → i < count → is_marked marks i ≡ true
 
 -- each page of the new content that isn't marked is that of the old one
 abbrev pub KeepsRest : List ℕ → List ℕ → List Bool → Type 0

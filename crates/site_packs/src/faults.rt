@@ -10,7 +10,7 @@ pub struct WriteSize {
 }
 
 /// Why a version isn't committed or adopted.
-#[derive(Clone, Copy, Debug, PartialEq, Eq, Error)]
+#[derive(Clone, Copy, Debug, Error)]
 pub enum CommitFault {
     /// A read failed before the first write.
     #[error("the disk failed")]
@@ -42,7 +42,7 @@ impl From<DiskFault> for CommitFault {
 }
 
 /// Why a content isn't read.
-#[derive(Clone, Copy, Debug, PartialEq, Eq, Error)]
+#[derive(Clone, Copy, Debug, Error)]
 pub enum ReadFault {
     #[error("the disk failed")]
     Disk,

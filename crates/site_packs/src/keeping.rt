@@ -6,7 +6,7 @@ ghost use Rattle.disk_model.specs.Images.{Same};
 ghost use Rattle.file_content.specs.Pages.{pages_of};
 ghost use Rattle.pack_slots.specs.of_inode_switch.View.{view};
 ghost use Rattle.inode_pack.specs.Pack.{Stands};
-ghost use Rattle.inode_pack.specs.Marked.{is_marked};
+ghost use Rattle.inode_pack.specs.of_new_contents.Marked.{is_marked};
 ghost use Rattle.inode_pack.specs.Committing.{content_of as content_in};
 ghost use Rattle.role_steps.specs.Storage.{content_of};
 ghost use Rattle.site_packs.specs.Packs.{Stand, copy_at};

@@ -10,6 +10,7 @@ mod formatting;
 mod groups;
 mod heads;
 mod keeping;
+mod laying;
 mod live_marks;
 mod marking;
 mod mounting;
@@ -25,6 +26,6 @@ mod storing;
 mod tables;
 
 pub use faults::{CommitFault, ReadFault, WriteSize};
-pub use inode_pack::NewVersion;
+pub use inode_pack::{LaidPages, NewVersion};
 pub use pack_slots::MountFault;
 pub use packs::SitePacks;

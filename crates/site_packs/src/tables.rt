@@ -6,7 +6,7 @@ ghost use Rattle.locus_ids.specs.Sizes.{content_bytes_max, content_pages_max, co
 ghost use Rattle.file_content.specs.Pages.{pages_of, pages_from, pages_under, is_table_written, tables_written};
 ghost use Rattle.role_steps.specs.Storage.{content_of, reported};
 ghost use Rattle.role_steps.specs.declared.copies.FileCopy.{FileCopy};
-ghost use Rattle.inode_pack.specs.Marked.{is_marked};
+ghost use Rattle.inode_pack.specs.of_new_contents.Marked.{is_marked};
 ghost use Rattle.site_packs.specs.Marking.{AreMarked};
 
 use locus_ids::sizes::{CONTENT_PAGES, CONTENT_TABLES, PAGE_BYTES, SLOT_PAGES, TABLE_PAGES};
@@ -18,6 +18,16 @@ pub(crate) fn pages_before(copy: &Option<ReportedCopy>) -> usize
 {
     match copy {
         Some(copy) => (copy.size as usize).div_ceil(PAGE_BYTES),
+        None => 0,
+    }
+}
+
+/// The bytes of a copy that is reported so; none where there is no copy.
+pub(crate) fn size_of(copy: &Option<ReportedCopy>) -> usize
+    ensures { (held : Option FileCopy) → copy.now ≡ option_map reported held → result ≡ length (content_of held) }
+{
+    match copy {
+        Some(copy) => copy.size as usize,
         None => 0,
     }
 }

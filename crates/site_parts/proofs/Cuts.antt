@@ -1,6 +1,5 @@
 -- What becomes of the disk in a part of an event.
-use Rattle.std.proofs.Common.{◌≡◌, ℕ, ◌≤◌, Bool, true, List, ◌++◌, ◌∷◌, [], length, refl, sym, ap, ◌∙◌, subst, inl, arith}
-use Rattle.std.proofs.lemmas.Bool.Decides.{nat_tests}
+use Rattle.std.proofs.Common.{◌≡◌, ℕ, ◌≤◌, Bool, List, ◌++◌, ◌∷◌, [], refl, sym, ap, ◌∙◌, subst, inl, arith}
 use Rattle.std.specs.Prelude.{◌⊎◌, Option, None, Some, is_some, Result, Ok, Err, OnErr, IsErrAnd}
 use Rattle.disk_model.specs.declared.disk.DiskFault.{DiskFault}
 use Rattle.disk_model.specs.declared.disk.DiskFault.TheVariants.{Failed}
@@ -10,9 +9,9 @@ use Rattle.disk_model.specs.Moments.{LeavesOnly, TellsMany}
 use Rattle.disk_model.proofs.ReadRuns.{leaves_same, reads_alone}
 use Rattle.disk_model.proofs.Tells.{tells_few, tells_none}
 use Rattle.wire_messages.specs.Outboxes.{Outgoing}
-use Rattle.file_content.specs.Pages.{pages_from, pages_of}
-use Rattle.role_steps.specs.Adoption.{adopt_record, adopt_write, copy_adopted}
-use Rattle.role_steps.specs.Pulling.{is_complete}
+use Rattle.role_steps.specs.Adoption.{adopt_record, adopt_write, content_adopted, content_laid, copy_adopted}
+use Rattle.role_steps.specs.Pulling.{wanted_pages}
+use Rattle.role_steps.specs.Storage.{content_of}
 use Rattle.role_steps.specs.Views.{DiskWrite, Frame}
 use Rattle.role_steps.specs.declared.copies.FileCopy.{FileCopy}
 use Rattle.role_steps.specs.declared.pulls.Pull.{Pull}
@@ -174,37 +173,48 @@ as_refused e f h = cc
 pub unread_adopt : (e : CommitFault) → (◌≡◌ {A = Result (Unit {0}) CommitFault} (Err e) (Err commit.Disk) → ⊥) → e ≡ commit.Disk → ⊥
 unread_adopt e h g = h (as_refused e commit.Disk g)
 
-size_is : (p : Pull) → is_complete p ≡ true → length p.content ≡ p.size
-size_is p e = grind (arith, nat_tests)
-
 -- the copy of a pulled version, with this content
 abbrev pub copy_with : Pull → List ℕ → FileCopy
 copy_with p xs = record { file = p.file; kind = p.kind; set = p.set; stamp = p.stamp; vector = p.vector; content = xs }
 
-module _ (f : Frame) (p : Pull) (xs : List ℕ) (is : xs ≡ p.content) (packs : PacksState) (m n : Moment) (a b : Outgoing) (full : is_complete p ≡ true) (left_so : LeavesOnly m n (MayBeLeft packs (copy_with p xs) m.seen)) (how : n.how ≡ m.how) where
-  -- the blocks that the pack is given are those of the adoption
-  blocks : blocks_over (copy_at packs m.seen p.file) xs (pages_from 0 (pages_of (length xs))) ≡ blocks_in packs m.seen (adopt_write f p)
-  blocks = let size : length xs ≡ p.size = ap (λ (ys : List ℕ). length ys) is ∙ size_is p full in (λ i. blocks_over (copy_at packs m.seen p.file) (is i) (pages_from 0 (pages_of (size i))))
+-- the content that pages which came make of the own copy
+abbrev pub content_come : Pull → PacksState → List ℕ → (numbers came : List ℕ) → List ℕ
+content_come p packs image numbers came = content_laid p.size numbers came (content_of (copy_at packs image p.file))
 
-  leaves : LeavesOnly m n (MayBeLeft packs (copy_adopted p) m.seen)
+module _ (f : Frame) (p : Pull) (numbers came : List ℕ) (numbered : numbers ≡ wanted_pages p) (filled : came ≡ p.content) (packs : PacksState) (m n : Moment) (a b : Outgoing)
+    (left_so : LeavesOnly m n (MayBeLeft packs (copy_with p (content_come p packs m.seen numbers came)) m.seen)) (how : n.how ≡ m.how) where
+  abbrev own : List ℕ
+  own = content_of (copy_at packs m.seen p.file)
+
+  abbrev made : List ℕ
+  made = content_come p packs m.seen numbers came
+
+  is : made ≡ content_adopted p own
+  is = λ i. content_laid p.size (numbered i) (filled i) own
+
+  -- the blocks that the pack is given are those of the adoption
+  blocks : blocks_over (copy_at packs m.seen p.file) made numbers ≡ blocks_in packs m.seen (adopt_write f p own)
+  blocks = λ i. blocks_over (copy_at packs m.seen p.file) (is i) (numbered i)
+
+  leaves : LeavesOnly m n (MayBeLeft packs (copy_adopted p own) m.seen)
   leaves = subst (λ (ys : List ℕ). LeavesOnly m n (MayBeLeft packs (copy_with p ys) m.seen)) is left_so
 
-  pub pull_ok : Committed (blocks_over (copy_at packs m.seen p.file) xs (pages_from 0 (pages_of (length xs)))) (is_some (copy_at packs m.seen p.file)) m n (Ok tt) → m.faults ≤ n.faults → EventWrites {T = Unit {0}} (Some (adopt_write f p)) packs m n a b (Ok tt)
-  pull_ok tells later = adopt_ok (adopt_write f p) packs m n a b leaves how (subst (λ (k : ℕ). Committed k (is_some (copy_at packs m.seen p.file)) m n (Ok tt)) blocks tells) later
+  pub pull_ok : Committed (blocks_over (copy_at packs m.seen p.file) made numbers) (is_some (copy_at packs m.seen p.file)) m n (Ok tt) → m.faults ≤ n.faults → EventWrites {T = Unit {0}} (Some (adopt_write f p own)) packs m n a b (Ok tt)
+  pull_ok tells later = adopt_ok (adopt_write f p own) packs m n a b leaves how (subst (λ (k : ℕ). Committed k (is_some (copy_at packs m.seen p.file)) m n (Ok tt)) blocks tells) later
 
-  pub pull_err : (r : Result (Unit {0}) NodeFault) (e : CommitFault) → IsErrAnd r (λ f. f ≡ fault_of_commit e) → Committed (blocks_over (copy_at packs m.seen p.file) xs (pages_from 0 (pages_of (length xs)))) (is_some (copy_at packs m.seen p.file)) m n (Err e) → HasSize (blocks_over (copy_at packs m.seen p.file) xs (pages_from 0 (pages_of (length xs)))) (is_some (copy_at packs m.seen p.file)) e
-      → ((passed : ℕ) → m.passing ≡ Exactly passed → OnErr (commit_answer {T = Unit {0}} (Err e)) (IsCut packs (copy_with p xs) (blocks_over (copy_at packs m.seen p.file) xs (pages_from 0 (pages_of (length xs)))) m.how passed m.seen n.left)) → b ≡ record a { records = a.records ++ adopt_record f p ∷ [] }
-      → HasCause m.faults n.faults (commit_answer {T = Unit {0}} (Err e)) → (e ≡ commit.Disk → ⊥) → EventWrites (Some (adopt_write f p)) packs m n a b r
+  pub pull_err : (r : Result (Unit {0}) NodeFault) (e : CommitFault) → IsErrAnd r (λ f. f ≡ fault_of_commit e) → Committed (blocks_over (copy_at packs m.seen p.file) made numbers) (is_some (copy_at packs m.seen p.file)) m n (Err e) → HasSize (blocks_over (copy_at packs m.seen p.file) made numbers) (is_some (copy_at packs m.seen p.file)) e
+      → ((passed : ℕ) → m.passing ≡ Exactly passed → OnErr (commit_answer {T = Unit {0}} (Err e)) (IsCut packs (copy_with p made) (blocks_over (copy_at packs m.seen p.file) made numbers) m.how passed m.seen n.left)) → b ≡ record a { records = a.records ++ adopt_record f p ∷ [] }
+      → HasCause m.faults n.faults (commit_answer {T = Unit {0}} (Err e)) → (e ≡ commit.Disk → ⊥) → EventWrites (Some (adopt_write f p own)) packs m n a b r
   pull_err r e h tells big left told cause read =
-      adopt_err (adopt_write f p) packs m n a b r e h leaves how
+      adopt_err (adopt_write f p own) packs m n a b r e h leaves how
       (subst (λ (k : ℕ). Committed k (is_some (copy_at packs m.seen p.file)) m n (Err e)) blocks tells)
       (subst (λ (k : ℕ). HasSize k (is_some (copy_at packs m.seen p.file)) e) blocks big)
-      (λ passed here. subst (λ (ys : List ℕ). OnErr (commit_answer {T = Unit {0}} (Err e)) (IsCut packs (copy_with p ys) (blocks_in packs m.seen (adopt_write f p)) m.how passed m.seen n.left)) is (subst (λ (k : ℕ). OnErr (commit_answer {T = Unit {0}} (Err e)) (IsCut packs (copy_with p xs) k m.how passed m.seen n.left)) blocks (left passed here)))
+      (λ passed here. subst (λ (ys : List ℕ). OnErr (commit_answer {T = Unit {0}} (Err e)) (IsCut packs (copy_with p ys) (blocks_in packs m.seen (adopt_write f p own)) m.how passed m.seen n.left)) is (subst (λ (k : ℕ). OnErr (commit_answer {T = Unit {0}} (Err e)) (IsCut packs (copy_with p made) k m.how passed m.seen n.left)) blocks (left passed here)))
       told cause read
 
   -- a fault behind it
-  pub pull_failed : {T : Type 0} (r : Result T NodeFault) (e : NodeFault) → IsErrAnd r (λ f. f ≡ e) → IsOffDisk e → m.faults ≤ n.faults → EventWrites (Some (adopt_write f p)) packs m n a b r
-  pull_failed r e h u later = failed (Some (adopt_write f p)) packs m n a b r e h u (leaves_ever (Some (adopt_write f p)) packs m n leaves) how later
+  pub pull_failed : {T : Type 0} (r : Result T NodeFault) (e : NodeFault) → IsErrAnd r (λ f. f ≡ e) → IsOffDisk e → m.faults ≤ n.faults → EventWrites (Some (adopt_write f p own)) packs m n a b r
+  pull_failed r e h u later = failed (Some (adopt_write f p own)) packs m n a b r e h u (leaves_ever (Some (adopt_write f p own)) packs m n leaves) how later
 
 -- ---- what only reads ----
 

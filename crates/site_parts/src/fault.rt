@@ -9,7 +9,7 @@ use storage_site::StoreFault;
 use thiserror::Error;
 
 /// Why a site could not go on. After a fault nothing is promised of the site but what its disk has.
-#[derive(Clone, Copy, Debug, PartialEq, Eq, Error)]
+#[derive(Clone, Copy, Debug, Error)]
 pub enum NodeFault {
     #[error("no memory")]
     NoMemory,

@@ -34,10 +34,10 @@ pub(crate) fn work_for(
     inst: Serial,
     op: &Op,
 ) -> Result<MendingWork, NodeFault>
-    ensures work { IfOk result (λ work. (f : Frame) (n : ℕ) (seen : List ℕ) (s : StoreView) → s.instances ≡ store.now → on_op f work inst n op.now seen s ≡ on_op f (mending_by tables.now users.now s inst) inst n op.now seen s) }
-    ensures can { IfOk result (λ work. (f : Frame) (groups : List ℕ) (n : ℕ) (s : StoreView) → s.instances ≡ store.now → CanOperateAt f (mending_by tables.now users.now s inst) groups inst n op.now s → CanOperateAt f work groups inst n op.now s) }
+    ensures work { IfOk result (λ work. (f : Frame) (n : ℕ) (seen : List ℕ) (s : StoreView) → s.instances ≡ store.now.instances → on_op f work inst n op.now seen s ≡ on_op f (mending_by tables.now users.now s inst) inst n op.now seen s) }
+    ensures can { IfOk result (λ work. (f : Frame) (groups : List ℕ) (n : ℕ) (s : StoreView) → s.instances ≡ store.now.instances → CanOperateAt f (mending_by tables.now users.now s inst) groups inst n op.now s → CanOperateAt f work groups inst n op.now s) }
     ensures own { IfErr result IsOwn }
-    ensures unfit { result ≡ Err Unfit → CanRest tables.now (group_of (row instance_key (serial_key inst) store.now)) op.now → ⊥ }
+    ensures unfit { result ≡ Err Unfit → CanRest tables.now (group_of (row instance_key (serial_key inst) store.now.instances)) op.now → ⊥ }
 {
     match op {
         Op::Mend => mending_work(alloc, store, tables, users, inst),
@@ -53,9 +53,9 @@ fn mending_work(
     users: &UsingSite,
     inst: Serial,
 ) -> Result<MendingWork, NodeFault>
-    ensures work { IfOk result (λ work. (s : StoreView) → s.instances ≡ store.now → work ≡ mending_by tables.now users.now s inst) }
+    ensures work { IfOk result (λ work. (s : StoreView) → s.instances ≡ store.now.instances → work ≡ mending_by tables.now users.now s inst) }
     ensures own { IfErr result IsOwn }
-    ensures unfit { result ≡ Err Unfit → AreInodesOf (row table_group (group_of (row instance_key (serial_key inst) store.now)) tables.now) → ⊥ }
+    ensures unfit { result ≡ Err Unfit → AreInodesOf (row table_group (group_of (row instance_key (serial_key inst) store.now.instances)) tables.now) → ⊥ }
 {
     let group = store.instance_group(inst).unwrap_or(0);
     Ok(MendingWork {

@@ -4,7 +4,7 @@ ghost use Rattle.site_parts.specs.Roles.{role_of};
 use wire_messages::Body;
 
 /// Which role of a site takes a packet of its epoch.
-#[derive(Clone, Copy, PartialEq, Eq)]
+#[derive(Clone, Copy)]
 pub enum Role {
     /// A synchronization site.
     Tables,
@@ -33,6 +33,8 @@ pub fn role_of(body: &Body) -> Role
         Body::OpenDone { .. } => Role::Users,
         Body::Op { .. } => Role::Store,
         Body::OpDone { .. } => Role::Users,
+        Body::ReadHeld { .. } => Role::Store,
+        Body::AsHeld { .. } => Role::Users,
         Body::Close { .. } => Role::Store,
         Body::Closed { .. } => Role::Tables,
         Body::ClosedOk { .. } => Role::Store,
@@ -44,6 +46,8 @@ pub fn role_of(body: &Body) -> Role
         Body::Pull { .. } => Role::Store,
         Body::Page { .. } => Role::Pulls,
         Body::Have { .. } => Role::Tables,
+        Body::Want { .. } => Role::Store,
+        Body::Delta { .. } => Role::Pulls,
         _ => Role::Nobody,
     }
 }

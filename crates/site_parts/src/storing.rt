@@ -1,7 +1,7 @@
 // What comes to the storage site.
 ghost use Rattle.std.specs.Prelude.{◌≡◌, ◌≢◌, None, Err, IfErr, OnOk};
-ghost use Rattle.role_steps.specs.Operations.{on_op};
-ghost use Rattle.role_steps.specs.Storage.{on_close, on_closed_ok, on_look_ss, on_open_ss, on_pull};
+ghost use Rattle.role_steps.specs.Operations.{on_op, on_read_held};
+ghost use Rattle.role_steps.specs.Storage.{on_close, on_closed_ok, on_look_ss, on_open_ss, on_pull, on_want};
 ghost use Rattle.site_packs.specs.Packs.{SamePlaces, Stand, groups_of};
 ghost use Rattle.storage_site.specs.of_store_instances.Stores.{Gives, store_of};
 ghost use Rattle.run_laws.specs.of_the_run.Steps.{from_user};
@@ -24,7 +24,7 @@ use site_mends::css_core::Css;
 use site_mends::using_site::UsingSite;
 use site_packs::SitePacks;
 use std::alloc::Global;
-use storage_site::{LookRequest, Store, StoreFault, StoreRequest};
+use storage_site::{HeldRead, LookRequest, Store, StoreFault, StoreRequest};
 use trace_book::Op;
 use version_vector::Vector;
 use wire_messages::{Body, Outbox};
@@ -86,6 +86,15 @@ pub fn take_at_store<D: Disk>(
                 store, packs, frame, disk, inst, number, &op, &seen, &work, out,
             )
         }
+        Body::ReadHeld {
+            serial,
+            number,
+            at,
+            len,
+        } => {
+            let read = HeldRead { number, at, len };
+            take_read_held(store, packs, frame, disk, named(from, serial), read, out)
+        }
         Body::Close { serial } => take_close(store, packs, frame, disk, named(from, serial), out),
         Body::ClosedOk { inst } => take_closed_ok(store, packs, frame, disk, inst, out),
         Body::LookSs {
@@ -110,6 +119,9 @@ pub fn take_at_store<D: Disk>(
         }
         Body::Pull { file, stamp, page } => {
             take_pull(store, packs, frame, disk, from, file, stamp, page, out)
+        }
+        Body::Want { file, wanted, own } => {
+            take_want(store, packs, frame, disk, from, file, wanted, own, out)
         }
         body => {
             ignored(body);
@@ -189,6 +201,29 @@ fn take_pull<D: Disk>(
     }
 }
 
+/// The pages to pull of a version are asked for. Nothing is asked of the disk.
+fn take_want<D: Disk>(
+    store: &Store,
+    packs: &SitePacks,
+    frame: &SiteFrame,
+    _disk: &mut D,
+    from: SiteId,
+    file: FileId,
+    wanted: Stamp,
+    own: Stamp,
+    out: &mut Outbox,
+) -> Result<(), NodeFault>
+    requires { Stand packs.now (D.moment _disk.old) }
+    ensures gives { OnOk result (Gives (on_want frame.now from file wanted own (store_of store.now packs.now (D.moment _disk.old).seen)) (store_of store.now packs.now (D.moment _disk.new).seen) out.old out.new) }
+    ensures stands { Stand packs.now (D.moment _disk.new) }
+    ensures disk { EventWrites None packs.now (D.moment _disk.old) (D.moment _disk.new) out.old out.new result }
+    ensures numbered { IfErr result (λ fault. fault ≢ NoNumber) }
+    ensures fit { result ≢ Err Unfit }
+{
+    store.on_want(frame, packs, from, file, wanted, own, out)?;
+    Ok(())
+}
+
 /// A close of an instance. What it owes is committed first.
 fn take_close<D: Disk>(
     store: &mut Store,
@@ -252,6 +287,27 @@ fn take_op<D: Disk>(
     ensures unfit { result ≡ Err Unfit → CanOperateAt frame.now work.now (groups_of packs.old) inst number op.now (store_of store.old packs.old (D.moment disk.old).seen) → ⊥ }
 {
     store.on_op(frame, packs, disk, inst, number, op, seen, work, out)?;
+    Ok(())
+}
+
+/// A read whose asker has the bytes. Nothing is asked of the disk.
+fn take_read_held<D: Disk>(
+    store: &mut Store,
+    packs: &SitePacks,
+    frame: &SiteFrame,
+    _disk: &mut D,
+    inst: Serial,
+    read: HeldRead,
+    out: &mut Outbox,
+) -> Result<(), NodeFault>
+    requires { Stand packs.now (D.moment _disk.old) }
+    ensures gives { OnOk result (Gives (on_read_held frame.now inst read.number read.at read.len (store_of store.old packs.now (D.moment _disk.old).seen)) (store_of store.new packs.now (D.moment _disk.new).seen) out.old out.new) }
+    ensures stands { Stand packs.now (D.moment _disk.new) }
+    ensures disk { EventWrites None packs.now (D.moment _disk.old) (D.moment _disk.new) out.old out.new result }
+    ensures numbered { IfErr result (λ fault. fault ≢ NoNumber) }
+    ensures fit { result ≢ Err Unfit }
+{
+    store.on_read_held(frame, packs, inst, read, out)?;
     Ok(())
 }
 

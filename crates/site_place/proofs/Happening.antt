@@ -1,4 +1,4 @@
--- What an event of a site that runs leaves and tells, and that its disk stays whole.
+-- What an event of a running site leaves and tells, and that its disk stays whole.
 use Rattle.std.proofs.Common.{◌≡◌, ℕ, List, [], ◌++◌, refl, sym, ◌∙◌, ap, subst}
 use Rattle.std.specs.Prelude.{Option, None, Some, Result, Ok, Err}
 use Rattle.locus_ids.specs.declared.config.Config.{Config}

@@ -2,7 +2,7 @@ use locus_ids::NoMemory;
 use thiserror::Error;
 
 /// Why an event did not happen whole. Then the run cannot go on.
-#[derive(Clone, Copy, Debug, PartialEq, Eq, Error)]
+#[derive(Clone, Copy, Debug, Error)]
 pub enum PlaceFault {
     #[error("no memory")]
     NoMemory,
@@ -12,7 +12,7 @@ pub enum PlaceFault {
 }
 
 /// Why a site did not boot, other than by a disk call that was cut off. Then the run cannot go on.
-#[derive(Clone, Copy, Debug, PartialEq, Eq, Error)]
+#[derive(Clone, Copy, Debug, Error)]
 pub enum StartFault {
     #[error("no memory")]
     NoMemory,

@@ -18,7 +18,7 @@ pub enum CallCut {
 }
 
 /// So many disk calls of a site pass, and the next one is cut off.
-#[derive(Clone, Copy, PartialEq, Eq)]
+#[derive(Clone, Copy)]
 pub struct DiskScript {
     pub site: SiteId,
     pub left: u32,

@@ -25,8 +25,7 @@ pub fn take(
 {
     match body {
         Body::Report { group, copies } => {
-            on_report(tables, frame, from, group, copies.as_slice(), out)?;
-            Ok(())
+            on_report(tables, frame, from, group, copies.as_slice(), out)
         }
         Body::Open {
             serial,
@@ -44,17 +43,10 @@ pub fn take(
                 file,
                 how,
             };
-            on_open(tables, frame, from, &asked, out)?;
-            Ok(())
+            on_open(tables, frame, from, &asked, out)
         }
-        Body::Opened { inst, answer } => {
-            on_opened(tables, frame, inst, answer, out)?;
-            Ok(())
-        }
-        Body::Closed { inst, made } => {
-            on_closed(tables, frame, from, inst, made, out)?;
-            Ok(())
-        }
+        Body::Opened { inst, answer } => on_opened(tables, frame, inst, answer, out),
+        Body::Closed { inst, made } => on_closed(tables, frame, from, inst, made, out),
         Body::Look {
             call,
             process,
@@ -71,13 +63,9 @@ pub fn take(
                 file,
                 what,
             };
-            on_look(tables, frame, from, &look, out)?;
-            Ok(())
+            on_look(tables, frame, from, &look, out)
         }
-        Body::Have { file, stamp } => {
-            on_have(tables, from, file, stamp)?;
-            Ok(())
-        }
+        Body::Have { file, stamp } => on_have(tables, from, file, stamp),
         _ => Ok(()),
     }
 }

@@ -27,7 +27,7 @@ use Rattle.row_laws.specs.Events.{SiteTold, causes_of}
 use Rattle.row_laws.specs.ByLine.{IsLine, KeptIn}
 use Rattle.row_laws.specs.Arms.{NoDisk}
 use Rattle.row_laws.specs.Voids.{LinesFit}
-use Rattle.row_laws.proofs.AskedRun.{own_given, Courses, courses_kept, first_courses, last_within}
+use Rattle.row_laws.proofs.AskedRun.{own_given, last_within}
 use Rattle.row_laws.proofs.ByLine.{every_line}
 use Rattle.row_laws.proofs.Causes.{comes_own, sent_polls}
 use Rattle.row_laws.proofs.Fitting.{schedule_fits}
@@ -38,116 +38,87 @@ use Rattle.whole_run_laws.proofs.of_rest_laws.Packs.{schedule_packs}
 use Rattle.whole_run_laws.proofs.of_rest_laws.Resting.{run_low, run_rests}
 use Rattle.whole_run_laws.proofs.of_rest_laws.Roles.{roles_do}
 use Rattle.whole_run_laws.proofs.of_rest_laws.StoreStepFirst.{four_groups}
-use Rattle.whole_run_laws.proofs.of_rest_laws.of_one_tree_laws.Cuts.{step_writes}
-use Rattle.whole_run_laws.proofs.of_rest_laws.of_one_tree_laws.Run.{kept, first_holds, event_fact, sent_fact}
+use Rattle.whole_run_laws.proofs.of_rest_laws.of_one_tree_laws.Run.{kept, event_fact, arrives_fact}
 use Rattle.whole_run_laws.proofs.of_rest_laws.of_one_tree_laws.Staying.{stays}
 use Rattle.whole_run_laws.proofs.of_rest_laws.of_one_tree_laws.Worlds.{Holds}
-use Rattle.whole_run_laws.proofs.CutEvents.{Counts, still_counts, asked_counts, boot_counts_as, acts_counts}
+use Rattle.whole_run_laws.specs.Wrote.{AgreeBelow}
+use Rattle.whole_run_laws.proofs.CutDisks.{next_agrees}
+use Rattle.whole_run_laws.proofs.CutEvents.{Counts, counts_agree}
+use Rattle.whole_run_laws.proofs.CutLines.{next_counts}
+use Rattle.whole_run_laws.proofs.CutCourse.{Counted, counts_kept, first_counted, wrote_then, wrote_it}
 use Rattle.whole_run_laws.proofs.CutShaped.{step_writes_first}
-use Rattle.whole_run_laws.proofs.CutTraced.{LeavesDisks, quiet_leaves, void_leaves, gives_leaves}
-use Rattle.whole_run_laws.specs.CutCounts.{CountsAreTheRuns}
+use Rattle.whole_run_laws.proofs.CutTraced.{LeavesDisks, gives_leaves}
 use Rattle.stop_laws.specs.Stops.{CutsAreExact}
-use Rattle.stop_laws.proofs.Arming.{next_counts, arm_counts, first_counts}
-use Rattle.stop_laws.proofs.Events.{Exact, still_exact, asked_exact, boot_exact, acts_exact}
+use Rattle.stop_laws.proofs.Events.{Exact, still_exact, asked_exact, boot_exact, acts_exact, exact_agrees}
 use Rattle.stop_laws.proofs.Placed.{WritesAt, step_placed, stands_delivered, stands_given}
 use Rattle.stop_laws.proofs.Stepping.{step_could}
 
--- the disks are counted, and the cuts are exact
-record Cuts (c : Config) (lines : List ScheduleLine) (n : ℕ) (w : World) : Type 0 where
-  counts : Counts c lines n w
-  exact : Exact c lines w
-
+-- the disks are counted, and by what was written the cuts are exact
 record Kept (c : Config) (lines : List ScheduleLine) (n : ℕ) (w : World) : Type 0 where
-  courses : Courses lines n w
-  holds : Holds c w
-  cuts : Cuts c lines n w
-
--- ---- a line begins ----
-
-next_cuts : (c : Config) (lines : List ScheduleLine) (n : ℕ) (w : World) → n < length lines → LeavesDisks (line_at lines (n + 1)) → Kept c lines n w → Cuts c lines (n + 1) w
-next_cuts c lines n w there none p = record { counts = next_counts c lines n w (last_within n w.trace p.courses.course.ascends) there none p.cuts.counts; exact = p.cuts.exact }
-
-begun : (c : Config) (lines : List ScheduleLine) (n : ℕ) (l : LineWords) (w : World) → n < length lines → IsLine lines (n + 1) l → LeavesDisks (EventLine l) → Kept c lines n w → Cuts c lines (n + 1) w
-begun c lines n l w there is none p = next_cuts c lines n w there (subst LeavesDisks (sym is) none) p
+  counted : Counted c lines n w
+  exact : Exact counted.wrote c lines w
 
 -- ---- events ----
 
-says_cuts : (c : Config) (lines : List ScheduleLine) (m : ℕ) (told : List Told) (w : World) → Every NoDisk told → Cuts c lines m w → Cuts c lines m (happened m [] told (λ now. now) w)
-says_cuts c lines m told w quiet p = record { counts = now; exact = still_exact c lines m [] told (λ now. now) w quiet p.exact now }
-  where
-    now : Counts c lines m (happened m [] told (λ now. now) w)
-    now = still_counts c lines m [] told (λ now. now) w refl (λ t d h. h) quiet p.counts
+says_cuts : (c : Config) (lines : List ScheduleLine) (m : ℕ) (told : List Told) (w : World) (wrote : ℕ → List ℕ) → Every NoDisk told → Exact wrote c lines w → Counts wrote c lines m (happened m [] told (λ now. now) w) → Exact wrote c lines (happened m [] told (λ now. now) w)
+says_cuts c lines m told w wrote quiet h now = still_exact wrote c lines m [] told (λ now. now) w quiet h now
 
 at_line : (lines : List ScheduleLine) (n : ℕ) (l : LineWords) (r : Record) → IsLine lines n l → stands_at (EventLine l) r ≡ true → stands_at (line_at lines n) r ≡ true
 at_line lines n l r is h = ap (λ (x : ScheduleLine). stands_at x r) is ∙ h
 
-does_cuts : (c : Config) → RolesDo c → (lines : List ScheduleLine) (m s : ℕ) (e : Event) (v : SiteView) (w : World) → place_at w s ≡ Some (Running v) → is_up (trace_of w) s ≡ true → Every (SiteTold s (causes_of s (links_of w s) v e)) (step c s (links_of w s) v e).told →
-    (Past c w.trace → EventFact c w.trace s v e) → ((r : Record) → VersionOf s r → WritesAt e r → stands_at (line_at lines m) r ≡ true) → Holds c w → Cuts c lines m w → Cuts c lines m (acts m s v (step c s (links_of w s) v e) w)
-does_cuts c roles lines m s e v w here up told fact place holds p = record {
-  counts = now;
-  exact = acts_exact c lines m s (causes_of s (links_of w s) v e) v (step c s (links_of w s) v e) w here up told (step_writes_first c s (links_of w s) v e)
-      (λ past f. step_could c roles s (links_of w s) w.trace v e past (f.places s (Running v) here) (fact past)) (placed_by (step c s (links_of w s) v e).written (step_placed c s (links_of w s) v e)) holds p.counts p.exact now;
-}
+placed_by : (lines : List ScheduleLine) (m s : ℕ) (e : Event) (x : Option DiskWrite) → ((r : Record) → VersionOf s r → WritesAt e r → stands_at (line_at lines m) r ≡ true) → WrittenFact (λ (d : DiskWrite). WritesAt e d.says) x → WrittenFact (λ (d : DiskWrite). VersionOf s d.says → stands_at (line_at lines m) d.says ≡ true) x
+placed_by lines m s e None place h = tt
+placed_by lines m s e (Some d) place h = λ own. place d.says own h
+
+does_cuts : (c : Config) → RolesDo c → (lines : List ScheduleLine) (m s : ℕ) (e : Event) (v : SiteView) (w : World) (wrote : ℕ → List ℕ) → place_at w s ≡ Some (Running v) → is_up (trace_of w) s ≡ true → Every (SiteTold s (causes_of s (links_of w s) v e)) (step c s (links_of w s) v e).told →
+    (Past c w.trace → EventFact c w.trace s v e) → ((r : Record) → VersionOf s r → WritesAt e r → stands_at (line_at lines m) r ≡ true) → Holds c w → Counts wrote c lines m w → Exact wrote c lines w → Counts (wrote_then c s e v w wrote) c lines m (acts m s v (step c s (links_of w s) v e) w) → Exact (wrote_then c s e v w wrote) c lines (acts m s v (step c s (links_of w s) v e) w)
+does_cuts c roles lines m s e v w wrote here up told fact place holds counts exact now =
+    acts_exact (wrote_then c s e v w wrote) c lines m s (causes_of s (links_of w s) v e) v (step c s (links_of w s) v e) w here up told (step_writes_first c s (links_of w s) v e)
+    (λ past f. step_could c roles s (links_of w s) w.trace v e past (f.places s (Running v) here) (fact past)) (placed_by lines m s e (step c s (links_of w s) v e).written place (step_placed c s (links_of w s) v e))
+    (wrote_it (length (trace_of w)) (step c s (links_of w s) v e).written wrote) holds
+    (counts_agree wrote (wrote_then c s e v w wrote) c lines m w agree counts) (exact_agrees wrote (wrote_then c s e v w wrote) c lines w agree exact) now
   where
-    placed_by : (x : Option DiskWrite) → WrittenFact (λ (d : DiskWrite). WritesAt e d.says) x → WrittenFact (λ (d : DiskWrite). VersionOf s d.says → stands_at (line_at lines m) d.says ≡ true) x
-    placed_by None h = tt
-    placed_by (Some d) h = λ own. place d.says own h
+    agree : AgreeBelow (length (trace_of w)) wrote (wrote_then c s e v w wrote)
+    agree = next_agrees (length (trace_of w)) (step c s (links_of w s) v e).written wrote
 
-    now : Counts c lines m (acts m s v (step c s (links_of w s) v e) w)
-    now = acts_counts c lines m s (causes_of s (links_of w s) v e) v (step c s (links_of w s) v e) w here up told (step_writes_first c s (links_of w s) v e)
-        (λ past f. step_writes c roles m s (links_of w s) w.trace v e past (f.places s (Running v) here) (fact past)) holds p.counts
-
-same_cuts : (c : Config) (lines : List ScheduleLine) (n : ℕ) (w : World) (under : List Numbered) (lost : List ℕ) (circuits : List CutCircuit) → Cuts c lines n w → Cuts c lines n (record w { underway = under; lost = lost; circuits = circuits })
-same_cuts c lines n w under lost circuits p = record { counts = λ r. (let f : CountsAreTheRuns c lines n w = p.counts r in record { rises = f.rises; sites = f.sites; rows = f.rows }); exact = λ r. p.exact r }
-
-asked_cuts : (c : Config) (lines : List ScheduleLine) (m s : ℕ) (v : SiteView) (w : World) → place_at w s ≡ Some (Running v) → is_up (trace_of w) s ≡ true → Cuts c lines m w → Cuts c lines m (asked_stop m s v w)
-asked_cuts c lines m s v w here up p = (let now : Counts c lines m (asked_stop m s v w) = asked_counts c lines m s v w here up p.counts in record { counts = now; exact = asked_exact c lines m s v w p.exact now })
+begun : (c : Config) (lines : List ScheduleLine) (n : ℕ) (l : LineWords) (w : World) → n < length lines → IsLine lines (n + 1) l → LeavesDisks (EventLine l) → (p : Kept c lines n w) → Counts p.counted.wrote c lines (n + 1) w
+begun c lines n l w there is none p = next_counts p.counted.wrote c lines n w (last_within n w.trace p.counted.courses.course.ascends) there (subst LeavesDisks (sym is) none) p.counted.counts
 
 cuts_kept : (c : Config) (lines : List ScheduleLine) → LinesFit c lines → RolesDo c → KeptIn c lines (Kept c lines)
+unfolding counts_kept
 cuts_kept c lines fit roles = record {
-  begins = λ n w there quiet p. record { courses = on.begins n w there quiet p.courses; holds = p.holds; cuts = next_cuts c lines n w there (quiet_leaves (line_at lines (n + 1)) quiet) p };
-  ticks = λ n most s v w is here p. record {
-    courses = on.ticks n most s v w is here p.courses;
-    holds = held.ticks n most s v w is here p.holds;
-    cuts = does_cuts c roles lines n s Ticks v w here (p.courses.course.places s (Running v) here).0 (step_forms (DeedsOf w.trace s) s c (links_of w s) v Ticks (p.courses.good.views s v here) (p.courses.course.places s (Running v) here).2 tt).told (λ past. tt) (λ r own h. at_line lines n (line.Settle most) r is (stands_delivered (line.Settle most) s r tt own)) p.holds p.cuts;
-  };
-  receives = λ n l x v w is d here sent p. record {
-    courses = on.receives n l x v w is d here sent p.courses;
-    holds = held.receives n l x v w is d here sent p.holds;
-    cuts = does_cuts c roles lines n x.packet.to (Receives x.packet) v (passed x.number w) here (p.courses.course.places x.packet.to (Running v) here).0
-        (step_forms (DeedsOf w.trace x.packet.to) x.packet.to c (links_of (passed x.number w) x.packet.to) v (Receives x.packet) (p.courses.good.views x.packet.to v here) (p.courses.course.places x.packet.to (Running v) here).2 (sent_polls lines n w x sent p.courses.course)).told
-        (λ past. (refl, sent_fact c w x (p.holds past.rest) sent)) (λ r own h. at_line lines n l r is (stands_delivered l x.packet.to r d own)) (held.passes n x.number w p.holds) (same_cuts c lines n w (passed x.number w).underway w.lost w.circuits p.cuts);
-  };
-  passes = λ n k w p. record { courses = on.passes n k w p.courses; holds = held.passes n k w p.holds; cuts = same_cuts c lines n w (passed k w).underway w.lost w.circuits p.cuts };
-  drops = λ n k w p. record { courses = on.drops n k w p.courses; holds = held.drops n k w p.holds; cuts = same_cuts c lines n w (passed k w).underway (k ∷ w.lost) w.circuits p.cuts };
-  budgets = λ n most w is p. record { courses = on.budgets n most w is p.courses; holds = held.budgets n most w is p.holds; cuts = says_cuts c lines n (Shown says.Budget ∷ []) w (tt, tt) p.cuts };
-  voiding = λ n l w there is void p. record { courses = on.voiding n l w there is void p.courses; holds = held.voiding n l w there is void p.holds; cuts = says_cuts c lines (n + 1) (Shown says.Void ∷ []) w (tt, tt) (begun c lines n l w there is (void_leaves w l void) p) };
-  steps = λ n s l e v w there is g here p. record {
-    courses = on.steps n s l e v w there is g here p.courses;
-    holds = held.steps n s l e v w there is g here p.holds;
-    cuts = does_cuts c roles lines (n + 1) s e v w here (p.courses.course.places s (Running v) here).0 (step_forms (DeedsOf w.trace s) s c (links_of w s) v e (p.courses.good.views s v here) (p.courses.course.places s (Running v) here).2 (comes_own e (own_given w l s e g))).told
-        (λ past. event_fact c lines (n + 1) s l e v w fit is g here) (λ r own h. at_line lines (n + 1) l r is (stands_given w l s e r g h)) p.holds (begun c lines n l w there is (gives_leaves w l s e g) p);
-  };
-  cutting = λ n one other w there is cut p. record { courses = on.cutting n one other w there is cut p.courses; holds = held.cutting n one other w there is cut p.holds; cuts = same_cuts c lines (n + 1) w w.underway w.lost (cuts_circuit one other w).circuits (begun c lines n (line.Down one other) w there is (λ s d. refl) p) };
-  mending = λ n one other w there is cut p. record { courses = on.mending n one other w there is cut p.courses; holds = held.mending n one other w there is cut p.holds; cuts = same_cuts c lines (n + 1) w w.underway w.lost (mends_circuit one other w).circuits (begun c lines n (line.Up one other) w there is (λ s d. refl) p) };
-  arming = λ n l a w there is so p. record {
-    courses = on.arming n l a w there is so p.courses;
-    holds = held.arming n l a w there is so p.holds;
-    cuts = record { counts = arm_counts c lines n l a w (last_within n w.trace p.courses.course.ascends) there is so p.cuts.counts; exact = λ r. p.cuts.exact r };
-  };
-  pending = λ n w there is p. record { courses = on.pending n w there is p.courses; holds = held.pending n w there is p.holds; cuts = says_cuts c lines (n + 1) (map packet_record w.underway) w (every_map NoDisk packet_record w.underway (λ (x : Numbered). tt)) (begun c lines n line.Pending w there is (λ s d. refl) p) };
-  stopping = λ n s v w there is here p. record { courses = on.stopping n s v w there is here p.courses; holds = held.stopping n s v w there is here p.holds; cuts = asked_cuts c lines (n + 1) s v w here (p.courses.course.places s (Running v) here).0 (begun c lines n (line.Stop s) w there is (λ t d. refl) p) };
-  booting = λ n s d w there is here p. record {
-    courses = on.booting n s d w there is here p.courses;
-    holds = held.booting n s d w there is here p.holds;
-    cuts = (let old : Cuts c lines (n + 1) w = begun c lines n (line.Boot s) w there is (λ t x. refl) p in
-        let now : Counts c lines (n + 1) (boots_as (n + 1) s (boots (script_of w s) d) w) = boot_counts_as c lines (n + 1) s d w here (p.courses.course.places s (Stopped d) here).0 old.counts in
-        record { counts = now; exact = boot_exact c lines (n + 1) s d w is here (p.courses.course.places s (Stopped d) here).0 old.counts old.exact now });
-  };
+  begins = λ n w there quiet p. record { counted = on.begins n w there quiet p.counted; exact = p.exact };
+  ticks = λ n most s v w is here p. (let now : Counted c lines n (acts n s v (step c s (links_of w s) v Ticks) w) = on.ticks n most s v w is here p.counted in record {
+    counted = now;
+    exact = does_cuts c roles lines n s Ticks v w p.counted.wrote here (p.counted.courses.course.places s (Running v) here).0 (step_forms (DeedsOf w.trace s) s c (links_of w s) v Ticks (p.counted.courses.good.views s v here) (p.counted.courses.course.places s (Running v) here).2 tt).told (λ past. tt) (λ r own h. at_line lines n (line.Settle most) r is (stands_delivered (line.Settle most) s r tt own)) p.counted.holds p.counted.counts p.exact now.counts;
+  });
+  receives = λ n l x v w is d here sent p. (let now : Counted c lines n (acts n x.packet.to v (step c x.packet.to (links_of (passed x.number w) x.packet.to) v (Receives x.packet)) (passed x.number w)) = on.receives n l x v w is d here sent p.counted in record {
+    counted = now;
+    exact = does_cuts c roles lines n x.packet.to (Receives x.packet) v (passed x.number w) p.counted.wrote here (p.counted.courses.course.places x.packet.to (Running v) here).0
+        (step_forms (DeedsOf w.trace x.packet.to) x.packet.to c (links_of (passed x.number w) x.packet.to) v (Receives x.packet) (p.counted.courses.good.views x.packet.to v here) (p.counted.courses.course.places x.packet.to (Running v) here).2 (sent_polls lines n w x sent p.counted.courses.course)).told
+        (λ past. (refl, arrives_fact c w x v (p.counted.holds past.rest) sent here)) (λ r own h. at_line lines n l r is (stands_delivered l x.packet.to r d own)) (held.passes n x.number w p.counted.holds) (on.passes n x.number w p.counted).counts p.exact now.counts;
+  });
+  passes = λ n k w p. record { counted = on.passes n k w p.counted; exact = p.exact };
+  drops = λ n k w p. record { counted = on.drops n k w p.counted; exact = p.exact };
+  budgets = λ n most w is p. (let now : Counted c lines n (happened n [] (Shown says.Budget ∷ []) (λ u. u) w) = on.budgets n most w is p.counted in record { counted = now; exact = says_cuts c lines n (Shown says.Budget ∷ []) w p.counted.wrote (tt, tt) p.exact now.counts });
+  voiding = λ n l w there is void p. (let now : Counted c lines (n + 1) (happened (n + 1) [] (Shown says.Void ∷ []) (λ u. u) w) = on.voiding n l w there is void p.counted in record { counted = now; exact = says_cuts c lines (n + 1) (Shown says.Void ∷ []) w p.counted.wrote (tt, tt) p.exact now.counts });
+  steps = λ n s l e v w there is g here p. (let now : Counted c lines (n + 1) (acts (n + 1) s v (step c s (links_of w s) v e) w) = on.steps n s l e v w there is g here p.counted in record {
+    counted = now;
+    exact = does_cuts c roles lines (n + 1) s e v w p.counted.wrote here (p.counted.courses.course.places s (Running v) here).0 (step_forms (DeedsOf w.trace s) s c (links_of w s) v e (p.counted.courses.good.views s v here) (p.counted.courses.course.places s (Running v) here).2 (comes_own e (own_given w l s e g))).told
+        (λ past. event_fact c lines (n + 1) s l e v w fit is g here) (λ r own h. at_line lines (n + 1) l r is (stands_given w l s e r g h)) p.counted.holds (begun c lines n l w there is (gives_leaves w l s e g) p) p.exact now.counts;
+  });
+  cutting = λ n one other w there is cut p. record { counted = on.cutting n one other w there is cut p.counted; exact = p.exact };
+  mending = λ n one other w there is cut p. record { counted = on.mending n one other w there is cut p.counted; exact = p.exact };
+  arming = λ n l a w there is so p. record { counted = on.arming n l a w there is so p.counted; exact = p.exact };
+  pending = λ n w there is p. (let now : Counted c lines (n + 1) (happened (n + 1) [] (map packet_record w.underway) (λ u. u) w) = on.pending n w there is p.counted in
+      record { counted = now; exact = says_cuts c lines (n + 1) (map packet_record w.underway) w p.counted.wrote (every_map NoDisk packet_record w.underway (λ (x : Numbered). tt)) p.exact now.counts });
+  stopping = λ n s v w there is here p. (let now : Counted c lines (n + 1) (asked_stop (n + 1) s v w) = on.stopping n s v w there is here p.counted in record { counted = now; exact = asked_exact p.counted.wrote c lines (n + 1) s v w p.exact now.counts });
+  booting = λ n s d w there is here p. (let now : Counted c lines (n + 1) (boots_as (n + 1) s (boots (script_of w s) d) w) = on.booting n s d w there is here p.counted in
+      record { counted = now; exact = boot_exact p.counted.wrote c lines (n + 1) s d w is here (p.counted.courses.course.places s (Stopped d) here).0 (begun c lines n (line.Boot s) w there is (λ t x. refl) p) p.exact now.counts });
 }
   where
-    on : KeptIn c lines (Courses lines)
-    on = courses_kept c lines
+    on : KeptIn c lines (Counted c lines)
+    on = counts_kept c lines fit roles
 
     held : KeptIn c lines (λ n w. Holds c w)
     held = kept c lines fit roles (stays c)
@@ -155,10 +126,10 @@ cuts_kept c lines fit roles = record {
 -- ---- every run ----
 
 first_kept : (c : Config) (lines : List ScheduleLine) → RolesDo c → Kept c lines 0 (first_world c)
-first_kept c lines roles = record { courses = first_courses c lines; holds = first_holds c roles; cuts = record { counts = first_counts c lines; exact = λ r. record { cuts = tt; heeds = tt } } }
+first_kept c lines roles = record { counted = first_counted c lines roles; exact = λ r. record { cuts = tt; heeds = tt } }
 
 run_exact : (c : Config) (lines : List ScheduleLine) → LinesFit c lines → RolesDo c → IsRest c (run_in c lines).trace → CutsAreExact c lines (trace_of (run_in c lines))
-run_exact c lines fit roles r = let p : Kept c lines (length lines) (run_in c lines) = every_line c lines (Kept c lines) (cuts_kept c lines fit roles) (first_kept c lines roles) in p.cuts.exact r
+run_exact c lines fit roles r = let p : Kept c lines (length lines) (run_in c lines) = every_line c lines (Kept c lines) (cuts_kept c lines fit roles) (first_kept c lines roles) in record { wrote = p.counted.wrote; exact = p.exact r }
 
 pub schedule_exact : (lines : List ScheduleLine) → AreInOrder lines → CutsAreExact (config_of lines) lines (trace_of (run lines))
 schedule_exact lines order =

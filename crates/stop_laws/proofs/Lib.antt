@@ -4,11 +4,10 @@ pub mod Placed
 pub mod Stepping
 pub mod Versions
 pub mod Boots
-pub mod Arming
+pub mod Agreeing
 pub mod Events
 pub mod Course
-pub mod Asking
-pub mod Bounds
+pub mod Armed
 pub mod Sampled
 pub mod Lawful
 pub mod Early

@@ -7,7 +7,7 @@ use Rattle.schedule_lines.specs.declared.line.Line.TheVariants as line
 use Rattle.schedule_lines.specs.declared.line.ScheduleLine.TheVariants.{Event as EventLine}
 use Rattle.trace_book.specs.declared.record.Record.{Record}
 use Rattle.trace_book.specs.declared.record.Record.TheVariants as says
-use Rattle.role_steps.specs.Adoption.{adopts_first, adopts_pull, is_above_own, is_ready, without_pull}
+use Rattle.role_steps.specs.Adoption.{adopts_first, adopts_pull, is_ready, without_pull, fits_own}
 use Rattle.role_steps.specs.Epochs.{frame_in, leaves, starts_merge, boots_where, merge_boot, starts_part}
 use Rattle.role_steps.specs.Storage.{copy_of}
 use Rattle.role_steps.specs.Views.{Frame, SiteView, DiskWrite, Outcome, Event, Calls, Receives, Ticks, Parts, Merges, GivesUp, quiet, first_written}
@@ -51,7 +51,7 @@ Placed e w = WrittenFact (λ (d : DiskWrite). WritesAt e d.says) w
 
 first_placed : (f : Frame) (ps : List Pull) (v : SiteView) → Placed Ticks (adopts_first f ps v).written
 first_placed f [] v = tt
-first_placed f (p ∷ ps) v = over (first_placed f ps (without_pull p v)) (first_placed f ps v) (is_ready v p) (is_above_own p (copy_of v.store p.file))
+first_placed f (p ∷ ps) v = over (first_placed f ps (without_pull p v)) (first_placed f ps v) (is_ready v p) (fits_own p (copy_of v.store p.file))
   where
     over : Placed Ticks (adopts_first f ps (without_pull p v)).written → Placed Ticks (adopts_first f ps v).written → (b a : Bool) →
         Placed Ticks (elim b as (λ (x : Bool). Outcome SiteView) [ true ↦ elim a as (λ (x : Bool). Outcome SiteView) [ true ↦ adopts_pull f p v | false ↦ adopts_first f ps (without_pull p v) ] | false ↦ adopts_first f ps v ]).written

@@ -9,32 +9,33 @@ use Rattle.trace_book.specs.declared.record.Record.TheVariants as says
 use Rattle.schedule_lines.specs.Cluster.{config_of}
 use Rattle.tree_model.specs.Folds.{Trace}
 use Rattle.disk_calls.specs.Versions.{is_written}
-use Rattle.lawful_trace.specs.Disks.{disk_of, Armed, Writing, calls_of, cut_of, is_cut_next, writing_commit}
+use Rattle.lawful_trace.specs.Disks.{Armed, Writing, calls_of, cut_of, is_cut_next, writing_commit}
 use Rattle.lawful_trace.specs.Samples.{Sample, first_of, at, file, stamp}
 use Rattle.lawful_trace.specs.TreeRows.{MayCommit}
 use Rattle.trace_book.specs.declared.record.StopCause.TheVariants as cause
 use Rattle.locus_ids.specs.declared.config.Config.{Config}
-use Rattle.stop_laws.specs.Stops.{IsCutAt, IsCutAfter, IsCutBefore, IsCutBooting, IsCommitAsked, is_overrun}
+use Rattle.whole_run_laws.specs.Wrote.{disk_of}
+use Rattle.stop_laws.specs.Stops.{AreExact, IsCutAt, IsCutAfter, IsCutBefore, IsCutBooting, IsCommitAsked, is_overrun}
 use Rattle.stop_laws.specs.Samples.{IsExact, opened, committed, version_that_stays, version_that_is_lost, boot_that_fails, version_that_leave_took_away, disk_that_goes_on, boot_that_was_over}
 
 -- once more calls were made than pass no other can be cut
 too_many : (a b : Armed) (calls passed : ℕ) → ◌≡◌ {A = Option Armed} (Some a) (Some b) → calls_of a.arming < a.used → IsCutAt b calls passed → ⊥
-too_many a b calls passed e over cut = never b.used passed (calls_of b.arming) (subst (λ (x : Armed). calls_of x.arming < x.used) (some_same a b e) over) cut.least
+too_many a b calls passed e over cut = never b.used passed (calls_of b.arming) (subst (λ (x : Armed). calls_of x.arming < x.used) (some_same a b e) over) cut.count
   where
-    never : (used passed calls : ℕ) → calls < used → used + passed ≤ calls → ⊥
+    never : (used passed calls : ℕ) → calls < used → used + passed ≡ calls → ⊥
     never used passed calls h k = omega (arith, h, k)
 
 -- the number of the cut call
 pub passed_is : (a b : Armed) (calls passed : ℕ) → ◌≡◌ {A = Option Armed} (Some a) (Some b) → a.used ≡ 0 → IsCutAt b calls passed → passed ≡ calls_of a.arming
-passed_is a b calls passed e none cut = so a.used passed (calls_of a.arming) none (subst (λ (x : Armed). x.used + passed ≤ calls_of x.arming) (sym (some_same a b e)) cut.least) (subst (λ (x : Armed). calls_of x.arming ≤ x.used + passed) (sym (some_same a b e)) cut.most)
+passed_is a b calls passed e none cut = so a.used passed (calls_of a.arming) none (subst (λ (x : Armed). x.used + passed ≡ calls_of x.arming) (sym (some_same a b e)) cut.count)
   where
-    so : (used passed calls : ℕ) → used ≡ 0 → used + passed ≤ calls → calls ≤ used + passed → passed ≡ calls
-    so used passed calls z h k = omega (arith, z, h, k)
+    so : (used passed calls : ℕ) → used ≡ 0 → used + passed ≡ calls → passed ≡ calls
+    so used passed calls z h = omega (arith, z, h)
 
 -- ---- no disk goes on ----
 
 abbrev over : Sample → ℕ → ℕ → Bool
-over x n s = is_overrun (disk_of (config_of x.lines) x.lines (first_of n x.trace) s).armed
+over x n s = is_overrun (disk_of (λ k. []) (config_of x.lines) x.lines (first_of n x.trace) s).rest.armed
 
 abbrev next_of : Trace → Option Record
 next_of [] = None
@@ -54,9 +55,13 @@ after x n first others = heeded x n (next_of (first_of (n + 1) x.trace)) first o
 
 -- ---- the right ones ----
 
+-- nothing is adopted
+by_none : {x : Sample} → AreExact (λ k. []) (config_of x.lines) x.lines x.trace → IsExact x
+by_none e = record { wrote = λ k. []; exact = e }
+
 pub stays_is_exact : IsExact version_that_stays
-stays_is_exact = record {
-  cuts = (inl (record { same_line = refl; arming = _; armed = record { armed = refl; fault_is = refl }; cut = record { own = refl; writing = _; writes = refl; passed = 3; cut = record { inside = omega arith; least = omega arith; most = omega arith }; left = refl } }), (tt, (tt, (tt, (tt, (tt, (tt, (tt, tt))))))));
+stays_is_exact = by_none (record {
+  cuts = (inl (record { same_line = refl; arming = _; armed = record { armed = refl; fault_is = refl }; cut = record { own = refl; writing = _; writes = refl; passed = 3; cut = record { inside = omega arith; count = refl }; left = refl } }), (tt, (tt, (tt, (tt, (tt, (tt, (tt, tt))))))));
   heeds = (
     heeded version_that_stays 8 None (inl refl) (λ s e. rw e refl),
     (
@@ -73,11 +78,11 @@ stays_is_exact = record {
       ),
     ),
   );
-}
+})
 
 pub lost_is_exact : IsExact version_that_is_lost
-lost_is_exact = record {
-  cuts = (inr (record { arming = _; armed = record { armed = refl; fault_is = refl }; version = says.Commit (file 0 2) 1 (stamp 1 1) [] []; underway = (may, asked); place = refl; cut = record { own = refl; writing = _; writes = refl; passed = 3; cut = record { inside = omega arith; least = omega arith; most = omega arith }; left = refl } }), (tt, (tt, (tt, (tt, (tt, (tt, tt)))))));
+lost_is_exact = by_none (record {
+  cuts = (inr (record { arming = _; armed = record { armed = refl; fault_is = refl }; version = says.Commit (file 0 2) 1 (stamp 1 1) [] []; underway = (may, asked); place = refl; cut = record { own = refl; writing = _; writes = refl; passed = 3; cut = record { inside = omega arith; count = refl }; left = refl } }), (tt, (tt, (tt, (tt, (tt, (tt, tt)))))));
   heeds = (
     heeded version_that_is_lost 7 None (inl refl) (λ s e. rw e refl),
     (
@@ -91,7 +96,7 @@ lost_is_exact = record {
       ),
     ),
   );
-}
+})
   where
     may : MayCommit (config_of version_that_is_lost.lines) opened (file 0 2) 1 (stamp 1 1) [] []
     may = record { epoch = _; inside = refl; instance = _; one = refl; at = refl; owes = refl; same = refl; above = refl; numbered = refl }
@@ -100,10 +105,10 @@ lost_is_exact = record {
     asked = record { epoch = _; inside = refl; instance = _; committing_is = refl; asked = inl (record { call = _; owned = refl; step = record { accepted = _; named = refl; made_in = refl }; asked = refl }) }
 
 pub fails_is_exact : IsExact boot_that_fails
-fails_is_exact = record {
-  cuts = (record { asked = record { asked = refl }; arming = _; armed = record { armed = refl; fault_is = refl }; passed = 5; cut = record { inside = omega arith; least = omega arith; most = omega arith } }, (tt, tt));
+fails_is_exact = by_none (record {
+  cuts = (record { asked = record { asked = refl }; arming = _; armed = record { armed = refl; fault_is = refl }; passed = 5; cut = record { inside = omega arith; count = refl } }, (tt, tt));
   heeds = (heeded boot_that_fails 2 None (inl refl) (λ s e. rw e refl), (after boot_that_fails 1 (inl refl) (λ s e. rw e refl), tt));
-}
+})
 
 -- ---- the wrong ones ----
 
@@ -111,20 +116,20 @@ abbrev c : Config
 c = config_of version_that_leave_took_away.lines
 
 pub took_away_is_wrong : IsExact version_that_leave_took_away → ⊥
-took_away_is_wrong h = by h.cuts.0
+took_away_is_wrong h = by h.exact.cuts.0
   where
-    by : IsCutAfter c version_that_leave_took_away.lines (at 7 (says.Commit (file 0 2) 1 (stamp 1 1) [] [])) (first_of 6 committed) 7 1 false ⊎ IsCutBefore c version_that_leave_took_away.lines committed 7 1 false → ⊥
+    by : IsCutAfter h.wrote c version_that_leave_took_away.lines (at 7 (says.Commit (file 0 2) 1 (stamp 1 1) [] [])) (first_of 6 committed) 7 1 false ⊎ IsCutBefore h.wrote c version_that_leave_took_away.lines committed 7 1 false → ⊥
     by (inl a) = true_false (sym a.cut.left ∙ (ap (λ (w : Writing). is_written w (cut_of a.arming.arming) a.cut.passed) a.cut.writes ∙ (ap (is_written (writing_commit c (first_of 6 committed) (file 0 2) 1) (cut_of a.arming.arming)) (passed_is _ a.arming _ a.cut.passed a.armed.armed refl a.cut.cut)
         ∙ ap (λ (b : Armed). is_written (writing_commit c (first_of 6 committed) (file 0 2) 1) (cut_of b.arming) 3) (sym (some_same _ a.arming a.armed.armed)))))
     by (inr b) = too_many _ b.arming _ b.cut.passed b.armed.armed (omega arith) b.cut.cut
 
 pub goes_on_is_wrong : IsExact disk_that_goes_on → ⊥
-goes_on_is_wrong h = true_false (sym (h.heeds.0 1 refl))
+goes_on_is_wrong h = true_false (sym (h.exact.heeds.0 1 refl))
 
 pub over_is_wrong : IsExact boot_that_was_over → ⊥
-over_is_wrong h = by h.cuts.0
+over_is_wrong h = by h.exact.cuts.0
   where
-    by : IsCutBooting (config_of boot_that_was_over.lines) boot_that_was_over.lines (at 3 (says.Stopped 1 cause.Asked) ∷ []) 5 1 true → ⊥
+    by : IsCutBooting h.wrote (config_of boot_that_was_over.lines) boot_that_was_over.lines (at 3 (says.Stopped 1 cause.Asked) ∷ []) 5 1 true → ⊥
     by b = never b.passed b.cut.inside (passed_is _ b.arming _ b.passed b.armed.armed refl b.cut)
       where
         never : (passed : ℕ) → passed < 6 → passed ≡ 6 → ⊥

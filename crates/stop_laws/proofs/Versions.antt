@@ -17,39 +17,33 @@ use Rattle.the_run.specs.Worlds.{Line}
 use Rattle.tree_model.specs.Files.{committing}
 use Rattle.tree_model.specs.Folds.{Trace}
 use Rattle.tree_model.specs.Histories.{held}
-use Rattle.lawful_trace.specs.Disks.{Armed, calls_of, calls_of_writing, pages_held, pages_now, writing_commit, writing_adoption, writer_of, armed_at}
+use Rattle.lawful_trace.specs.Disks.{Armed, calls_of, calls_of_writing, pages_held, pages_now, writing_commit, writer_of}
+use Rattle.whole_run_laws.specs.Wrote.{writing_adopted, armed_at}
 use Rattle.vector_laws.specs.Held.{IsOf}
-use Rattle.tree_laws.specs.Doing.{pages_told, pages_written}
+use Rattle.tree_laws.specs.Doing.{AreWritten, pages_told}
 use Rattle.tree_laws.specs.Printed.{entries}
 use Rattle.tree_laws.specs.Stores.{CopiesAreHeld}
 use Rattle.whole_run_laws.specs.CutCounts.{SameArming, CountsAs}
 use Rattle.whole_run_laws.proofs.CutGates.{cut_same}
 use Rattle.whole_run_laws.proofs.CutPlaced.{before_is, older_is, same_writing}
-use Rattle.stop_laws.specs.Stops.{IsCutAt, IsArmed, IsBetween, IsVersionCut, Writes}
+use Rattle.stop_laws.specs.Stops.{IsCutAt, IsArmed, IsVersionCut, Writes}
 use Rattle.stop_laws.proofs.Traced.{fails, fails_as}
 use Rattle.stop_laws.proofs.Writing.{CouldTell}
 
 -- ---- how it is written ----
 
--- what is written as told is between the least and the most
-same_between : (w x : Writing) → x ≡ w → IsBetween w w x
-same_between w x e = subst (IsBetween w w) (sym e) (record { least_blocks = same (blocks w); most_blocks = same (blocks w); older = refl })
-  where
-    same : (n : ℕ) → n ≤ n
-    same n = omega arith
-
-of_record : (c : Config) (t : Trace) (s : ℕ) (r : Record) (x : FileCopy) (older : Bool) (before now : ℕ) (ps : List ℕ) → IsOf s r x → ps ≡ pages_written c t r → now ≡ pages_told c t r → older ≡ is_some (held c t s x.file) → before ≡ pages_held c t x.file (held c t s x.file) → Writes c t r (writing older before now ps)
+of_record : (c : Config) (t : Trace) (s : ℕ) (r : Record) (x : FileCopy) (older : Bool) (before now : ℕ) (ps : List ℕ) → IsOf s r x → AreWritten c t r ps → now ≡ pages_told c t r → older ≡ is_some (held c t s x.file) → before ≡ pages_held c t x.file (held c t s x.file) → Writes ps c t r (writing older before now ps)
 of_record c t s (says.Commit f site stamp parents content) x older before now ps is pages many has had =
     same_writing older (is_some (held c t site f)) before (pages_held c t f (held c t site f)) now (pages_now (committing c t f site)) ps (writing_commit c t f site).pages
     (has ∙ (ap (λ (g : FileId). is_some (held c t s g)) is.1.file_is ∙ ap (λ (u : ℕ). is_some (held c t u f)) (sym is.0)))
     (had ∙ (ap (λ (g : FileId). pages_held c t g (held c t s g)) is.1.file_is ∙ ap (λ (u : ℕ). pages_held c t f (held c t u f)) (sym is.0))) many pages
-of_record c t s (says.Adopt f site stamp) x older before now ps is pages many has had = same_between (writing_adoption c t f site stamp) (writing older before now ps)
-    (same_writing older (is_some (held c t site f)) before (pages_held c t f (held c t site f)) now (pages_held c t f (Some stamp)) ps (writing_adoption c t f site stamp).pages
+of_record c t s (says.Adopt f site stamp) x older before now ps is pages many has had =
+    same_writing older (is_some (held c t site f)) before (pages_held c t f (held c t site f)) now (pages_held c t f (Some stamp)) ps (writing_adopted ps c t f site stamp).pages
     (has ∙ (ap (λ (g : FileId). is_some (held c t s g)) is.1 ∙ ap (λ (u : ℕ). is_some (held c t u f)) (sym is.0)))
-    (had ∙ (ap (λ (g : FileId). pages_held c t g (held c t s g)) is.1 ∙ ap (λ (u : ℕ). pages_held c t f (held c t u f)) (sym is.0))) many pages)
+    (had ∙ (ap (λ (g : FileId). pages_held c t g (held c t s g)) is.1 ∙ ap (λ (u : ℕ). pages_held c t f (held c t u f)) (sym is.0))) many pages
 of_record c t s _ x older before now ps is pages many has had = absurd is
 
-pub writes_so : (c : Config) (t : List Line) (s : ℕ) (st : Store) (d : DiskWrite) → CouldTell c t d → CopiesAreHeld c t s st → IsOf s d.says d.copy → Writes c (entries t) d.says (writing_of st d)
+pub writes_so : (c : Config) (t : List Line) (s : ℕ) (st : Store) (d : DiskWrite) → CouldTell c t d → CopiesAreHeld c t s st → IsOf s d.says d.copy → Writes d.pages c (entries t) d.says (writing_of st d)
 writes_so c t s st d could copies is = of_record c (entries t) s d.says d.copy (has_older st d) (pages_of (length (content_of (copy_of st d.copy.file)))) (pages_of (length d.copy.content)) d.pages is could.pages could.now (older_is c t s st d.copy.file copies could.narrow) (before_is c t s st d.copy.file copies could.narrow)
 
 -- ---- where it is cut ----
@@ -67,20 +61,14 @@ scripted (Some a) x h = record { arming = a; armed = refl; same = h.0; count = h
 
 -- the call after those that the script lets pass
 pub cut_at : (o : Option Armed) (x : Script) (k : IsScripted o x) (calls : ℕ) → x.left < calls → IsCutAt k.arming calls x.left
-cut_at o x k calls less = record { inside = less; least = up k.arming.used x.left (calls_of k.arming.arming) k.count; most = down k.arming.used x.left (calls_of k.arming.arming) k.count }
-  where
-    up : (used left calls : ℕ) → used + left ≡ calls → used + left ≤ calls
-    up used left calls e = omega (arith, e)
+cut_at o x k calls less = record { inside = less; count = k.count }
 
-    down : (used left calls : ℕ) → used + left ≡ calls → calls ≤ used + left
-    down used left calls e = omega (arith, e)
+pub armed_so : (wrote : ℕ → List ℕ) (c : Config) (lines : List ScheduleLine) (before : Trace) (n s : ℕ) (x : Script) (k : IsScripted (armed_at wrote c lines before n s) x) → IsArmed wrote c lines before n s (fails x.how) k.arming
+armed_so wrote c lines before n s x k = record { armed = k.armed; fault_is = fails_as k.arming.arming x.how k.same }
 
-pub armed_so : (c : Config) (lines : List ScheduleLine) (before : Trace) (n s : ℕ) (x : Script) (k : IsScripted (armed_at c lines before n s) x) → IsArmed c lines before n s (fails x.how) k.arming
-armed_so c lines before n s x k = record { armed = k.armed; fault_is = fails_as k.arming.arming x.how k.same }
-
-pub version_is_cut : (c : Config) (before : Trace) (s : ℕ) (st : Store) (d : DiskWrite) (o : Option Armed) (x : Script) (k : IsScripted o x) (stays : Bool) → writer_of d.says ≡ Some s → Writes c before d.says (writing_of st d) → nat_lt x.left (write_calls st d) ≡ true → is_on_disk st d x.how x.left ≡ stays →
-    IsVersionCut c before s d.says k.arming stays
-version_is_cut c before s st d o x k stays own writes lacks left = record {
+pub version_is_cut : (wrote : ℕ → List ℕ) (c : Config) (before : Trace) (s : ℕ) (st : Store) (d : DiskWrite) (o : Option Armed) (x : Script) (k : IsScripted o x) (stays : Bool) → writer_of d.says ≡ Some s → Writes (wrote (length before)) c before d.says (writing_of st d) → nat_lt x.left (write_calls st d) ≡ true → is_on_disk st d x.how x.left ≡ stays →
+    IsVersionCut wrote c before s d.says k.arming stays
+version_is_cut wrote c before s st d o x k stays own writes lacks left = record {
   own = own;
   writing = writing_of st d;
   writes = writes;

@@ -10,7 +10,7 @@ use Rattle.locus_ids.specs.declared.ids.Stamp.{Stamp}
 use Rattle.locus_ids.specs.Sizes.{inode_span}
 use Rattle.commit_graph.specs.Grants.{is_read}
 use Rattle.commit_graph.specs.Versions.{content_of}
-use Rattle.file_content.specs.Pages.{ascending, pages_of, pages_from}
+use Rattle.file_content.specs.Pages.{ascending, pages_of}
 use Rattle.file_effects.specs.declared.work.Work.{Work}
 use Rattle.trace_book.specs.declared.operation.Op.{Op}
 use Rattle.trace_book.specs.declared.operation.Op.TheVariants as op
@@ -19,10 +19,11 @@ use Rattle.locus_ids.specs.declared.refusal.Refusal.TheVariants as refusal
 use Rattle.file_effects.specs.Effects.{Effect}
 use Rattle.file_effects.specs.Works.{counted}
 use Rattle.wire_messages.specs.declared.body.CloseAnswer.TheVariants as closing
-use Rattle.role_steps.specs.Adoption.{adopts, adopts_first, adopts_pull, adopt_write, is_above_own, is_ready, without_pull}
+use Rattle.role_steps.specs.Adoption.{adopts, adopts_first, adopts_pull, adopt_write, is_ready, without_pull, fits_own, content_under}
 use Rattle.role_steps.specs.OperationEffects.{Mending, effect_of}
 use Rattle.role_steps.specs.Operations.{acts, acts_committed, commit_op, commits_owing, executes, executes_effect, last_committed, op_again, by_number, on_op, on_op_at, on_op_of}
-use Rattle.role_steps.specs.Pulling.{is_complete, pull_key}
+use Rattle.role_steps.specs.Own.{Every}
+use Rattle.role_steps.specs.Pulling.{is_complete, pull_key, wanted_pages}
 use Rattle.role_steps.specs.Storage.{closes, closes_owing, commits, commit_write, copy_of, instance_key, instance_of, is_spent, next_stamp, next_vector, on_close, on_close_at, on_close_of, shuts, shuts_again}
 use Rattle.role_steps.specs.Views.{Frame, Store, SiteView, DiskWrite, Outcome, and_then, quiet, sends, serial_key}
 use Rattle.role_steps.specs.declared.instances.Instance.{Instance}
@@ -36,12 +37,12 @@ use Rattle.tree_model.specs.declared.instance.Instance.{Instance as Open}
 use Rattle.tree_model.specs.Epochs.{epoch_of}
 use Rattle.tree_model.specs.Files.{HeldVersion, committing}
 use Rattle.tree_model.specs.Histories.{history}
-use Rattle.lawful_trace.specs.Disks.{pages_changed, pages_now}
+use Rattle.lawful_trace.specs.Disks.{pages_changed, pages_held, pages_now}
 use Rattle.lawful_trace.specs.Tables.{call_of_act, call_of_release}
 use Rattle.lawful_trace.specs.TreeRows.{IsStepOf}
 use Rattle.call_rules.specs.declared.want.Want.TheVariants as asks
 use Rattle.trace_book.specs.declared.operation.What.{What}
-use Rattle.tree_laws.specs.Doing.{FrameFact, StoreHeld, PullsFact, WrittenFact, pages_told, pages_written}
+use Rattle.tree_laws.specs.Doing.{FrameFact, StoreHeld, PullsFact, WrittenFact, AreWritten, pages_told}
 use Rattle.tree_laws.specs.Instances.{Stands}
 use Rattle.tree_laws.specs.Packets.{CloseFact, OpFact}
 use Rattle.tree_laws.specs.Past.{WasNamed, WasShut}
@@ -53,13 +54,15 @@ use Rattle.whole_run_laws.specs.of_rest_laws.of_one_tree_laws.Places.{InsideFact
 use Rattle.whole_run_laws.specs.of_rest_laws.of_one_tree_laws.Rest.{Past}
 use Rattle.whole_run_laws.specs.of_rest_laws.of_store_laws.Rests.{AdoptRests, StoreRests}
 use Rattle.whole_run_laws.proofs.of_rest_laws.of_holding_laws.Released.{released_named}
-use Rattle.whole_run_laws.proofs.of_rest_laws.of_store_laws.Adopting.{may_adopt}
+use Rattle.whole_run_laws.proofs.of_rest_laws.of_store_laws.Adopting.{may_adopt, pulled_content}
+use Rattle.whole_run_laws.proofs.of_rest_laws.of_store_laws.PulledPages.{pages_among}
 use Rattle.whole_run_laws.proofs.of_rest_laws.of_store_laws.AnswerDone.{done_named}
 use Rattle.whole_run_laws.proofs.of_rest_laws.of_store_laws.Closes.{found_instance}
 use Rattle.whole_run_laws.proofs.of_rest_laws.of_store_laws.Commits.{committing_is, may_commit}
 use Rattle.whole_run_laws.proofs.of_rest_laws.of_store_laws.Places.{instance_granted}
 use Rattle.whole_run_laws.proofs.of_rest_laws.of_store_laws.Tabled.{row_among}
 use Rattle.whole_run_laws.proofs.of_rest_laws.of_one_tree_laws.ToldVectorTelling.{vectors_tell_newer}
+use Rattle.whole_run_laws.proofs.of_rest_laws.of_one_tree_laws.WantsAdopted.{ascends_left}
 use Rattle.order_laws.proofs.Standing.{same_file_eq}
 use Rattle.whole_run_laws.proofs.of_rest_laws.AdoptionShut.{shut_here}
 use Rattle.whole_run_laws.proofs.of_rest_laws.StoreStepNamed.{named_low}
@@ -70,7 +73,7 @@ use Rattle.stop_laws.specs.Stops.{IsUnderway}
 -- what is written is underway by the trace, and its record would tell which pages are written, and of how many
 pub record CouldTell (c : Config) (trace : List Line) (d : DiskWrite) : Type 0 where
   pub underway : IsUnderway c (entries trace) d.says
-  pub pages : d.pages ≡ pages_written c (entries trace) d.says
+  pub pages : AreWritten c (entries trace) d.says d.pages
   pub now : pages_of (length d.copy.content) ≡ pages_told c (entries trace) d.says
   pub narrow : d.copy.file.ino < inode_span
 
@@ -244,16 +247,16 @@ module _ (c : Config) (trace : List Line) (past : Past c trace) (f : Frame) (fra
 
 module _ (c : Config) (trace : List Line) (past : Past c trace) (f : Frame) where
   -- a pull that is ready, and above what the site has
-  taken : (p : Pull) (v : SiteView) → InsideFact c f trace v → PullFact c trace f.epoch f.me p → is_ready v p ≡ true → is_above_own p (copy_of v.store p.file) ≡ true → CouldTell c trace (adopt_write f p)
+  taken : (p : Pull) (v : SiteView) → InsideFact c f trace v → PullFact c trace f.epoch f.me p → is_ready v p ≡ true → fits_own p (copy_of v.store p.file) ≡ true → CouldTell c trace (adopt_write f p (content_under v p))
   taken p v inside pull ready above = record {
     underway = (may_adopt c 0 trace past.rest.packs past.followed rests f inside.frame v.store inside.store p pull (and_first (is_complete p) _ ready) wants above).row;
-    pages = ap (λ (n : ℕ). pages_from 0 (pages_of n)) size;
-    now = ap pages_of (equal (length p.content) p.size (and_first (is_complete p) _ ready) ∙ size);
+    pages = pages_among (pages_held c (entries trace) p.file (Some p.stamp)) (wanted_pages p) pull.rising (subst (λ (n : ℕ). Every (λ (page : ℕ). page < n) (wanted_pages p)) (ap pages_of length_is) pull.inside);
+    now = ap pages_of (ap length (pulled_content c trace rests f v.store inside.store p pull (and_first (is_complete p) _ ready) above) ∙ length_is);
     narrow = rests.narrow p.file p.stamp stands;
   }
     where
-      size : p.size ≡ length (content_of (history c (entries trace)) p.file p.stamp)
-      size = sym pull.size_is ∙ (ap (λ (y : HeldVersion). length y.content) pull.is_version.same ∙ ap (λ (t : Stamp). length (content_of (history c (entries trace)) p.file t)) pull.stamp_is)
+      length_is : length pull.version.content ≡ length (content_of (history c (entries trace)) p.file p.stamp)
+      length_is = ap (λ (y : HeldVersion). length y.content) pull.is_version.same ∙ ap (λ (t : Stamp). length (content_of (history c (entries trace)) p.file t)) pull.stamp_is
 
       rests : StoreRests c trace
       rests = store_rests c trace past
@@ -268,13 +271,13 @@ module _ (c : Config) (trace : List Line) (past : Past c trace) (f : Frame) wher
       }
 
   dropped : (p : Pull) (v : SiteView) → InsideFact c f trace v → InsideFact c f trace (without_pull p v)
-  dropped p v h = record { frame = h.frame; users = h.users; store = h.store; groups = h.groups; tables = h.tables; reports = h.reports; pulls = every_without (PullFact c trace f.epoch f.me) pull_key (pull_key p) v.pulls h.pulls }
+  dropped p v h = record { frame = h.frame; users = h.users; store = h.store; groups = h.groups; tables = h.tables; reports = h.reports; pulls = every_without (PullFact c trace f.epoch f.me) pull_key (pull_key p) v.pulls h.pulls; pulls_ascend = ascends_left (pull_key p) v.pulls h.pulls_ascend }
 
   first_could : (ps : List Pull) (v : SiteView) → PullsFact c f trace ps → InsideFact c f trace v → Could c trace (adopts_first f ps v).written
   first_could [] v all h = tt
-  first_could (p ∷ ps) v all h = over (first_could ps (without_pull p v) all.1 (dropped p v h)) (first_could ps v all.1 h) (is_ready v p) refl (is_above_own p (copy_of v.store p.file)) refl
+  first_could (p ∷ ps) v all h = over (first_could ps (without_pull p v) all.1 (dropped p v h)) (first_could ps v all.1 h) (is_ready v p) refl (fits_own p (copy_of v.store p.file)) refl
     where
-      over : Could c trace (adopts_first f ps (without_pull p v)).written → Could c trace (adopts_first f ps v).written → (b : Bool) → is_ready v p ≡ b → (a : Bool) → is_above_own p (copy_of v.store p.file) ≡ a →
+      over : Could c trace (adopts_first f ps (without_pull p v)).written → Could c trace (adopts_first f ps v).written → (b : Bool) → is_ready v p ≡ b → (a : Bool) → fits_own p (copy_of v.store p.file) ≡ a →
           Could c trace (elim b as (λ (x : Bool). Outcome SiteView) [ true ↦ elim a as (λ (x : Bool). Outcome SiteView) [ true ↦ adopts_pull f p v | false ↦ adopts_first f ps (without_pull p v) ] | false ↦ adopts_first f ps v ]).written
       over without later true r true e = taken p v h all.0 r e
       over without later true r false e = without

@@ -5,5 +5,5 @@
 mod laws;
 mod samples;
 
-pub use laws::{bounds_meet, cuts_are_exact, exact_cuts_meet_the_rows};
+pub use laws::cuts_are_exact;
 pub use samples::{right_cuts_are_exact, rows_let_wrong_cuts_through, wrong_cuts_are_refused};

@@ -9,7 +9,7 @@ use Rattle.locus_ids.specs.declared.ids.Stamp.{Stamp}
 use Rattle.locus_ids.specs.Sizes.{content_tables_max}
 use Rattle.commit_graph.specs.declared.history.Version.{Version}
 use Rattle.commit_graph.specs.Versions.{content_of}
-use Rattle.file_content.specs.Pages.{pages_of, pages_from, pages_under, is_under, is_table_written, tables_written, placed, ascending}
+use Rattle.file_content.specs.Pages.{has_page, pages_of, pages_from, pages_under, is_under, is_table_written, tables_written, placed, ascending}
 use Rattle.file_content.proofs.Paging.{length_ascending}
 use Rattle.trace_book.specs.declared.record.Record.{Record}
 use Rattle.trace_book.specs.declared.record.Record.TheVariants as rec
@@ -22,8 +22,10 @@ use Rattle.tree_model.specs.Epochs.{is_up}
 use Rattle.tree_model.specs.Folds.{Trace}
 use Rattle.tree_model.specs.Histories.{held as held_by}
 use Rattle.tree_model.specs.Files.{committing}
-use Rattle.lawful_trace.specs.Disks.{Armed, Arming as FoldArming, Disk as FoldDisk, Writing as FoldWriting, calls_of_writing, cut_of, calls_of as calls_armed, written_with, booted_with, stopped_with, writing_commit, writing_adoption, pages_changed, pages_held, pages_now, disk_after}
-use Rattle.lawful_trace.specs.Disks as folds
+use Rattle.lawful_trace.specs.Disks.{Armed, Arming as FoldArming, Writing as FoldWriting, calls_of_writing, cut_of, calls_of as calls_armed, written_with, stopped_with, writing_commit, pages_changed, pages_held, pages_now}
+use Rattle.lawful_trace.specs.Disks as counts
+use Rattle.stop_laws.specs.of_whole_run_laws.Wrote.{Disk as FoldDisk, slots_after, slots_stopped, halves_booted, writing_adopted, disk_booted, disk_stopped, disk_written, disk_after}
+use Rattle.stop_laws.specs.of_whole_run_laws.Wrote as folds
 use Rattle.lawful_trace.specs.Lawful.{MayCome}
 use Rattle.promises.specs.Past.{Past, Copy, Instance, site_at, held}
 use Rattle.promises.specs.After.{writers_of}
@@ -41,18 +43,22 @@ either : (b : Bool) (x y : Disk) (u v : FoldDisk) → (b ≡ true → x ≡ disk
 either true x y u v e f = e refl
 either false x y u v e f = f
 
+either_rest : (b : Bool) (x y : Disk) (u v : counts.Disk) (slots : Bool) → x ≡ disk_as (record { rest = u; slots = slots }) → y ≡ disk_as (record { rest = v; slots = slots }) → cond b x y ≡ disk_as (record { rest = cond b u v; slots = slots })
+either_rest true x y u v slots e f = e
+either_rest false x y u v slots e f = f
+
 -- ---- lines that arm ----
 
-line_same : (site : ℕ) (l : ScheduleLine) (d : FoldDisk) → armed_by site (disk_as d) l ≡ disk_as (folds.armed_by site l d)
-line_same site (Event (line.ArmStop s calls left)) d = either (s == site) _ _ _ _ (λ e. refl) refl
-line_same site (Event (line.ArmFail s calls)) d = either (s == site) _ _ _ _ (λ e. refl) refl
+line_same : (site : ℕ) (l : ScheduleLine) (d : FoldDisk) → armed_by site (disk_as d) l ≡ disk_as (record d { rest = counts.armed_by site l d.rest })
+line_same site (Event (line.ArmStop s calls left)) d = either_rest (s == site) _ _ _ _ d.slots refl refl
+line_same site (Event (line.ArmFail s calls)) d = either_rest (s == site) _ _ _ _ d.slots refl refl
 line_same site _ d = refl
 
-all_same : (site : ℕ) (ls : List ScheduleLine) (d : FoldDisk) → fold (armed_by site) (disk_as d) ls ≡ disk_as (fold (λ (old : FoldDisk) (l : ScheduleLine). folds.armed_by site l old) d ls)
+all_same : (site : ℕ) (ls : List ScheduleLine) (d : FoldDisk) → fold (armed_by site) (disk_as d) ls ≡ disk_as (record d { rest = fold (λ (old : counts.Disk) (l : ScheduleLine). counts.armed_by site l old) d.rest ls })
 all_same site [] d = refl
-all_same site (l ∷ ls) d = ap (λ (x : Disk). fold (armed_by site) x ls) (line_same site l d) ∙ all_same site ls (folds.armed_by site l d)
+all_same site (l ∷ ls) d = ap (λ (x : Disk). fold (armed_by site) x ls) (line_same site l d) ∙ all_same site ls (record d { rest = counts.armed_by site l d.rest })
 
-pub lines_same : (lines : List ScheduleLine) (site first last : ℕ) (d : FoldDisk) → through_lines lines site first last (disk_as d) ≡ disk_as (folds.through_lines lines site first last d)
+pub lines_same : (lines : List ScheduleLine) (site first last : ℕ) (d : FoldDisk) → through_lines lines site first last (disk_as d) ≡ disk_as (folds.disk_through lines site first last d)
 lines_same lines site first last d = all_same site (take (last - first) (drop first lines)) d
 
 -- ---- how versions are written ----
@@ -73,8 +79,8 @@ older_same : (a : FoldArming) (n : ℕ) (older : Bool) (k : ℕ) → (older && a
 older_same a n true k = both_same a n k
 older_same a n false k = sym (and_false (nat_lt k (n + 4)))
 
-pub written_same : (w : Writing) (v : FoldWriting) → WritesSame w v → (d : FoldDisk) → written (disk_as d) w ≡ disk_as (folds.written v d)
-written_same w v s d = at d.armed
+pub written_same : (w : Writing) (v : FoldWriting) → WritesSame w v → (d : FoldDisk) → written (disk_as d) w ≡ disk_as (disk_written v d)
+written_same w v s d = at d.rest.armed
   where
     over : Disk → Arming → Disk
     over old a = record old { armed = record a { used = a.used + length (calls_of w) } ∷ []; slots = w.older && are_two_open a.leaves false (a.calls - a.used) (calls_of w) }
@@ -85,43 +91,43 @@ written_same w v s d = at d.armed
         ∙ (ap (λ (b : Bool). b && are_two_open (leaves_of a) false k (calls_of (record { blocks = blocks v; older = b }))) s.older
         ∙ older_same a (blocks v) v.older k)
 
-    joined : (a : Armed) (m n : ℕ) (x y : Bool) → m ≡ n → x ≡ y → ◌≡◌ {A = Disk} (record { armed = record { calls = calls_armed a.arming; leaves = leaves_of a.arming; used = m } ∷ []; halves = d.halves; slots = x }) (record { armed = record { calls = calls_armed a.arming; leaves = leaves_of a.arming; used = n } ∷ []; halves = d.halves; slots = y })
-    joined a m n x y e f = λ i. record { armed = record { calls = calls_armed a.arming; leaves = leaves_of a.arming; used = e i } ∷ []; halves = d.halves; slots = f i }
+    joined : (a : Armed) (m n : ℕ) (x y : Bool) → m ≡ n → x ≡ y → ◌≡◌ {A = Disk} (record { armed = record { calls = calls_armed a.arming; leaves = leaves_of a.arming; used = m } ∷ []; halves = d.rest.halves; slots = x }) (record { armed = record { calls = calls_armed a.arming; leaves = leaves_of a.arming; used = n } ∷ []; halves = d.rest.halves; slots = y })
+    joined a m n x y e f = λ i. record { armed = record { calls = calls_armed a.arming; leaves = leaves_of a.arming; used = e i } ∷ []; halves = d.rest.halves; slots = f i }
 
-    at : (o : Option Armed) → fold over (disk_as d) (armed_as o) ≡ disk_as (written_with v d o)
+    at : (o : Option Armed) → fold over (disk_as d) (armed_as o) ≡ disk_as (record { rest = written_with v d.rest o; slots = slots_after v d.slots o })
     at None = refl
     at (Some a) = joined a _ _ _ _ (ap (λ (n : ℕ). a.used + n) (calls_same w v s)) (slots a.arming (calls_armed a.arming - a.used))
 
 -- ---- boots and stops ----
 
-pub booted_same : (d : FoldDisk) → ◌≡◌ {A = Disk} (record { armed = map (λ (a : Arming). record a { used = a.used + length (boot_calls (disk_as d)) }) (armed_as d.armed); halves = false; slots = false }) (disk_as (booted_with d d.armed))
-booted_same d = at d.armed
+pub booted_same : (d : FoldDisk) → ◌≡◌ {A = Disk} (record { armed = map (λ (a : Arming). record a { used = a.used + length (boot_calls (disk_as d)) }) (armed_as d.rest.armed); halves = false; slots = false }) (disk_as (disk_booted d))
+booted_same d = at d.rest.armed
   where
     joined : (a : Armed) (m n : ℕ) → m ≡ n → ◌≡◌ {A = Disk} (record { armed = record { calls = calls_armed a.arming; leaves = leaves_of a.arming; used = m } ∷ []; halves = false; slots = false }) (record { armed = record { calls = calls_armed a.arming; leaves = leaves_of a.arming; used = n } ∷ []; halves = false; slots = false })
     joined a m n e = λ i. record { armed = record { calls = calls_armed a.arming; leaves = leaves_of a.arming; used = e i } ∷ []; halves = false; slots = false }
 
-    at : (o : Option Armed) → ◌≡◌ {A = Disk} (record { armed = map (λ (a : Arming). record a { used = a.used + length (boot_calls (disk_as d)) }) (armed_as o); halves = false; slots = false }) (disk_as (booted_with d o))
+    at : (o : Option Armed) → ◌≡◌ {A = Disk} (record { armed = map (λ (a : Arming). record a { used = a.used + length (boot_calls (disk_as d)) }) (armed_as o); halves = false; slots = false }) (disk_as (record { rest = halves_booted d.slots d.rest o; slots = false }))
     at None = refl
     at (Some a) = joined a _ _ (ap (λ (n : ℕ). a.used + n) (boot_length (disk_as d)))
 
-pub stopped_same : (up : Bool) (d : FoldDisk) → stopped up (disk_as d) ≡ disk_as (stopped_with up d d.armed)
-stopped_same true d = at d.armed
+pub stopped_same : (up : Bool) (d : FoldDisk) → stopped up (disk_as d) ≡ disk_as (disk_stopped up d)
+stopped_same true d = at d.rest.armed
   where
-    at : (o : Option Armed) → ◌≡◌ {A = Disk} (record { armed = []; halves = d.halves; slots = d.slots }) (disk_as (stopped_with true d o))
+    at : (o : Option Armed) → ◌≡◌ {A = Disk} (record { armed = []; halves = d.rest.halves; slots = d.slots }) (disk_as (record { rest = stopped_with true d.rest o; slots = slots_stopped true d.rest d.slots o }))
     at None = refl
     at (Some a) = refl
-stopped_same false d = at d.armed
+stopped_same false d = at d.rest.armed
   where
     over : Disk → Arming → Disk
     over old a = record old {
-      halves = are_two_open a.leaves d.halves (a.calls - a.used) (label_calls (disk_as d));
+      halves = are_two_open a.leaves d.rest.halves (a.calls - a.used) (label_calls (disk_as d));
       slots = are_two_open a.leaves d.slots (a.calls - a.used) (replicate (length (label_calls (disk_as d))) Plain ++ cond d.slots (switch Closes) []);
     }
 
     joined : (h k s t : Bool) → h ≡ k → s ≡ t → ◌≡◌ {A = Disk} (record { armed = []; halves = h; slots = s }) (record { armed = []; halves = k; slots = t })
     joined h k s t e f = λ i. record { armed = []; halves = e i; slots = f i }
 
-    at : (o : Option Armed) → fold over (record { armed = []; halves = d.halves; slots = d.slots }) (armed_as o) ≡ disk_as (stopped_with false d o)
+    at : (o : Option Armed) → fold over (record { armed = []; halves = d.rest.halves; slots = d.slots }) (armed_as o) ≡ disk_as (record { rest = stopped_with false d.rest o; slots = slots_stopped false d.rest d.slots o })
     at None = refl
     at (Some a) = joined _ _ _ _ (halves_same a.arming (disk_as d) (calls_armed a.arming - a.used)) (slots_same a.arming (disk_as d) (calls_armed a.arming - a.used))
 
@@ -186,11 +192,12 @@ commit_same c before p a f site there one y is of by = record {
     blocks_over : ℕ → List ℕ → ℕ
     blocks_over now pages = blocks_of pages (tables_written (pages_held c before f (held_by c before site f)) now pages)
 
-pub adoption_same : (c : Config) (before : Trace) (p : Past) → Agrees c before p → (f : FileId) (site : ℕ) (stamp : Stamp) → is_there p site ≡ true → (v : Copy) → v.file ≡ f → v.stamp ≡ stamp → WritesSame (writing_of p site v) (writing_adoption c before f site stamp)
-adoption_same c before p a f site stamp there v file at = record {
+-- an adoption does, of the pages that it wrote
+pub adoption_same : (pages : List ℕ) (c : Config) (before : Trace) (p : Past) → Agrees c before p → (f : FileId) (site : ℕ) (stamp : Stamp) → is_there p site ≡ true → (v : Copy) → v.file ≡ f → v.stamp ≡ stamp → WritesSame (writing_of pages p site v) (writing_adopted pages c before f site stamp)
+adoption_same pages c before p a f site stamp there v file at = record {
   blocks = ap (λ (n : ℕ). blocks_over (pages_in p v.file (held p site v.file)) n) now
       ∙ (ap (λ (n : ℕ). blocks_over n many) (before_same c before p a site there v.file f file)
-      ∙ sym (blocks_are (pages_from 0 many) (tables_written (pages_held c before f (held_by c before site f)) many (pages_from 0 many))));
+      ∙ sym (blocks_are (among many) (tables_written (pages_held c before f (held_by c before site f)) many (among many))));
   older = held_same c before p a site there v.file f file;
 }
   where
@@ -200,36 +207,39 @@ adoption_same c before p a f site stamp there v file at = record {
     now : pages_in p v.file (Some v.stamp) ≡ many
     now = ap (λ (g : FileId). pages_in p g (Some v.stamp)) file ∙ (ap (λ (s : Stamp). pages_in p f (Some s)) at ∙ held_pages c before p a f (Some stamp))
 
+    among : ℕ → List ℕ
+    among now = filter (has_page pages) (pages_from 0 now)
+
     blocks_over : ℕ → ℕ → ℕ
-    blocks_over old now = length (pages_from 0 now) + length (tables_written old now (pages_from 0 now))
+    blocks_over old now = length (among now) + length (tables_written old now (among now))
 
 -- ---- each record ----
 
 there_of : (c : Config) (before : Trace) (p : Past) → Agrees c before p → (site s : ℕ) → is_of_cluster c s ≡ true → (s == site) ≡ true → is_there p site ≡ true
 there_of c before p a site s ours e = of_cluster_there c p.sites site a.sites.numbers (subst (λ (n : ℕ). is_of_cluster c n ≡ true) (number_eq s site e) ours)
 
-pub disk_step : (c : Config) (before : Trace) (p : Past) → Agrees c before p → (r : Record) → MayCome c before r → speaks_of_sites c r ≡ true → (site : ℕ) (d : FoldDisk) → disk_by r p site (disk_as d) ≡ disk_as (disk_after r c before site d)
-disk_step c before p a (rec.Up s boot) may ours site d = either (s == site) _ _ _ _ (λ e. booted_same d) refl
-disk_step c before p a (rec.Stopped s why) may ours site d = either (s == site) _ _ _ _ stops refl
+pub disk_step : (pages : List ℕ) (c : Config) (before : Trace) (p : Past) → Agrees c before p → (r : Record) → MayCome c before r → speaks_of_sites c r ≡ true → (site : ℕ) (d : FoldDisk) → disk_by pages r p site (disk_as d) ≡ disk_as (disk_after pages r c before site d)
+disk_step pages c before p a (rec.Up s boot) may ours site d = either (s == site) _ _ _ _ (λ e. booted_same d) refl
+disk_step pages c before p a (rec.Stopped s why) may ours site d = either (s == site) _ _ _ _ stops refl
   where
-    stops : (s == site) ≡ true → stopped (site_at p site).up (disk_as d) ≡ disk_as (stopped_with (is_up before site) d d.armed)
+    stops : (s == site) ≡ true → stopped (site_at p site).up (disk_as d) ≡ disk_as (disk_stopped (is_up before site) d)
     stops e = ap (λ (b : Bool). stopped b (disk_as d)) (a.sites.up site (there_of c before p a site s ours e)) ∙ stopped_same (is_up before site) d
-disk_step c before p a (rec.Commit f s stamp parents content) may ours site d = over (committer c before p f s stamp parents content may a)
+disk_step pages c before p a (rec.Commit f s stamp parents content) may ours site d = over (committer c before p f s stamp parents content may a)
   where
     told : (one : Instance) → instance_of one ≡ may.instance → one.grant.file ≡ f → committing c before f s ≡ Some may.instance → (b : Bool) → (s == site) ≡ b
-        → fold written (disk_as d) (map (writing_by p site) (cond b (one ∷ []) [])) ≡ disk_as (cond b (folds.written (writing_commit c before f site) d) d)
+        → fold written (disk_as d) (map (writing_by p site) (cond b (one ∷ []) [])) ≡ disk_as (cond b (disk_written (writing_commit c before f site) d) d)
     told one is of by true e = (let by_site = subst (λ (n : ℕ). committing c before f n ≡ Some may.instance) (number_eq s site e) by in
         written_same (writing_by p site one) (writing_commit c before f site) (commit_same c before p a f site (there_of c before p a site s ours e) one may.instance is of by_site) d)
     told one is of by false e = refl
 
-    over : Committer c before p f s may.instance → fold written (disk_as d) (map (writing_by p site) (filter (λ x. s == site) (writers_of p f s))) ≡ disk_as (cond (s == site) (folds.written (writing_commit c before f site) d) d)
+    over : Committer c before p f s may.instance → fold written (disk_as d) (map (writing_by p site) (filter (λ x. s == site) (writers_of p f s))) ≡ disk_as (cond (s == site) (disk_written (writing_commit c before f site) d) d)
     over k = ap (λ (xs : List Instance). fold written (disk_as d) (map (writing_by p site) (filter (λ x. s == site) xs))) k.only ∙ told k.one k.is k.of k.committing (s == site) refl
-disk_step c before p a (rec.Adopt f s stamp) may ours site d = told (s == site) refl
+disk_step pages c before p a (rec.Adopt f s stamp) may ours site d = told (s == site) refl
   where
     new : Copy
     new = record { file = f; stamp = stamp }
 
-    told : (b : Bool) → (s == site) ≡ b → fold written (disk_as d) (map (writing_of p site) (cond b (new ∷ []) [])) ≡ disk_as (cond b (folds.written (writing_adoption c before f site stamp) d) d)
-    told true e = written_same (writing_of p site new) (writing_adoption c before f site stamp) (adoption_same c before p a f site stamp (there_of c before p a site s ours e) new refl refl) d
+    told : (b : Bool) → (s == site) ≡ b → fold written (disk_as d) (map (writing_of pages p site) (cond b (new ∷ []) [])) ≡ disk_as (cond b (disk_written (writing_adopted pages c before f site stamp) d) d)
+    told true e = written_same (writing_of pages p site new) (writing_adopted pages c before f site stamp) (adoption_same pages c before p a f site stamp (there_of c before p a site s ours e) new refl refl) d
     told false e = refl
-disk_step c before p a _ may ours site d = refl
+disk_step pages c before p a _ may ours site d = refl

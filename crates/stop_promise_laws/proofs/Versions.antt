@@ -34,7 +34,6 @@ use Rattle.past_laws.proofs.MadeKnown.{filter_finds, home_found}
 use Rattle.past_laws.proofs.Names.{both, epoch_turned, serial_own, some_same}
 use Rattle.past_laws.proofs.RowsCalls.{StepCall, step_call}
 use Rattle.stop_laws.specs.Stops.{IsCutAt, IsCommitAsked}
-use Rattle.stop_laws.proofs.Bounds.{one_number}
 use Rattle.stop_promise_laws.specs.Alike.{leaves_of}
 use Rattle.stop_promise_laws.proofs.Gates.{new_same}
 use Rattle.stop_promise_laws.proofs.Disks.{WritesSame, calls_same}
@@ -46,7 +45,7 @@ abbrev pub arming_as : Armed → Arming
 arming_as a = record { calls = calls_armed a.arming; leaves = leaves_of a.arming; used = a.used }
 
 pub inside_same : (a : Armed) (calls passed many : ℕ) → IsCutAt a calls passed → many ≡ calls → nat_le a.used (calls_armed a.arming) && nat_lt (calls_armed a.arming) (a.used + many) ≡ true
-inside_same a calls passed many k e = over a.used (calls_armed a.arming) calls passed many k.inside (one_number a calls passed k) e
+inside_same a calls passed many k e = over a.used (calls_armed a.arming) calls passed many k.inside k.count e
   where
     over : (used armed calls passed many : ℕ) → passed < calls → used + passed ≡ armed → many ≡ calls → nat_le used armed && nat_lt armed (used + many) ≡ true
     over used armed calls passed many h f e = both (nat_le used armed) (nat_lt armed (used + many)) (grind (arith, nat_tests)) (grind (arith, nat_tests))
@@ -55,7 +54,7 @@ stays_same : (a : Armed) (w : Writing) (v : FoldWriting) → WritesSame w v → 
 stays_same a w v s passed k =
     ap (λ (n : ℕ). are_two_open (leaves_of a.arming) false (calls_armed a.arming - a.used) (calls_of (record { blocks = n; older = false }))) s.blocks
     ∙ (new_same a.arming (blocks v) (calls_armed a.arming - a.used)
-    ∙ ap (new_gate (blocks v) (cut_of a.arming)) (rest a.used passed (calls_armed a.arming) (one_number a (calls_of_writing v) passed k)))
+    ∙ ap (new_gate (blocks v) (cut_of a.arming)) (rest a.used passed (calls_armed a.arming) k.count))
   where
     rest : (used passed armed : ℕ) → used + passed ≡ armed → armed - used ≡ passed
     rest used passed armed e = omega (arith, e)

@@ -4,7 +4,8 @@ use Rattle.locus_ids.specs.declared.config.Config.{Config}
 use Rattle.trace_book.specs.declared.entry.Entry.{Entry}
 use Rattle.schedule_lines.specs.declared.line.Leave.{Leave}
 use Rattle.tree_model.specs.Folds.{Trace}
-use Rattle.lawful_trace.specs.Disks.{Arming as FoldArming, Stops, Fails, Armed, Disk as FoldDisk, calls_of}
+use Rattle.lawful_trace.specs.Disks.{Arming as FoldArming, Stops, Fails, Armed, calls_of}
+use Rattle.stop_laws.specs.of_whole_run_laws.Wrote.{Disk as FoldDisk}
 use Rattle.promises.specs.Stops.{Arming, Disk}
 use Rattle.past_laws.specs.Agreement.{Agrees, past}
 use Rattle.past_laws.specs.Along.{ComesSo}
@@ -19,7 +20,7 @@ armed_as None = []
 armed_as (Some a) = record { calls = calls_of a.arming; leaves = leaves_of a.arming; used = a.used } ∷ []
 
 abbrev pub disk_as : FoldDisk → Disk
-disk_as d = record { armed = armed_as d.armed; halves = d.halves; slots = d.slots }
+disk_as d = record { armed = armed_as d.rest.armed; halves = d.rest.halves; slots = d.slots }
 
 -- The record comes as those of every run do, and before it both formulations agree.
 pub record ComesAgreed (c : Config) (before : Trace) (r : Entry) : Type 0 where

@@ -1,3 +1,6 @@
+pub mod Forgotten
+pub mod Remembering
+pub mod Chains
 pub mod Standing
 pub mod Placing
 pub mod Serves

@@ -17,7 +17,7 @@ use Rattle.role_steps.specs.Storage.{StoreRequest, base_of, begins, begun_instan
 use Rattle.role_steps.specs.declared.copies.FileCopy.{FileCopy}
 use Rattle.role_steps.specs.declared.instances.Instance.{Instance}
 use Rattle.store_instances.specs.of_site_packs.Packs.{PacksState, copy_at}
-use Rattle.store_instances.specs.Stores.{Gives, base_by, begun_with, is_make, store_of}
+use Rattle.store_instances.specs.Stores.{Gives, StoreState, base_by, begun_with, is_make, store_of}
 use Rattle.storage_site.specs.Serving.{made_ino, no_inode_packets}
 use Rattle.site_frame.specs.Printed.{printed}
 use Rattle.trace_book.specs.declared.record.Record.{Record}
@@ -92,24 +92,24 @@ instance_is r x head base content h b k =
     let there : base ≡ base_of r.mode x r.base = b ∙ (ap (λ (one : Option ReportedCopy). base_by r.mode (is_some one) r.base) h ∙ has_copy x r.mode r.base) in
     ap (λ (one : Option Stamp). begun_with r r.file one content) there ∙ ap (λ (bytes : List ℕ). begun_with r r.file (base_of r.mode x r.base) bytes) k
 
-module _ (f : Frame) (r : StoreRequest) (xs ys : List Instance) (p : PacksState) (image now : List ℕ) (before after : Outgoing) where
+module _ (f : Frame) (r : StoreRequest) (xs ys : StoreState) (p : PacksState) (image now : List ℕ) (before after : Outgoing) where
   abbrev pub s : Store
   s = store_of xs p image
 
-  begins_so : (i new : Instance) (told : List Told) → printed told ≡ [] → new ≡ i → ys ≡ with_latest instance_key new xs → now ≡ image → after.packets ≡ before.packets ++ opened_packets f new → after.records ≡ before.records → Gives (begins f i told s) (store_of ys p now) before after
+  begins_so : (i new : Instance) (told : List Told) → printed told ≡ [] → new ≡ i → ys ≡ record xs { instances = with_latest instance_key new xs.instances } → now ≡ image → after.packets ≡ before.packets ++ opened_packets f new → after.records ≡ before.records → Gives (begins f i told s) (store_of ys p now) before after
   begins_so i new told none e put seen sent said = record {
-    view = ap (λ (m : List ℕ). store_of ys p m) seen ∙ ap (λ (zs : List Instance). store_of zs p image) (put ∙ ap (λ (j : Instance). with_latest instance_key j xs) e);
+    view = ap (λ (m : List ℕ). store_of ys p m) seen ∙ ap (λ (zs : StoreState). store_of zs p image) (put ∙ ap (λ (j : Instance). record xs { instances = with_latest instance_key j xs.instances }) e);
     packets = sent ∙ ap (λ (j : Instance). before.packets ++ opened_packets f j) e;
     records = said ∙ (nothing_more before.records ∙ ap (λ (rs : List Record). before.records ++ rs) (sym none));
   }
 
   pub copy_opened : (new : Instance) (head : Option ReportedCopy) (base : Option Stamp) (content : List ℕ) → is_make r.mode ≡ false → head ≡ option_map reported (copy_at p image r.file) → base ≡ base_by r.mode (is_some head) r.base → content ≡ content_of (copy_at p image r.file)
-      → new ≡ begun_with r r.file base content → ys ≡ with_latest instance_key new xs → now ≡ image → after.packets ≡ before.packets ++ opened_packets f new → after.records ≡ before.records → Gives (opens f r r.mode s) (store_of ys p now) before after
+      → new ≡ begun_with r r.file base content → ys ≡ record xs { instances = with_latest instance_key new xs.instances } → now ≡ image → after.packets ≡ before.packets ++ opened_packets f new → after.records ≡ before.records → Gives (opens f r r.mode s) (store_of ys p now) before after
   copy_opened new head base content stays h b k e put seen sent said =
       subst (λ (o : Outcome Store). Gives o (store_of ys p now) before after) (opens_copy f r s r.mode stays)
       (begins_so (begun_instance r r.file (copy_at p image r.file)) new (Begins f.me f.epoch r.inst r.file ∷ []) refl (e ∙ instance_is r (copy_at p image r.file) head base content h b k) put seen sent said)
 
-  pub made_opened : (new : Instance) (ino : ℕ) → is_make r.mode ≡ true → Some ino ≡ own_ino s r.file.group f.me → new ≡ begun_with r (record { group = r.file.group; ino = ino }) None [] → ys ≡ with_latest instance_key new xs → now ≡ image
+  pub made_opened : (new : Instance) (ino : ℕ) → is_make r.mode ≡ true → Some ino ≡ own_ino s r.file.group f.me → new ≡ begun_with r (record { group = r.file.group; ino = ino }) None [] → ys ≡ record xs { instances = with_latest instance_key new xs.instances } → now ≡ image
       → after.packets ≡ before.packets ++ opened_packets f new → after.records ≡ before.records → Gives (opens f r r.mode s) (store_of ys p now) before after
   made_opened new ino make own e put seen sent said =
       let file : FileId = record { group = r.file.group; ino = ino } in
@@ -119,15 +119,15 @@ module _ (f : Frame) (r : StoreRequest) (xs ys : List Instance) (p : PacksState)
   pub none_left : is_make r.mode ≡ true → None ≡ own_ino s r.file.group f.me → ys ≡ xs → now ≡ image → after.packets ≡ before.packets ++ no_inode_packets f r → after.records ≡ before.records → Gives (opens f r r.mode s) (store_of ys p now) before after
   none_left make own same seen sent said =
       subst (λ (o : Outcome Store). Gives o (store_of ys p now) before after) (ap (λ (o : Option ℕ). opens_made f r o s) own ∙ opens_make f r s r.mode make)
-      (sends_store (no_inode_packets f r) s (store_of ys p now) before after (ap (λ (m : List ℕ). store_of ys p m) seen ∙ ap (λ (zs : List Instance). store_of zs p image) same) sent said)
+      (sends_store (no_inode_packets f r) s (store_of ys p now) before after (ap (λ (m : List ℕ). store_of ys p m) seen ∙ ap (λ (zs : StoreState). store_of zs p image) same) sent said)
 
-  pub new_opened : row instance_key (serial_key r.inst) xs ≡ None → Gives (opens f r r.mode s) (store_of ys p now) before after → Gives (on_open_ss f r s) (store_of ys p now) before after
+  pub new_opened : row instance_key (serial_key r.inst) xs.instances ≡ None → Gives (opens f r r.mode s) (store_of ys p now) before after → Gives (on_open_ss f r s) (store_of ys p now) before after
   new_opened absent g = subst (λ (o : Option Instance). Gives (on_open_ss_of f r o s) (store_of ys p now) before after) (sym absent) g
 
-  pub again_opened : (i : Instance) → row instance_key (serial_key r.inst) xs ≡ Some i → ys ≡ xs → now ≡ image → after.packets ≡ before.packets ++ cond (is_open i.stage) (opened_packets f i) [] → after.records ≡ before.records → Gives (on_open_ss f r s) (store_of ys p now) before after
+  pub again_opened : (i : Instance) → row instance_key (serial_key r.inst) xs.instances ≡ Some i → ys ≡ xs → now ≡ image → after.packets ≡ before.packets ++ cond (is_open i.stage) (opened_packets f i) [] → after.records ≡ before.records → Gives (on_open_ss f r s) (store_of ys p now) before after
   again_opened i there same seen sent said =
       subst (λ (o : Option Instance). Gives (on_open_ss_of f r o s) (store_of ys p now) before after) (sym there)
-      (sends_store (cond (is_open i.stage) (opened_packets f i) []) s (store_of ys p now) before after (ap (λ (m : List ℕ). store_of ys p m) seen ∙ ap (λ (zs : List Instance). store_of zs p image) same) sent said)
+      (sends_store (cond (is_open i.stage) (opened_packets f i) []) s (store_of ys p now) before after (ap (λ (m : List ℕ). store_of ys p m) seen ∙ ap (λ (zs : StoreState). store_of zs p image) same) sent said)
 
 -- ---- a row of a new key ----
 

@@ -6,11 +6,12 @@ use Rattle.wire_messages.specs.Outboxes.{Outgoing}
 use Rattle.role_steps.specs.Tables.{row, with_latest}
 use Rattle.role_steps.specs.Views.{Store, Outcome, quiet}
 use Rattle.role_steps.specs.Storage.{instance_key, is_open}
+use Rattle.role_steps.specs.declared.copies.Step.{Step}
 use Rattle.role_steps.specs.declared.instances.Instance.{Instance}
 use Rattle.keyed_tables.specs.Places.{place_of}
 use Rattle.keyed_tables.proofs.Placed.{found_latest, put_latest, keys_latest}
 use Rattle.store_instances.specs.of_site_packs.Packs.{PacksState}
-use Rattle.store_instances.specs.Stores.{Gives, IsRow, RowGives, store_of}
+use Rattle.store_instances.specs.Stores.{Gives, IsRow, RowGives, StoreState, store_of, with_made}
 use Rattle.storage_site.specs.Standing.{open_from}
 use Rattle.storage_site.proofs.Standing.{open_ended, open_same, without_place}
 use Rattle.store_instances.proofs.Latest.{nothing_more}
@@ -56,9 +57,12 @@ stand_kept xs standing now p i new false e is stays here kept =
       from_start : (n : ℕ) → n ≡ 0 + n
       from_start n = omega arith
 
--- what is given at the row is given
-pub gives_placed : (o : Outcome Store) (xs ys : List Instance) (new : Instance) (p : PacksState) (image : List ℕ) (before after : Outgoing) → with_latest instance_key new xs ≡ ys → RowGives o xs new p image before after → Gives o (store_of ys p image) before after
-gives_placed o xs ys new p image before after e g = subst (λ (zs : List Instance). Gives o (store_of zs p image) before after) e g
+-- what is given at the row is given, and what it made is remembered
+pub gives_placed : (o : Outcome Store) (r now : StoreState) (ys : List Instance) (made : Option Step) (new : Instance) (p : PacksState) (image : List ℕ) (before after : Outgoing) → with_latest instance_key new r.instances ≡ ys → RowGives o r made new p image before after
+    → now ≡ record { instances = ys; steps = with_made new.file made r.steps } → Gives o (store_of now p image) before after
+gives_placed o r now ys made new p image before after e g is =
+    subst (λ (q : StoreState). Gives o (store_of q p image) before after)
+    (ap (λ (zs : List Instance). record { instances = zs; steps = with_made new.file made r.steps }) e ∙ sym is) g
 
 pub quiet_store : (s : Store) (out : Outgoing) → Gives (quiet s) s out out
 quiet_store s out = record { view = refl; packets = nothing_more out.packets; records = nothing_more out.records }

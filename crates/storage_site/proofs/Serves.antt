@@ -1,11 +1,11 @@
 -- What a copy serves, by what its head says.
-use Rattle.std.proofs.Common.{◌≡◌, ℕ, Bool, true, false, List, [], ◌∷◌, ◌++◌, Option, Some, None, refl, sym, ap, ◌∙◌}
+use Rattle.std.proofs.Common.{◌≡◌, ℕ, Bool, true, false, List, [], ◌∷◌, ◌++◌, length, Option, Some, None, refl, sym, ap, ◌∙◌}
 use Rattle.std.specs.Prelude.{cond}
 use Rattle.std.specs.Option.{option_map}
 use Rattle.locus_ids.specs.declared.ids.FileId.{FileId}
 use Rattle.locus_ids.specs.declared.ids.Stamp.{Stamp}
 use Rattle.commit_graph.specs.Versions.{same_stamp}
-use Rattle.file_content.specs.Pages.{page_of}
+use Rattle.file_content.specs.Pages.{page_of, pages_of}
 use Rattle.trace_book.specs.declared.operation.What.{What}
 use Rattle.wire_messages.specs.declared.packet.Packet.{Packet}
 use Rattle.wire_messages.specs.declared.body.Body.TheVariants as body
@@ -13,7 +13,7 @@ use Rattle.wire_messages.specs.declared.body.LookAnswer.TheVariants as answer
 use Rattle.wire_messages.specs.declared.body.ReportedCopy.{ReportedCopy}
 use Rattle.wire_messages.specs.Outboxes.{Outgoing}
 use Rattle.role_steps.specs.Views.{Frame, Store, sends, packet}
-use Rattle.role_steps.specs.Storage.{content_of, pulled_page, reported, served_content, served_copy}
+use Rattle.role_steps.specs.Storage.{content_of, delta_of, pages_since, pulled_page, reported, served_content, served_copy, steps_of, wanted_delta}
 use Rattle.role_steps.specs.declared.copies.FileCopy.{FileCopy}
 use Rattle.store_instances.specs.Stores.{Gives}
 use Rattle.storage_site.specs.Serving.{has_page_of, head_page}
@@ -61,6 +61,31 @@ module _ (f : Frame) (from : ℕ) (file : FileId) (stamp : Stamp) (page : ℕ) w
   pub pulled_yes : (x : Option FileCopy) → has_page_of stamp page x ≡ true → packet f from (body.Page file stamp page (page_of (content_of x) page)) ∷ [] ≡ pulled_page f from file stamp page x
   pulled_yes None h = absurd cc
   pulled_yes (Some x) h = ap (λ (b : Bool). cond b (one_page x.content) []) (sym h)
+
+-- a delta, by the steps that are remembered
+module _ (f : Frame) (from : ℕ) (file : FileId) (wanted own : Stamp) (s : Store) where
+  abbrev pub written_since : Option (List ℕ)
+  written_since = pages_since own wanted (steps_of file s.steps)
+
+  abbrev pub delta_packet : List ℕ → List Packet
+  delta_packet pages = packet f from (body.Delta file wanted pages) ∷ []
+
+  abbrev delta_if : FileCopy → Bool → List Packet
+  delta_if x b = cond b (delta_packet (delta_of (pages_of (length x.content)) written_since)) []
+
+  pub no_delta : (x : Option FileCopy) → None ≡ option_map reported x → [] ≡ wanted_delta f from file wanted own s x
+  no_delta None e = refl
+  no_delta (Some x) e = absurd cc
+
+  pub other_delta : (x : Option FileCopy) (c : ReportedCopy) → Some c ≡ option_map reported x → same_stamp c.stamp wanted ≡ false → [] ≡ wanted_delta f from file wanted own s x
+  other_delta None c e h = absurd cc
+  other_delta (Some x) c e h = ap (delta_if x) (sym (ap (λ (one : ReportedCopy). same_stamp one.stamp wanted) (sym (head_is c x e)) ∙ h))
+
+  pub this_delta : (x : Option FileCopy) (c : ReportedCopy) → Some c ≡ option_map reported x → same_stamp c.stamp wanted ≡ true → delta_packet (delta_of (pages_of c.size) written_since) ≡ wanted_delta f from file wanted own s x
+  this_delta None c e h = absurd cc
+  this_delta (Some x) c e h =
+      ap (λ (one : ReportedCopy). delta_packet (delta_of (pages_of one.size) written_since)) (head_is c x e)
+      ∙ ap (delta_if x) (sym (ap (λ (one : ReportedCopy). same_stamp one.stamp wanted) (sym (head_is c x e)) ∙ h))
 
 -- a store that only sends
 pub sends_store : (ps : List Packet) (s now : Store) (before after : Outgoing) → now ≡ s → after.packets ≡ before.packets ++ ps → after.records ≡ before.records → Gives (sends ps s) now before after

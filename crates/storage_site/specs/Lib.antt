@@ -1,3 +1,4 @@
+pub mod Wanting
 pub mod Serving
 pub mod Standing
 pub mod Fitting

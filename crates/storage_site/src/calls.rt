@@ -50,7 +50,9 @@ impl Store {
             Some(place) => {
                 let free = self.free_at(packs, place);
                 let row = &mut self.rows[place];
-                row.on_op(frame, packs, disk, n, op, seen, mending, free, out)?;
+                let made = row.on_op(frame, packs, disk, n, op, seen, mending, free, out)?;
+                let file = row.file();
+                self.remember(file, made)?;
                 Ok(())
             }
         }
@@ -76,7 +78,9 @@ impl Store {
             None => Ok(()),
             Some(place) => {
                 let row = &mut self.rows[place];
-                row.on_close(frame, packs, disk, out)?;
+                let made = row.on_close(frame, packs, disk, out)?;
+                let file = row.file();
+                self.remember(file, made)?;
                 Ok(())
             }
         }
@@ -90,7 +94,7 @@ impl Store {
         out: &mut Outbox,
     ) -> Result<(), NoMemory>
         ensures gives { OnOk result ((p : PacksState) (image : List ℕ) → Gives (on_closed_ok frame.now inst (store_of self.old p image)) (store_of self.new p image) out.old out.new) }
-        ensures count { OnOk result (length self.new ≡ length self.old) }
+        ensures count { OnOk result (length self.new.instances ≡ length self.old.instances) }
     {
         match self.index.place(serial_key(inst)) {
             None => Ok(()),
@@ -105,9 +109,9 @@ impl Store {
     }
 
     /// The free pages of the group of an instance's file.
-    fn free_at(&self, packs: &SitePacks, place: usize) -> u16
-        requires { place < length self.now }
-        ensures { (image : List ℕ) (i : Instance) → AreShown packs.now.packs image → i ≡ slice_index_or self.now place i → result ≡ free_pages (store_of self.now packs.now image) i.file.group }
+    pub(crate) fn free_at(&self, packs: &SitePacks, place: usize) -> u16
+        requires { place < length self.now.instances }
+        ensures { (image : List ℕ) (i : Instance) → AreShown packs.now.packs image → i ≡ slice_index_or self.now.instances place i → result ≡ free_pages (store_of self.now packs.now image) i.file.group }
     {
         let group = self.rows[place].file().group;
         self.free_pages(packs, group)

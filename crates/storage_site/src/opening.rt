@@ -63,7 +63,7 @@ impl Store {
         out: &mut Outbox,
     ) -> Result<(), StoreFault>
         requires stands { Stand packs.now (D.moment disk.old) }
-        requires absent { row instance_key (serial_key asked.inst) self.old ≡ None }
+        requires absent { row instance_key (serial_key asked.inst) self.old.instances ≡ None }
         ensures gives { OnOk result (Gives (opens frame.now asked asked.mode (store_of self.old packs.now (D.moment disk.old).seen)) (store_of self.new packs.now (D.moment disk.new).seen) out.old out.new) }
         ensures stands { Stand packs.now (D.moment disk.new) }
         ensures disk { Reads (D.moment disk.old) (D.moment disk.new) result }
@@ -90,7 +90,7 @@ impl Store {
     ) -> Result<(), StoreFault>
         requires stands { Stand packs.now (D.moment disk.old) }
         requires own { us ≡ asked.inst.us }
-        requires absent { row instance_key (serial_key asked.inst) self.old ≡ None }
+        requires absent { row instance_key (serial_key asked.inst) self.old.instances ≡ None }
         requires stays { is_make asked.mode ≡ false }
         ensures gives { OnOk result (Gives (opens frame.now asked asked.mode (store_of self.old packs.now (D.moment disk.old).seen)) (store_of self.new packs.now (D.moment disk.new).seen) out.old out.new) }
         ensures stands { Stand packs.now (D.moment disk.new) }
@@ -121,7 +121,7 @@ impl Store {
     ) -> Result<(), StoreFault>
         requires stands { Stand packs.now (D.moment disk.old) }
         requires own { us ≡ asked.inst.us }
-        requires absent { row instance_key (serial_key asked.inst) self.old ≡ None }
+        requires absent { row instance_key (serial_key asked.inst) self.old.instances ≡ None }
         requires made { is_make asked.mode ≡ true }
         ensures gives { OnOk result (Gives (opens frame.now asked asked.mode (store_of self.old packs.now (D.moment disk.old).seen)) (store_of self.new packs.now (D.moment disk.new).seen) out.old out.new) }
         ensures stands { Stand packs.now (D.moment disk.new) }
@@ -151,7 +151,7 @@ impl Store {
 
     /// The inodes that open instances of the group make.
     fn making(&self, group: u8) -> Result<ItemList<u16>, NoMemory>
-        ensures { IfOk result (λ making. making ≡ flat_map (made_ino group) self.now) }
+        ensures { IfOk result (λ making. making ≡ flat_map (made_ino group) self.now.instances) }
     {
         let alloc = *self.rows.allocator();
         let making = making_at(alloc, self.rows.as_slice(), self.standing.as_slice(), group)?;
@@ -165,9 +165,9 @@ impl Store {
         new: StoreInstance,
         out: &mut Outbox,
     ) -> Result<(), NoMemory>
-        requires absent { row instance_key (instance_key new) self.old ≡ None }
+        requires absent { row instance_key (instance_key new) self.old.instances ≡ None }
         requires stands { is_open new.stage ≡ true }
-        ensures row { OnOk result (self.new ≡ with_latest instance_key new self.old) }
+        ensures row { OnOk result (self.new ≡ record self.old { instances = with_latest instance_key new self.old.instances }) }
         ensures packets { OnOk result (out.new.packets ≡ out.old.packets ++ opened_packets frame.now new) }
         ensures records { OnOk result (out.new.records ≡ out.old.records) }
     {

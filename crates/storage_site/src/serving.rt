@@ -128,7 +128,7 @@ fn has_page(copy: Option<ReportedCopy>, stamp: Stamp, page: u8) -> bool
 }
 
 /// Two stamps name one version of a file.
-fn same_stamp(a: Stamp, b: Stamp) -> bool
+pub(crate) fn same_stamp(a: Stamp, b: Stamp) -> bool
     ensures { result ≡ same_stamp a b }
 {
     a.site == b.site && a.n == b.n

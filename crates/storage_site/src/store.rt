@@ -3,23 +3,26 @@ ghost use Rattle.std.specs.List.{list_any};
 ghost use Rattle.role_steps.specs.Tables.{row, total, with_latest};
 ghost use Rattle.role_steps.specs.Storage.{free_pages, instance_key, is_open, is_open_of};
 ghost use Rattle.store_instances.specs.of_site_packs.Packs.{AreShown};
-ghost use Rattle.store_instances.specs.Stores.{store_of};
+ghost use Rattle.store_instances.specs.Stores.{store_of, with_made};
 ghost use Rattle.storage_site.specs.Standing.{changed_by, is_of};
 
+use crate::steps::StepTable;
 use keyed_tables::{KeyIndex, serial_key};
 use locus_ids::{FileId, NoMemory};
+use role_steps::Step;
 use std::alloc::Global;
 use std::marker::Model;
 use store_instances::StoreInstance;
 use store_instances::site_packs::SitePacks;
 
-/// The instances of the storage role of a site in its epoch, in the order in which they were opened. Contracts see their
-/// list; the copies are the packs'.
+/// What the storage role of a site has in memory in its epoch: its instances, in the order in which they were opened, and the last
+/// commits and adoptions of each file. Contracts see both; the copies are the packs'.
 pub struct Store {
     pub(crate) rows: Vec<StoreInstance>,
     pub(crate) index: KeyIndex,
     /// The places of the open ones, ascending.
     pub(crate) standing: Vec<usize>,
+    pub(crate) steps: StepTable,
 }
 
 impl Drop for Store {
@@ -29,47 +32,50 @@ impl Drop for Store {
             rows: _,
             index: _,
             standing: _,
+            steps: _,
         } = self;
     }
 }
 
 impl Model for Store {
-    ghost use Rattle.std.specs.Prelude.{◌≡◌, List, map};
-    ghost use Rattle.role_steps.specs.declared.instances.Instance.{Instance};
+    ghost use Rattle.std.specs.Prelude.{◌≡◌, map};
     ghost use Rattle.role_steps.specs.Storage.{instance_key};
+    ghost use Rattle.store_instances.specs.Stores.{StoreState};
     ghost use Rattle.storage_site.specs.Standing.{open_from};
 
-    ghost Value = { List Instance };
+    ghost Value = { StoreState };
 
-    ghost view = { λ s. s.rows.items };
+    ghost view = { λ s. record { instances = s.rows.items; steps = s.steps } };
 
     ghost invariant = { λ s. (s.index ≡ map instance_key s.rows.items) × (s.standing.items ≡ open_from 0 s.rows.items) };
 }
 
 impl Store {
-    /// No instances. What the store takes later comes from this allocator.
+    /// No instances, and nothing is remembered. What the store takes later comes from this allocator.
     pub fn new(alloc: Global) -> Store
-        ensures { result ≡ [] }
+        ensures { result ≡ record { instances = []; steps = [] } }
     {
         Store {
             rows: Vec::new(alloc),
             index: KeyIndex::new(alloc),
             standing: Vec::new(alloc),
+            steps: StepTable::new(alloc),
         }
     }
 
-    /// The site leaves its epoch: all instances are dropped.
+    /// The site leaves its epoch: all instances are dropped, and all steps forgotten.
     pub fn leave(&mut self)
-        ensures { self.new ≡ [] }
+        ensures { self.new ≡ record { instances = []; steps = [] } }
     {
         self.index = KeyIndex::new(*self.rows.allocator());
         self.rows.clear();
         self.standing.clear();
+        self.steps.clear();
     }
 
     /// The file has an open instance here.
     pub fn has_open(&self, file: FileId) -> bool
-        ensures { result ≡ list_any (is_open_of file) self.now }
+        ensures { result ≡ list_any (is_open_of file) self.now.instances }
     {
         any_of(self.rows.as_slice(), self.standing.as_slice(), file)
     }
@@ -82,11 +88,24 @@ impl Store {
         less_changed(self.rows.as_slice(), self.standing.as_slice(), free, group)
     }
 
+    /// What a call made of a file, if anything, is remembered.
+    pub(crate) fn remember(&mut self, file: FileId, made: Option<Step>) -> Result<(), NoMemory>
+        ensures { OnOk result (self.new ≡ record self.old { steps = with_made file made self.old.steps }) }
+    {
+        match made {
+            Some(step) => {
+                self.steps.remember(file, step)?;
+                Ok(())
+            }
+            None => Ok(()),
+        }
+    }
+
     /// An open instance of a new name, after all others. After `NoMemory` the store is as it was.
     pub(crate) fn push(&mut self, new: StoreInstance) -> Result<(), NoMemory>
-        requires absent { row instance_key (instance_key new) self.old ≡ None }
+        requires absent { row instance_key (instance_key new) self.old.instances ≡ None }
         requires stands { is_open new.stage ≡ true }
-        ensures { OnOk result (self.new ≡ with_latest instance_key new self.old) }
+        ensures { OnOk result (self.new ≡ record self.old { instances = with_latest instance_key new self.old.instances }) }
     {
         let place = next_place(self.rows.as_slice());
         self.standing.push(place)?;

@@ -24,7 +24,7 @@ use wire_messages::{Body, Outbox};
 impl Store {
     /// The group of the file of an instance; `None` exactly where there is no instance of this name.
     pub fn instance_group(&self, inst: Serial) -> Option<u8>
-        ensures { result ≡ option_map (λ (i : Instance). i.file.group) (row instance_key (serial_key inst) self.now) }
+        ensures { result ≡ option_map (λ (i : Instance). i.file.group) (row instance_key (serial_key inst) self.now.instances) }
     {
         match self.find(inst) {
             Some(row) => Some(row.file().group),
@@ -34,7 +34,7 @@ impl Store {
 
     /// The instance of this name.
     pub(crate) fn find(&self, inst: Serial) -> Option<&StoreInstance>
-        ensures { option_copied result ≡ row instance_key (serial_key inst) self.now }
+        ensures { option_copied result ≡ row instance_key (serial_key inst) self.now.instances }
     {
         match self.index.place(serial_key(inst)) {
             Some(place) => Some(&self.rows[place]),

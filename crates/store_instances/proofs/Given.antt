@@ -12,6 +12,7 @@ use Rattle.trace_book.specs.declared.operation.Outcome.{Outcome as Result}
 use Rattle.trace_book.specs.declared.operation.Outcome.TheVariants as result
 use Rattle.trace_book.specs.declared.record.Record.{Record}
 use Rattle.trace_book.specs.declared.record.Record.TheVariants as says
+use Rattle.file_content.specs.Pages.{ascending}
 use Rattle.file_effects.specs.Effects.{Effect}
 use Rattle.file_effects.specs.Works.{counted}
 use Rattle.file_effects.specs.declared.work.Work.{Work}
@@ -23,40 +24,41 @@ use Rattle.wire_messages.specs.declared.body.OpenedAs.TheVariants as opened
 use Rattle.wire_messages.specs.declared.body.MadeVersion.{MadeVersion}
 use Rattle.wire_messages.specs.Outboxes.{Outgoing}
 use Rattle.role_steps.specs.Tables.{row, with_row, with_latest}
-use Rattle.role_steps.specs.Views.{Frame, Store, Outcome, quiet, sends, joined_to, to_sync, file_key}
-use Rattle.role_steps.specs.Storage.{copy_key, copy_made, instance_key, instance_of, with_instance, is_spent, commits, next_stamp, next_vector, instance_committed, commit_record, closed_packets, made_version, opened_packets, shut, shuts, shuts_again, closes, on_close_at}
+use Rattle.role_steps.specs.Views.{FileSteps, Frame, Store, Outcome, quiet, sends, joined_to, to_sync, file_key}
+use Rattle.role_steps.specs.Storage.{copy_key, copy_made, step_to, with_step, instance_key, instance_of, with_instance, is_spent, commits, next_stamp, next_vector, instance_committed, commit_record, closed_packets, made_version, opened_packets, shut, shuts, shuts_again, closes, on_close_at}
 use Rattle.role_steps.specs.Operations.{acts, acts_committed, by_number, commit_op, last_committed, executes, executes_effect, on_op_at, op_again, op_done}
 use Rattle.role_steps.specs.OperationEffects.{Mending, effect_of}
 use Rattle.role_steps.specs.declared.copies.FileCopy.{FileCopy}
+use Rattle.role_steps.specs.declared.copies.Step.{Step}
 use Rattle.role_steps.specs.declared.instances.Instance.{Instance}
 use Rattle.role_steps.specs.declared.instances.Stage.{Stage}
 use Rattle.role_steps.specs.declared.instances.Stage.TheVariants as stage
 use Rattle.operation_effects.specs.Settling.{Worked, worked, worked_so}
 use Rattle.site_packs.specs.Packs.{PacksState, groups_of, copy_at}
 use Rattle.site_packs.specs.Copies.{copies_on}
-use Rattle.store_instances.specs.Stores.{IsRow, RowGives, again_packets, commits_and_acts, commits_and_shuts, is_running, store_of}
+use Rattle.store_instances.specs.Stores.{IsRow, RowGives, StoreState, again_packets, commits_and_acts, commits_and_shuts, is_running, store_of, with_row_made}
 use Rattle.store_instances.proofs.Latest.{nothing_more, in_turn, latest_row, latest_same, latest_twice}
 
-module _ (xs : List Instance) (p : PacksState) (image : List ℕ) where
+module _ (r : StoreState) (p : PacksState) (image : List ℕ) where
   abbrev pub s : Store
-  s = store_of xs p image
+  s = store_of r p image
 
-  same_store : (i new : Instance) → IsRow i xs → new ≡ i → store_of (with_latest instance_key new xs) p image ≡ s
-  same_store i new h e = ap (λ (ys : List Instance). store_of ys p image) (ap (λ (j : Instance). with_latest instance_key j xs) e ∙ latest_same instance_key i xs h)
+  same_store : (i new : Instance) → IsRow i r.instances → new ≡ i → store_of (with_row_made r None new) p image ≡ s
+  same_store i new h e = ap (λ (ys : List Instance). store_of (record r { instances = ys }) p image) (ap (λ (j : Instance). with_latest instance_key j r.instances) e ∙ latest_same instance_key i r.instances h)
 
-  pub quiet_so : (i new : Instance) (before after : Outgoing) → IsRow i xs → new ≡ i → after ≡ before → RowGives (quiet s) xs new p image before after
+  pub quiet_so : (i new : Instance) (before after : Outgoing) → IsRow i r.instances → new ≡ i → after ≡ before → RowGives (quiet s) r None new p image before after
   quiet_so i new before after h e o = record {
     view = same_store i new h e;
     packets = ap (λ (x : Outgoing). x.packets) o ∙ nothing_more before.packets;
     records = ap (λ (x : Outgoing). x.records) o ∙ nothing_more before.records;
   }
 
-  pub sends_so : (ps : List Packet) (i new : Instance) (before after : Outgoing) → IsRow i xs → new ≡ i → after.packets ≡ before.packets ++ ps → after.records ≡ before.records → RowGives (sends ps s) xs new p image before after
+  pub sends_so : (ps : List Packet) (i new : Instance) (before after : Outgoing) → IsRow i r.instances → new ≡ i → after.packets ≡ before.packets ++ ps → after.records ≡ before.records → RowGives (sends ps s) r None new p image before after
   sends_so ps i new before after h e sent told = record { view = same_store i new h e; packets = sent; records = told ∙ nothing_more before.records }
 
-  pub acts_so : (f : Frame) (i : Instance) (o : Op) (r : Result) (w : Work) (new : Instance) (before after : Outgoing) → new ≡ record i { work = w; answered = Some r }
-      → after.packets ≡ before.packets ++ op_done f i w.ops r → after.records ≡ before.records ++ says.Act f.epoch i.inst w.ops o r ∷ [] → RowGives (acts f i o r w s) xs new p image before after
-  acts_so f i o r w new before after e sent told = record { view = ap (λ (j : Instance). store_of (with_latest instance_key j xs) p image) e; packets = sent; records = told }
+  pub acts_so : (f : Frame) (i : Instance) (o : Op) (gave : Result) (w : Work) (new : Instance) (before after : Outgoing) → new ≡ record i { work = w; answered = Some gave }
+      → after.packets ≡ before.packets ++ op_done f i w.ops gave → after.records ≡ before.records ++ says.Act f.epoch i.inst w.ops o gave ∷ [] → RowGives (acts f i o gave w s) r None new p image before after
+  acts_so f i o gave w new before after e sent told = record { view = ap (λ (j : Instance). store_of (with_row_made r None j) p image) e; packets = sent; records = told }
 
   gave_none : (e : Option Effect) (free : ℕ) (w new : Work) → worked_so None new ≡ worked free w e → (e ≡ None) × (new ≡ w)
   gave_none None free w new h = (refl, ap (λ (x : Worked). x.work) h)
@@ -64,19 +66,19 @@ module _ (xs : List Instance) (p : PacksState) (image : List ℕ) where
     no_some : {r : Result} → ◌≡◌ {A = Option Result} None (Some r) → ⊥
     no_some k = cc
 
-  pub executes_none : (f : Frame) (i : Instance) (o : Op) (e : Option Effect) (free : ℕ) (w : Work) (new : Instance) (before after : Outgoing) → worked_so None w ≡ worked free i.work e → IsRow i xs
-      → new ≡ record i { work = w } → after ≡ before → RowGives (executes_effect f i o e s) xs new p image before after
+  pub executes_none : (f : Frame) (i : Instance) (o : Op) (e : Option Effect) (free : ℕ) (w : Work) (new : Instance) (before after : Outgoing) → worked_so None w ≡ worked free i.work e → IsRow i r.instances
+      → new ≡ record i { work = w } → after ≡ before → RowGives (executes_effect f i o e s) r None new p image before after
   executes_none f i o e free w new before after h is n same =
       let two = gave_none e free i.work w h in
-      subst (λ (eff : Option Effect). RowGives (executes_effect f i o eff s) xs new p image before after) (sym two.0)
+      subst (λ (eff : Option Effect). RowGives (executes_effect f i o eff s) r None new p image before after) (sym two.0)
       (quiet_so i new before after is (n ∙ ap (λ (v : Work). record i { work = v }) two.1) same)
 
 -- ---- commits ----
 
-abbrev stored : List FileCopy → List Instance → Store
-stored cs ys = record { copies = cs; instances = ys }
+abbrev stored : List FileCopy → List Instance → List FileSteps → Store
+stored cs ys ss = record { copies = cs; instances = ys; steps = ss }
 
-module _ (f : Frame) (i : Instance) (xs : List Instance) (p q : PacksState) (image later : List ℕ) (new : Instance) (before after : Outgoing) where
+module _ (f : Frame) (i : Instance) (r : StoreState) (p q : PacksState) (image later : List ℕ) (new : Instance) (before after : Outgoing) where
   abbrev rises : List ℕ
   rises = next_vector f i
 
@@ -89,19 +91,25 @@ module _ (f : Frame) (i : Instance) (xs : List Instance) (p q : PacksState) (ima
   abbrev copied : List FileCopy
   copied = with_row copy_key (copy_made i rises stamp) (copies_on (groups_of p) image)
 
+  -- the step to it
+  abbrev step : Step
+  step = step_to (copy_made i rises stamp) (ascending i.work.changed) (copy_at p image i.file)
+
   abbrev now : Store
-  now = stored copied (with_latest instance_key made xs)
+  now = stored copied (with_latest instance_key made r.instances) (with_step i.file step r.steps)
 
   -- the instance is found again
   found : instance_of now i.inst ≡ Some made
-  found = latest_row instance_key made xs
+  found = latest_row instance_key made r.instances
 
   -- the store with the instance as it is in the end
-  stores : (end : Instance) → copies_on (groups_of q) later ≡ copied → instance_key made ≡ instance_key end → new ≡ end
-      → store_of (with_latest instance_key new xs) q later ≡ with_instance end now
-  stores end copies key is =
-      ap (λ (cs : List FileCopy). stored cs (with_latest instance_key new xs)) copies
-      ∙ ap (λ (ys : List Instance). stored copied ys) (ap (λ (j : Instance). with_latest instance_key j xs) is ∙ sym (latest_twice instance_key made end xs key))
+  stores : (end : Instance) → copies_on (groups_of q) later ≡ copied → instance_key made ≡ instance_key end → end.file ≡ i.file → new ≡ end
+      → store_of (with_row_made r (Some step) new) q later ≡ with_instance end now
+  stores end copies key file is =
+      ap (λ (cs : List FileCopy). stored cs (with_latest instance_key new r.instances) (with_step new.file step r.steps)) copies
+      ∙ ap (λ (j : Instance). stored copied (with_latest instance_key j r.instances) (with_step j.file step r.steps)) is
+      ∙ ap (λ (x : FileId). stored copied (with_latest instance_key end r.instances) (with_step x step r.steps)) file
+      ∙ ap (λ (ys : List Instance). stored copied ys (with_step i.file step r.steps)) (sym (latest_twice instance_key made end r.instances key))
 
   abbrev acted : Instance
   acted = record made { work = counted made.work; answered = Some (result.Committed stamp) }
@@ -110,10 +118,10 @@ module _ (f : Frame) (i : Instance) (xs : List Instance) (p q : PacksState) (ima
   pub committed_so : copies_on (groups_of q) later ≡ copied → new ≡ acted
       → after.packets ≡ before.packets ++ op_done f i (counted made.work).ops (result.Committed stamp)
       → after.records ≡ before.records ++ (commit_record f i stamp ∷ says.Act f.epoch i.inst (counted made.work).ops op.Commit (result.Committed stamp) ∷ [])
-      → RowGives (commits_and_acts f i (store_of xs p image)) xs new q later before after
+      → RowGives (commits_and_acts f i (store_of r p image)) r (Some step) new q later before after
   committed_so copies is sent told =
-      subst (λ (row : Option Instance). RowGives (joined_to (commits f i (store_of xs p image)) (acts_committed f stamp row now)) xs new q later before after) (sym found)
-      (record { view = stores acted copies refl is; packets = sent; records = told })
+      subst (λ (row : Option Instance). RowGives (joined_to (commits f i (store_of r p image)) (acts_committed f stamp row now)) r (Some step) new q later before after) (sym found)
+      (record { view = stores acted copies refl refl is; packets = sent; records = told })
 
   abbrev version : Option MadeVersion
   version = made_version made (row copy_key (file_key i.file) copied) made.work.committed
@@ -121,16 +129,20 @@ module _ (f : Frame) (i : Instance) (xs : List Instance) (p q : PacksState) (ima
   -- a close that commits what is owed
   pub closed_so : copies_on (groups_of q) later ≡ copied → new ≡ shut made version (closing.Made stamp)
       → after.packets ≡ before.packets ++ closed_packets f made version → after.records ≡ before.records ++ commit_record f i stamp ∷ []
-      → RowGives (commits_and_shuts f i (store_of xs p image)) xs new q later before after
+      → RowGives (commits_and_shuts f i (store_of r p image)) r (Some step) new q later before after
   closed_so copies is sent told =
-      subst (λ (row : Option Instance). RowGives (joined_to (commits f i (store_of xs p image)) (shuts_again f (closing.Made stamp) row now)) xs new q later before after) (sym found)
-      (record { view = stores (shut made version (closing.Made stamp)) copies refl is; packets = sent; records = told })
+      subst (λ (row : Option Instance). RowGives (joined_to (commits f i (store_of r p image)) (shuts_again f (closing.Made stamp) row now)) r (Some step) new q later before after) (sym found)
+      (record { view = stores (shut made version (closing.Made stamp)) copies refl refl is; packets = sent; records = told })
 
-  module _ (vec : List ℕ) (mark : Stamp) (left : Instance) (middle : Outgoing) (v : vec ≡ next_vector f i) (m : mark ≡ next_stamp f vec) (l : left ≡ instance_committed i vec (next_stamp f vec))
+  module _ (vec : List ℕ) (mark : Stamp) (given : Step) (left : Instance) (middle : Outgoing) (v : vec ≡ next_vector f i) (m : mark ≡ next_stamp f vec)
+      (g : given ≡ step_to (copy_made i vec (next_stamp f vec)) (ascending i.work.changed) (copy_at p image i.file)) (l : left ≡ instance_committed i vec (next_stamp f vec))
       (copies : copies_on (groups_of q) later ≡ with_row copy_key (copy_made i vec (next_stamp f vec)) (copies_on (groups_of p) image))
       (packets : middle.packets ≡ before.packets) (records : middle.records ≡ before.records ++ commit_record f i (next_stamp f vec) ∷ []) where
     is_stamp : mark ≡ stamp
     is_stamp = m ∙ ap (next_stamp f) v
+
+    is_step : given ≡ step
+    is_step = g ∙ ap (λ (w : List ℕ). step_to (copy_made i w (next_stamp f w)) (ascending i.work.changed) (copy_at p image i.file)) v
 
     is_made : left ≡ made
     is_made = l ∙ ap (λ (w : List ℕ). instance_committed i w (next_stamp f w)) v
@@ -144,9 +156,10 @@ module _ (f : Frame) (i : Instance) (xs : List Instance) (p q : PacksState) (ima
     pub owed_so : new ≡ record left { work = counted left.work; answered = Some (result.Committed mark) }
         → after.packets ≡ middle.packets ++ op_done f left (counted left.work).ops (result.Committed mark)
         → after.records ≡ middle.records ++ says.Act f.epoch left.inst (counted left.work).ops op.Commit (result.Committed mark) ∷ []
-        → RowGives (commits_and_acts f i (store_of xs p image)) xs new q later before after
+        → RowGives (commits_and_acts f i (store_of r p image)) r (Some given) new q later before after
     owed_so n sent told =
-        committed_so are_copied
+        subst (λ (t : Step). RowGives (commits_and_acts f i (store_of r p image)) r (Some t) new q later before after) (sym is_step)
+        (committed_so are_copied
         (n ∙ ap (λ (j : Instance). record j { work = counted j.work; answered = Some (result.Committed mark) }) is_made ∙ ap (λ (t : Stamp). record made { work = counted made.work; answered = Some (result.Committed t) }) is_stamp)
         (sent ∙ ap (λ (ps : List Packet). ps ++ op_done f left (counted left.work).ops (result.Committed mark)) packets
         ∙ ap (λ (j : Instance). before.packets ++ op_done f j (counted j.work).ops (result.Committed mark)) is_made
@@ -154,7 +167,7 @@ module _ (f : Frame) (i : Instance) (xs : List Instance) (p q : PacksState) (ima
         (told ∙ ap (λ (rs : List Record). rs ++ says.Act f.epoch left.inst (counted left.work).ops op.Commit (result.Committed mark) ∷ []) are_told
         ∙ ap (λ (j : Instance). (before.records ++ commit_record f i stamp ∷ []) ++ says.Act f.epoch j.inst (counted j.work).ops op.Commit (result.Committed mark) ∷ []) is_made
         ∙ ap (λ (t : Stamp). (before.records ++ commit_record f i stamp ∷ []) ++ says.Act f.epoch made.inst (counted made.work).ops op.Commit (result.Committed t) ∷ []) is_stamp
-        ∙ in_turn before.records (commit_record f i stamp) (says.Act f.epoch made.inst (counted made.work).ops op.Commit (result.Committed stamp)))
+        ∙ in_turn before.records (commit_record f i stamp) (says.Act f.epoch made.inst (counted made.work).ops op.Commit (result.Committed stamp))))
 
     is_version : made_version left (copy_at q later left.file) left.work.committed ≡ version
     is_version =
@@ -163,21 +176,22 @@ module _ (f : Frame) (i : Instance) (xs : List Instance) (p q : PacksState) (ima
 
     pub owed_closed_so : new ≡ shut left (made_version left (copy_at q later left.file) left.work.committed) (closing.Made mark)
         → after.packets ≡ middle.packets ++ closed_packets f left (made_version left (copy_at q later left.file) left.work.committed)
-        → after.records ≡ middle.records → RowGives (commits_and_shuts f i (store_of xs p image)) xs new q later before after
+        → after.records ≡ middle.records → RowGives (commits_and_shuts f i (store_of r p image)) r (Some given) new q later before after
     owed_closed_so n sent told =
-        closed_so are_copied
+        subst (λ (t : Step). RowGives (commits_and_shuts f i (store_of r p image)) r (Some t) new q later before after) (sym is_step)
+        (closed_so are_copied
         (n ∙ ap (λ (u : Option MadeVersion). shut left u (closing.Made mark)) is_version ∙ ap (λ (j : Instance). shut j version (closing.Made mark)) is_made ∙ ap (λ (t : Stamp). shut made version (closing.Made t)) is_stamp)
         (sent ∙ ap (λ (ps : List Packet). ps ++ closed_packets f left (made_version left (copy_at q later left.file) left.work.committed)) packets
         ∙ ap (λ (u : Option MadeVersion). before.packets ++ closed_packets f left u) is_version ∙ ap (λ (j : Instance). before.packets ++ closed_packets f j version) is_made)
-        (told ∙ are_told)
+        (told ∙ are_told))
 
 -- a close that commits nothing
-pub shut_so : (f : Frame) (i : Instance) (a : CloseAnswer) (xs : List Instance) (p : PacksState) (image : List ℕ) (new : Instance) (before after : Outgoing)
+pub shut_so : (f : Frame) (i : Instance) (a : CloseAnswer) (r : StoreState) (p : PacksState) (image : List ℕ) (new : Instance) (before after : Outgoing)
     → new ≡ shut i (made_version i (copy_at p image i.file) i.work.committed) a
     → after.packets ≡ before.packets ++ closed_packets f i (made_version i (copy_at p image i.file) i.work.committed)
-    → after.records ≡ before.records → RowGives (shuts f i a (store_of xs p image)) xs new p image before after
-shut_so f i a xs p image new before after is sent told = record {
-  view = ap (λ (j : Instance). store_of (with_latest instance_key j xs) p image) is;
+    → after.records ≡ before.records → RowGives (shuts f i a (store_of r p image)) r None new p image before after
+shut_so f i a r p image new before after is sent told = record {
+  view = ap (λ (j : Instance). store_of (with_row_made r None j) p image) is;
   packets = sent;
   records = told ∙ nothing_more before.records;
 }

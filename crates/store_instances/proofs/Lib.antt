@@ -3,3 +3,6 @@ pub mod Given
 pub mod Stays
 pub mod Fits
 pub mod Counts
+pub mod Placing
+pub mod Stepping
+pub mod ShortAnswers

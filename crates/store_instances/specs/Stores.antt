@@ -8,10 +8,11 @@ use Rattle.file_effects.specs.Works.{begun}
 use Rattle.wire_messages.specs.declared.packet.Packet.{Packet}
 use Rattle.wire_messages.specs.Outboxes.{Outgoing}
 use Rattle.role_steps.specs.Tables.{row, with_latest}
-use Rattle.role_steps.specs.Views.{Frame, Store, Outcome, and_then}
-use Rattle.role_steps.specs.Storage.{StoreRequest, instance_key, instance_of, closed_packets, close_done, commits, next_stamp, next_vector, shuts_again}
+use Rattle.role_steps.specs.Views.{FileSteps, Frame, Store, Outcome, and_then}
+use Rattle.role_steps.specs.Storage.{StoreRequest, with_step, instance_key, instance_of, closed_packets, close_done, commits, next_stamp, next_vector, shuts_again}
 use Rattle.role_steps.specs.Operations.{acts_committed}
 use Rattle.wire_messages.specs.declared.body.CloseAnswer.TheVariants as closing
+use Rattle.role_steps.specs.declared.copies.Step.{Step}
 use Rattle.role_steps.specs.declared.instances.Instance.{Instance}
 use Rattle.role_steps.specs.declared.instances.Stage.{Stage}
 use Rattle.role_steps.specs.declared.instances.Stage.TheVariants as stage
@@ -19,9 +20,19 @@ use Rattle.site_frame.specs.Printed.{printed}
 use Rattle.site_packs.specs.Packs.{PacksState, groups_of}
 use Rattle.site_packs.specs.Copies.{copies_on}
 
--- what the role has: the copies that the packs hold on the disk, and its instances
-abbrev pub store_of : List Instance → PacksState → List ℕ → Store
-store_of instances p image = record { copies = copies_on (groups_of p) image; instances = instances }
+-- what the role has in memory: its instances, and the commits and adoptions that it remembers
+pub record StoreState : Type 0 where
+  pub instances : List Instance
+  pub steps : List FileSteps
+
+-- what it has: also the copies that the packs hold on the disk
+abbrev pub store_of : StoreState → PacksState → List ℕ → Store
+store_of r p image = record { copies = copies_on (groups_of p) image; instances = r.instances; steps = r.steps }
+
+-- the step that a call made of a file, if it made one, is remembered
+abbrev pub with_made : FileId → Option Step → List FileSteps → List FileSteps
+with_made file None all = all
+with_made file (Some x) all = with_step file x all
 
 -- an event gave this outcome: the store is as it says, and its packets are sent and its records told
 pub record Gives (o : Outcome Store) (now : Store) (before after : Outgoing) : Type 0 where
@@ -33,9 +44,13 @@ pub record Gives (o : Outcome Store) (now : Store) (before after : Outgoing) : T
 abbrev pub IsRow : Instance → List Instance → Type 0
 IsRow i xs = row instance_key (instance_key i) xs ≡ Some i
 
--- the same of an event at one instance, which is now this one, among instances of which the others stay
-abbrev pub RowGives : Outcome Store → List Instance → Instance → PacksState → List ℕ → Outgoing → Outgoing → Type 0
-RowGives o xs new p image before after = Gives o (store_of (with_latest instance_key new xs) p image) before after
+-- the role as it is after an event at one instance, which is now this one and made this step or none
+abbrev pub with_row_made : StoreState → Option Step → Instance → StoreState
+with_row_made r made new = record { instances = with_latest instance_key new r.instances; steps = with_made new.file made r.steps }
+
+-- such an event gave this outcome; the other instances stay
+abbrev pub RowGives : Outcome Store → StoreState → Option Step → Instance → PacksState → List ℕ → Outgoing → Outgoing → Type 0
+RowGives o r made new p image before after = Gives o (store_of (with_row_made r made new) p image) before after
 
 abbrev pub is_running : Stage → Bool
 is_running stage.Running = true

@@ -28,6 +28,24 @@ impl StoreInstance {
     {
         let n = self.work.ops;
         self.answer(frame, n, &gave, out)?;
+        self.tell(frame, op, gave, out)
+    }
+
+    /// The operation with the number that it has now is told, and what it gave is kept for a repeated question.
+    pub(crate) fn tell(
+        &mut self,
+        frame: &SiteFrame,
+        op: &Op,
+        gave: Outcome,
+        out: &mut Outbox,
+    ) -> Result<(), NoMemory>
+        ensures row { OnOk result (self.new ≡ record self.old { answered = Some gave }) }
+        ensures packets { OnOk result (out.new.packets ≡ out.old.packets) }
+        ensures records { OnOk result (out.new.records ≡ out.old.records ++ Record.Act frame.now.epoch self.old.inst self.old.work.ops op.now gave ∷ []) }
+        ensures key { instance_key self.new ≡ instance_key self.old }
+        ensures stage { self.new.stage ≡ self.old.stage }
+    {
+        let n = self.work.ops;
         self.tell_act(frame, n, op, &gave, out)?;
         self.answered = Some(gave);
         Ok(())
@@ -56,7 +74,7 @@ impl StoreInstance {
     }
 
     /// Sends what an operation gave.
-    fn answer(
+    pub(crate) fn answer(
         &self,
         frame: &SiteFrame,
         n: u32,

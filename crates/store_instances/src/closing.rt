@@ -4,10 +4,9 @@ ghost use Rattle.std.specs.Prelude.{◌≡◌, ◌++◌, ℕ, List, Some, length
 ghost use Rattle.role_steps.specs.declared.instances.Stage.TheVariants as Stage;
 ghost use Rattle.role_steps.specs.Storage.{content_of, close_done, closed_again, closed_packets, closes, ends_at, instance_key, is_open, made_version, next_stamp, next_vector, on_close_at, shut};
 ghost use Rattle.role_steps.specs.Views.{Store};
-ghost use Rattle.role_steps.specs.declared.instances.Instance.{Instance};
 ghost use Rattle.site_packs.specs.Copies.{copies_on};
 ghost use Rattle.site_packs.specs.Packs.{AreShown, PacksState, SamePlaces, Stand, copy_at, groups_of};
-ghost use Rattle.store_instances.specs.Stores.{IsRow, RowGives, again_packets, commits_and_shuts, store_of};
+ghost use Rattle.store_instances.specs.Stores.{IsRow, RowGives, StoreState, again_packets, commits_and_shuts, store_of};
 ghost use Rattle.store_instances.specs.Fitting.{CanClose, CanCommit, CanStore};
 ghost use Rattle.store_instances.specs.Writes.{Writes, write_as};
 
@@ -15,7 +14,7 @@ use crate::{StoreFault, StoreInstance};
 use disk_model::Disk;
 use locus_ids::sizes::SITES;
 use locus_ids::{FileId, NoMemory, Refusal};
-use role_steps::Stage;
+use role_steps::{Stage, Step};
 use site_frame::SiteFrame;
 use site_packs::SitePacks;
 use version_vector::Vector;
@@ -23,16 +22,16 @@ use wire_messages::{Body, CloseAnswer, MadeVersion, Outbox};
 
 impl StoreInstance {
     /// A close. A repeated one sends again what the first one sent, while the synchronization site hasn't answered, and the
-    /// answer afterwards.
+    /// answer afterwards. What it committed, if anything, is the answer.
     pub fn on_close<D: Disk>(
         &mut self,
         frame: &SiteFrame,
         packs: &mut SitePacks,
         disk: &mut D,
         out: &mut Outbox,
-    ) -> Result<(), StoreFault>
+    ) -> Result<Option<Step>, StoreFault>
         requires { Stand packs.old (D.moment disk.old) }
-        ensures gives { OnOk result ((xs : List Instance) → IsRow self.old xs → RowGives (on_close_at frame.now self.old self.old.stage (store_of xs packs.old (D.moment disk.old).seen)) xs self.new packs.new (D.moment disk.new).seen out.old out.new) }
+        ensures gives { IfOk result (λ made. (r : StoreState) → IsRow self.old r.instances → RowGives (on_close_at frame.now self.old self.old.stage (store_of r packs.old (D.moment disk.old).seen)) r made self.new packs.new (D.moment disk.new).seen out.old out.new) }
         ensures key { instance_key self.new ≡ instance_key self.old }
         ensures stays { is_open self.new.stage ≡ is_open self.old.stage }
         ensures stands { OnOk result (Stand packs.new (D.moment disk.new)) }
@@ -41,11 +40,11 @@ impl StoreInstance {
         ensures unfit { result ≡ Err StoreFault.Unfit → CanClose frame.now (groups_of packs.old) (copies_on (groups_of packs.old) (D.moment disk.old).seen) self.old self.old.stage → ⊥ }
     {
         if self.is_running() {
-            self.close(frame, packs, disk, out)?;
-            return Ok(());
+            let made = self.close(frame, packs, disk, out)?;
+            return Ok(made);
         }
         self.close_again(frame, out)?;
-        Ok(())
+        Ok(None)
     }
 
     fn close_again(&self, frame: &SiteFrame, out: &mut Outbox) -> Result<(), NoMemory>
@@ -111,9 +110,9 @@ impl StoreInstance {
         packs: &mut SitePacks,
         disk: &mut D,
         out: &mut Outbox,
-    ) -> Result<(), StoreFault>
+    ) -> Result<Option<Step>, StoreFault>
         requires { Stand packs.old (D.moment disk.old) }
-        ensures gives { OnOk result ((xs : List Instance) → IsRow self.old xs → RowGives (closes frame.now self.old (store_of xs packs.old (D.moment disk.old).seen)) xs self.new packs.new (D.moment disk.new).seen out.old out.new) }
+        ensures gives { IfOk result (λ made. (r : StoreState) → IsRow self.old r.instances → RowGives (closes frame.now self.old (store_of r packs.old (D.moment disk.old).seen)) r made self.new packs.new (D.moment disk.new).seen out.old out.new) }
         ensures key { instance_key self.new ≡ instance_key self.old }
         ensures stays { is_open self.old.stage ≡ true → is_open self.new.stage ≡ true }
         ensures stands { OnOk result (Stand packs.new (D.moment disk.new)) }
@@ -123,17 +122,17 @@ impl StoreInstance {
     {
         if !self.owes() {
             self.shut(frame, packs, CloseAnswer::Nothing, out)?;
-            return Ok(());
+            return Ok(None);
         }
         match self.next_vector(frame) {
             None => {
                 let why = Refusal::Spent;
                 self.shut(frame, packs, CloseAnswer::No { why }, out)?;
-                Ok(())
+                Ok(None)
             }
             Some(vector) => {
-                self.close_owed(frame, packs, disk, &vector, out)?;
-                Ok(())
+                let made = self.close_owed(frame, packs, disk, &vector, out)?;
+                Ok(made)
             }
         }
     }
@@ -146,9 +145,9 @@ impl StoreInstance {
         disk: &mut D,
         vector: &Vector<SITES>,
         out: &mut Outbox,
-    ) -> Result<(), StoreFault>
+    ) -> Result<Option<Step>, StoreFault>
         requires { Stand packs.old (D.moment disk.old) }
-        ensures gives { OnOk result ((xs : List Instance) → vector.now ≡ next_vector frame.now self.old → RowGives (commits_and_shuts frame.now self.old (store_of xs packs.old (D.moment disk.old).seen)) xs self.new packs.new (D.moment disk.new).seen out.old out.new) }
+        ensures gives { IfOk result (λ made. (r : StoreState) → vector.now ≡ next_vector frame.now self.old → RowGives (commits_and_shuts frame.now self.old (store_of r packs.old (D.moment disk.old).seen)) r made self.new packs.new (D.moment disk.new).seen out.old out.new) }
         ensures key { instance_key self.new ≡ instance_key self.old }
         ensures stays { is_open self.old.stage ≡ true → is_open self.new.stage ≡ true }
         ensures stands { OnOk result (Stand packs.new (D.moment disk.new)) }
@@ -156,9 +155,10 @@ impl StoreInstance {
         ensures disk { Writes (Some (write_as frame.now self.old vector.now)) packs.old (D.moment disk.old) (D.moment disk.new) out.old out.new result }
         ensures unfit { result ≡ Err StoreFault.Unfit → CanStore (groups_of packs.old) (copies_on (groups_of packs.old) (D.moment disk.old).seen) self.old vector.now (next_stamp frame.now vector.now) → ⊥ }
     {
-        let stamp = self.commit(frame, packs, disk, vector, out)?;
+        let step = self.commit(frame, packs, disk, vector, out)?;
+        let stamp = step.after;
         self.shut(frame, packs, CloseAnswer::Made { stamp }, out)?;
-        Ok(())
+        Ok(Some(step))
     }
 
     /// The close is told to the synchronization site.
@@ -199,7 +199,7 @@ impl StoreInstance {
 
     /// The synchronization site has answered the close.
     pub fn on_closed_ok(&mut self, frame: &SiteFrame, out: &mut Outbox) -> Result<(), NoMemory>
-        ensures gives { OnOk result ((xs : List Instance) (p : PacksState) (image : List ℕ) → IsRow self.old xs → RowGives (ends_at frame.now self.old self.old.stage (store_of xs p image)) xs self.new p image out.old out.new) }
+        ensures gives { OnOk result ((r : StoreState) (p : PacksState) (image : List ℕ) → IsRow self.old r.instances → RowGives (ends_at frame.now self.old self.old.stage (store_of r p image)) r None self.new p image out.old out.new) }
         ensures key { instance_key self.new ≡ instance_key self.old }
         ensures stays { is_open self.new.stage ≡ true → is_open self.old.stage ≡ true }
         ensures kept { OnErr result (self.new.stage ≡ self.old.stage) }

@@ -1,23 +1,26 @@
 //! The working content of an instance becomes a version of its file.
 
-ghost use Rattle.std.specs.Prelude.{◌≡◌, ◌++◌, ◌∷◌, [], ◌-◌, IfSome, IfNone, IfOk, OnOk, Some, is_some, true, false, slice_index, ℕ, Err, IfErr, OnErr};
+ghost use Rattle.std.specs.Prelude.{◌≡◌, ◌++◌, ◌∷◌, [], ◌-◌, List, IfSome, IfNone, IfOk, OnOk, Some, is_some, true, false, slice_index, ℕ, Err, IfErr, OnErr};
 ghost use Rattle.disk_model.specs.Disk.{Exactly, HasCause};
 ghost use Rattle.disk_model.specs.Moments.{LeavesOnly};
 ghost use Rattle.role_steps.specs.Tables.{with_row};
-ghost use Rattle.role_steps.specs.Storage.{commit_record, copy_key, copy_made, instance_committed, instance_key, is_spent, next_stamp, next_vector};
+ghost use Rattle.role_steps.specs.declared.copies.FileCopy.{FileCopy};
+ghost use Rattle.role_steps.specs.Storage.{commit_record, step_to, copy_key, copy_made, instance_committed, instance_key, is_spent, next_stamp, next_vector, stamp_of};
 ghost use Rattle.site_packs.specs.Copies.{copies_on};
 ghost use Rattle.site_packs.specs.Committing.{MayBeLeft, blocks_over, calls_of};
 ghost use Rattle.site_packs.specs.Cutting.{IsCut};
-ghost use Rattle.site_packs.specs.Packs.{SamePlaces, Stand, copy_at, groups_of};
+ghost use Rattle.site_packs.specs.Packs.{AreShown, SamePlaces, Stand, copy_at, groups_of};
 ghost use Rattle.file_content.specs.Pages.{ascending};
 ghost use Rattle.store_instances.specs.Fitting.{CanStore};
 ghost use Rattle.store_instances.specs.Writes.{HasSize, TellsWrite, Writes, disk_answer, write_as};
 
+use crate::pages::ascending_pages;
 use crate::{StoreFault, StoreInstance};
 use disk_model::Disk;
 use instance_choices::next_vector;
 use locus_ids::sizes::SITES;
 use locus_ids::{Bytes, ItemList, NoMemory, SiteId, Stamp, Stamps};
+use role_steps::Step;
 use site_frame::SiteFrame;
 use site_packs::{NewVersion, SitePacks};
 use trace_book::Record;
@@ -34,7 +37,8 @@ impl StoreInstance {
         next_vector(&self.vector, frame.me)
     }
 
-    /// The working content is committed as the version of this vector. Its record is told before the disk is written.
+    /// The working content is committed as the version of this vector. Its record is told before the disk is written. The step from
+    /// the version before it is the answer.
     pub(crate) fn commit<D: Disk>(
         &mut self,
         frame: &SiteFrame,
@@ -42,9 +46,9 @@ impl StoreInstance {
         disk: &mut D,
         vector: &Vector<SITES>,
         out: &mut Outbox,
-    ) -> Result<Stamp, StoreFault>
+    ) -> Result<Step, StoreFault>
         requires { Stand packs.old (D.moment disk.old) }
-        ensures stamp { IfOk result (λ stamp. stamp ≡ next_stamp frame.now vector.now) }
+        ensures step { IfOk result (λ step. step ≡ step_to (copy_made self.old vector.now (next_stamp frame.now vector.now)) (ascending self.old.work.changed) (copy_at packs.old (D.moment disk.old).seen self.old.file)) }
         ensures row { OnOk result (self.new ≡ instance_committed self.old vector.now (next_stamp frame.now vector.now)) }
         ensures copies { OnOk result (copies_on (groups_of packs.new) (D.moment disk.new).seen ≡ with_row copy_key (copy_made self.old vector.now (next_stamp frame.now vector.now)) (copies_on (groups_of packs.old) (D.moment disk.old).seen)) }
         ensures stands { OnOk result (Stand packs.new (D.moment disk.new)) }
@@ -58,12 +62,37 @@ impl StoreInstance {
     {
         let stamp = next_stamp(frame.me, vector);
         let parents = only(&self.parents, stamp)?;
+        let step = self.step_to(packs, stamp)?;
         self.tell_commit(frame, stamp, out)?;
         self.write(packs, disk, vector, stamp)?;
         self.vector = *vector;
         self.parents = parents;
         self.work.commit(stamp);
-        Ok(stamp)
+        Ok(step)
+    }
+
+    /// The step to the version of this stamp, from the one that the site has.
+    fn step_to(&self, packs: &SitePacks, stamp: Stamp) -> Result<Step, NoMemory>
+        ensures { IfOk result (λ step. (image : List ℕ) (x : FileCopy) → AreShown packs.now.packs image → x.stamp ≡ stamp → step ≡ step_to x (ascending self.now.work.changed) (copy_at packs.now image self.now.file)) }
+    {
+        let before = self.stamp_before(packs);
+        let changed = self.work.changed.as_slice();
+        let pages = ascending_pages(self.parents.allocator(), changed)?;
+        Ok(Step {
+            before,
+            after: stamp,
+            pages,
+        })
+    }
+
+    /// The stamp of the version that the site has of the file.
+    fn stamp_before(&self, packs: &SitePacks) -> Option<Stamp>
+        ensures { (image : List ℕ) → AreShown packs.now.packs image → result ≡ stamp_of (copy_at packs.now image self.now.file) }
+    {
+        match packs.head(self.file) {
+            Some(copy) => Some(copy.stamp),
+            None => None,
+        }
     }
 
     /// The working content goes to the disk as the version of this vector and stamp. Here a refused commit becomes a fault of

@@ -8,11 +8,15 @@ mod beginning;
 mod closing;
 mod committing;
 mod fault;
+mod held;
 mod instance;
 mod operations;
+mod pages;
 mod requests;
 
 pub use fault::StoreFault;
+pub use held::HeldRead;
 pub use instance::StoreInstance;
+pub use pages::short_number;
 pub use requests::StoreRequest;
 pub use site_packs;

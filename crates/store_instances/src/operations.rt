@@ -1,16 +1,15 @@
 //! Numbered operations at one instance: each number is executed once.
 
-ghost use Rattle.std.specs.Prelude.{◌≡◌, ◌≢◌, ◌<◌, ◌+◌, ◌++◌, ◌∷◌, [], ℕ, List, None, OnOk, Some, Ok, Err};
+ghost use Rattle.std.specs.Prelude.{◌≡◌, ◌≢◌, ◌<◌, ◌+◌, ◌++◌, ◌∷◌, [], ℕ, List, None, IfOk, OnOk, Some, Ok, Err};
 ghost use Rattle.role_steps.specs.Views.{Store};
 ghost use Rattle.role_steps.specs.Storage.{free_pages, instance_key, next_stamp, next_vector};
 ghost use Rattle.trace_book.specs.declared.record.Record.TheVariants as Record;
 ghost use Rattle.role_steps.specs.Operations.{abort_op, commit_op, executes_effect, last_committed, on_op_at, op_done};
 ghost use Rattle.role_steps.specs.OperationEffects.{effect_of};
 ghost use Rattle.file_effects.specs.Works.{counted};
-ghost use Rattle.role_steps.specs.declared.instances.Instance.{Instance};
 ghost use Rattle.site_packs.specs.Copies.{copies_on};
 ghost use Rattle.site_packs.specs.Packs.{PacksState, SamePlaces, Stand, groups_of};
-ghost use Rattle.store_instances.specs.Stores.{IsRow, RowGives, commits_and_acts, store_of};
+ghost use Rattle.store_instances.specs.Stores.{IsRow, RowGives, StoreState, commits_and_acts, store_of};
 ghost use Rattle.operation_effects.specs.Joinable.{CanWorkOn};
 ghost use Rattle.store_instances.specs.Fitting.{CanCommit, CanOperate, CanStore};
 ghost use Rattle.store_instances.specs.Writes.{Writes, disk_answer, write_as};
@@ -21,6 +20,7 @@ use instance_choices::{OpTurn, turn_of};
 use locus_ids::sizes::SITES;
 use locus_ids::{Bytes, NoMemory, Refusal};
 use operation_effects::{MendingWork, operate};
+use role_steps::Step;
 use site_frame::SiteFrame;
 use site_packs::SitePacks;
 use trace_book::{Op, Outcome};
@@ -29,7 +29,7 @@ use wire_messages::Outbox;
 
 impl StoreInstance {
     /// An operation of this number, where so many pages are free. The last number is answered again, and any that is neither
-    /// that nor the next is ignored.
+    /// that nor the next is ignored. What it committed, if anything, is the answer.
     pub fn on_op<D: Disk>(
         &mut self,
         frame: &SiteFrame,
@@ -41,9 +41,9 @@ impl StoreInstance {
         mending: &MendingWork,
         free: u16,
         out: &mut Outbox,
-    ) -> Result<(), StoreFault>
+    ) -> Result<Option<Step>, StoreFault>
         requires { Stand packs.old (D.moment disk.old) }
-        ensures gives { OnOk result ((xs : List Instance) → IsRow self.old xs → free_pages (store_of xs packs.old (D.moment disk.old).seen) self.old.file.group ≡ free → RowGives (on_op_at frame.now mending.now self.old self.old.stage n op.now seen.now (store_of xs packs.old (D.moment disk.old).seen)) xs self.new packs.new (D.moment disk.new).seen out.old out.new) }
+        ensures gives { IfOk result (λ made. (r : StoreState) → IsRow self.old r.instances → free_pages (store_of r packs.old (D.moment disk.old).seen) self.old.file.group ≡ free → RowGives (on_op_at frame.now mending.now self.old self.old.stage n op.now seen.now (store_of r packs.old (D.moment disk.old).seen)) r made self.new packs.new (D.moment disk.new).seen out.old out.new) }
         ensures key { instance_key self.new ≡ instance_key self.old }
         ensures stage { self.new.stage ≡ self.old.stage }
         ensures stands { OnOk result (Stand packs.new (D.moment disk.new)) }
@@ -52,25 +52,25 @@ impl StoreInstance {
         ensures unfit { result ≡ Err StoreFault.Unfit → CanOperate frame.now mending.now (groups_of packs.old) (copies_on (groups_of packs.old) (D.moment disk.old).seen) self.old self.old.stage n op.now → ⊥ }
     {
         if !self.is_running() {
-            return Ok(());
+            return Ok(None);
         }
         match turn_of(self.done(), n, op) {
             OpTurn::Again => {
                 self.answer_again(frame, n, out)?;
-                Ok(())
+                Ok(None)
             }
-            OpTurn::Ignored => Ok(()),
+            OpTurn::Ignored => Ok(None),
             OpTurn::Commits => {
-                self.commit_op(frame, packs, disk, out)?;
-                Ok(())
+                let made = self.commit_op(frame, packs, disk, out)?;
+                Ok(made)
             }
             OpTurn::Aborts => {
                 self.abort_op(frame, packs, disk, out)?;
-                Ok(())
+                Ok(None)
             }
             OpTurn::Works => {
                 self.execute(frame, op, seen, mending, free, out)?;
-                Ok(())
+                Ok(None)
             }
         }
     }
@@ -86,7 +86,7 @@ impl StoreInstance {
         out: &mut Outbox,
     ) -> Result<(), StoreFault>
         requires { self.old.work.ops < 4294967295 }
-        ensures gives { OnOk result ((xs : List Instance) (p : PacksState) (image : List ℕ) → IsRow self.old xs → free_pages (store_of xs p image) self.old.file.group ≡ free → RowGives (executes_effect frame.now self.old op.now (effect_of op.now seen.now mending.now self.old.work.content) (store_of xs p image)) xs self.new p image out.old out.new) }
+        ensures gives { OnOk result ((r : StoreState) (p : PacksState) (image : List ℕ) → IsRow self.old r.instances → free_pages (store_of r p image) self.old.file.group ≡ free → RowGives (executes_effect frame.now self.old op.now (effect_of op.now seen.now mending.now self.old.work.content) (store_of r p image)) r None self.new p image out.old out.new) }
         ensures disk { disk_answer result ≡ Ok tt }
         ensures unfit { result ≡ Err StoreFault.Unfit → CanWorkOn op.now mending.now.contents → ⊥ }
         ensures key { instance_key self.new ≡ instance_key self.old }
@@ -108,10 +108,10 @@ impl StoreInstance {
         packs: &mut SitePacks,
         disk: &mut D,
         out: &mut Outbox,
-    ) -> Result<(), StoreFault>
+    ) -> Result<Option<Step>, StoreFault>
         requires stands { Stand packs.old (D.moment disk.old) }
         requires few { self.old.work.ops < 4294967295 }
-        ensures gives { OnOk result ((xs : List Instance) → IsRow self.old xs → RowGives (commit_op frame.now self.old (store_of xs packs.old (D.moment disk.old).seen)) xs self.new packs.new (D.moment disk.new).seen out.old out.new) }
+        ensures gives { IfOk result (λ made. (r : StoreState) → IsRow self.old r.instances → RowGives (commit_op frame.now self.old (store_of r packs.old (D.moment disk.old).seen)) r made self.new packs.new (D.moment disk.new).seen out.old out.new) }
         ensures key { instance_key self.new ≡ instance_key self.old }
         ensures stage { self.new.stage ≡ self.old.stage }
         ensures stands { OnOk result (Stand packs.new (D.moment disk.new)) }
@@ -121,17 +121,17 @@ impl StoreInstance {
     {
         if !self.owes() {
             self.last_committed(frame, out)?;
-            return Ok(());
+            return Ok(None);
         }
         match self.next_vector(frame) {
             None => {
                 let why = Refusal::Spent;
                 self.act_counted(frame, &Op::Commit, Outcome::No { why }, out)?;
-                Ok(())
+                Ok(None)
             }
             Some(vector) => {
-                self.commit_owed(frame, packs, disk, &vector, out)?;
-                Ok(())
+                let made = self.commit_owed(frame, packs, disk, &vector, out)?;
+                Ok(made)
             }
         }
     }
@@ -144,10 +144,10 @@ impl StoreInstance {
         disk: &mut D,
         vector: &Vector<SITES>,
         out: &mut Outbox,
-    ) -> Result<(), StoreFault>
+    ) -> Result<Option<Step>, StoreFault>
         requires stands { Stand packs.old (D.moment disk.old) }
         requires few { self.old.work.ops < 4294967295 }
-        ensures gives { OnOk result ((xs : List Instance) → vector.now ≡ next_vector frame.now self.old → RowGives (commits_and_acts frame.now self.old (store_of xs packs.old (D.moment disk.old).seen)) xs self.new packs.new (D.moment disk.new).seen out.old out.new) }
+        ensures gives { IfOk result (λ made. (r : StoreState) → vector.now ≡ next_vector frame.now self.old → RowGives (commits_and_acts frame.now self.old (store_of r packs.old (D.moment disk.old).seen)) r made self.new packs.new (D.moment disk.new).seen out.old out.new) }
         ensures key { instance_key self.new ≡ instance_key self.old }
         ensures stage { self.new.stage ≡ self.old.stage }
         ensures stands { OnOk result (Stand packs.new (D.moment disk.new)) }
@@ -155,15 +155,16 @@ impl StoreInstance {
         ensures disk { Writes (Some (write_as frame.now self.old vector.now)) packs.old (D.moment disk.old) (D.moment disk.new) out.old out.new result }
         ensures unfit { result ≡ Err StoreFault.Unfit → CanStore (groups_of packs.old) (copies_on (groups_of packs.old) (D.moment disk.old).seen) self.old vector.now (next_stamp frame.now vector.now) → ⊥ }
     {
-        let stamp = self.commit(frame, packs, disk, vector, out)?;
+        let step = self.commit(frame, packs, disk, vector, out)?;
+        let stamp = step.after;
         self.act_counted(frame, &Op::Commit, Outcome::Committed { stamp }, out)?;
-        Ok(())
+        Ok(Some(step))
     }
 
     /// Where nothing is owed the last version's stamp is answered.
     fn last_committed(&mut self, frame: &SiteFrame, out: &mut Outbox) -> Result<(), NoMemory>
         requires { self.old.work.ops < 4294967295 }
-        ensures gives { OnOk result ((xs : List Instance) (p : PacksState) (image : List ℕ) → IsRow self.old xs → RowGives (last_committed frame.now self.old self.old.work.last (store_of xs p image)) xs self.new p image out.old out.new) }
+        ensures gives { OnOk result ((r : StoreState) (p : PacksState) (image : List ℕ) → IsRow self.old r.instances → RowGives (last_committed frame.now self.old self.old.work.last (store_of r p image)) r None self.new p image out.old out.new) }
         ensures key { instance_key self.new ≡ instance_key self.old }
         ensures stage { self.new.stage ≡ self.old.stage }
     {
@@ -186,7 +187,7 @@ impl StoreInstance {
     ) -> Result<(), StoreFault>
         requires stands { Stand packs.now (D.moment disk.old) }
         requires few { self.old.work.ops < 4294967295 }
-        ensures gives { OnOk result ((xs : List Instance) → IsRow self.old xs → RowGives (abort_op frame.now self.old (store_of xs packs.now (D.moment disk.old).seen)) xs self.new packs.now (D.moment disk.new).seen out.old out.new) }
+        ensures gives { OnOk result ((r : StoreState) → IsRow self.old r.instances → RowGives (abort_op frame.now self.old (store_of r packs.now (D.moment disk.old).seen)) r None self.new packs.now (D.moment disk.new).seen out.old out.new) }
         ensures key { instance_key self.new ≡ instance_key self.old }
         ensures stage { self.new.stage ≡ self.old.stage }
         ensures stands { OnOk result (Stand packs.now (D.moment disk.new)) }

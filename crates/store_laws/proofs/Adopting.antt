@@ -1,9 +1,10 @@
 -- An adoption: it comes as it may, and the copy on the disk is then what the site holds.
-use Rattle.std.proofs.Common.{◌≡◌, ℕ, ◌<◌, ◌==◌, Bool, true, false, cond, ◌&&◌, List, [], ◌∷◌, length, take, Option, Some, None, refl, sym, ◌∙◌, ap, subst, inl, inr}
+use Rattle.std.proofs.Common.{◌≡◌, ℕ, ◌<◌, ◌==◌, Bool, true, false, cond, ◌&&◌, List, [], ◌∷◌, length, Option, Some, None, refl, sym, ◌∙◌, ap, subst, ◌⊎◌, inl, inr}
 use Rattle.std.specs.List.{list_any}
-use Rattle.std.specs.Option.{option_map}
+use Rattle.std.specs.Option.{is_some, option_map, unwrap_or}
+use Rattle.role_steps.proofs.Fitting.{fits_above}
 use Rattle.role_steps.proofs.of_plain_facts.Numbers.{equal, equal_self}
-use Rattle.role_steps.proofs.of_plain_facts.Tests.{and_true, true_false}
+use Rattle.role_steps.proofs.of_plain_facts.Tests.{and_first, and_second, and_true, true_false}
 use Rattle.locus_ids.specs.declared.config.Config.{Config}
 use Rattle.locus_ids.specs.declared.ids.EpochId.{EpochId}
 use Rattle.locus_ids.specs.declared.ids.FileId.{FileId}
@@ -12,14 +13,16 @@ use Rattle.locus_ids.specs.declared.sites.Sites.{Sites}
 use Rattle.locus_ids.specs.Sites.{has}
 use Rattle.locus_ids.specs.Sizes.{inode_span}
 use Rattle.commit_graph.specs.Vectors.{vector_of}
-use Rattle.commit_graph.specs.Versions.{same_file}
+use Rattle.commit_graph.specs.Versions.{content_of as content_in, same_file}
+use Rattle.file_content.specs.Pages.{pages_of}
 use Rattle.wire_messages.specs.declared.body.Body.TheVariants as body
-use Rattle.role_steps.specs.Adoption.{adopt_record, copy_adopted, is_above_own}
+use Rattle.role_steps.specs.Adoption.{adopt_record, content_adopted, copy_adopted, fits_own, is_above_own}
 use Rattle.role_steps.specs.Own.{Every}
-use Rattle.role_steps.specs.Pulling.{is_complete}
-use Rattle.role_steps.specs.Storage.{copy_key, copy_of, with_copy}
+use Rattle.role_steps.specs.Pulling.{is_complete, is_over, pages_got, wanted_pages}
+use Rattle.role_steps.specs.Storage.{content_of, copy_key, copy_of, step_to, with_version}
 use Rattle.role_steps.specs.Versions.{is_below}
 use Rattle.role_steps.specs.Views.{Frame, Store, Told, Shown, file_key, sync_site, to_some, to_sync}
+use Rattle.role_steps.specs.declared.copies.FileCopy.{FileCopy}
 use Rattle.role_steps.specs.declared.pulls.Pull.{Pull}
 use Rattle.the_run.specs.Kept.{Among}
 use Rattle.the_run.specs.Worlds.{Line}
@@ -30,6 +33,7 @@ use Rattle.tree_model.specs.State.{TreeState, copy_of as copy_of_site, held_at, 
 use Rattle.tree_model.specs.Tree.{copy_now, tree_of}
 use Rattle.lawful_trace.specs.TreeRows.{is_above, is_stored_at}
 use Rattle.tree_laws.specs.Printed.{entries}
+use Rattle.tree_laws.specs.Deltas.{AgreeBut, PullsOver, StepFact}
 use Rattle.tree_laws.specs.Doing.{FrameFact, StoreHeld}
 use Rattle.tree_laws.specs.Following.{MayTell, IsFollowed}
 use Rattle.tree_laws.specs.Frames.{AllStay, VersionsStay}
@@ -44,17 +48,25 @@ use Rattle.tree_laws.proofs.Owing.{inside_is}
 use Rattle.tree_laws.proofs.Rows.{followed_rows}
 use Rattle.tree_laws.proofs.Versions.{versions_stay}
 use Rattle.sync_laws.specs.of_order_laws.Joining.{PacksAreOfSites}
-use Rattle.sync_laws.proofs.of_order_laws.Standing.{same_file_eq}
+use Rattle.sync_laws.proofs.of_order_laws.Standing.{same_file_eq, same_stamp_eq}
 use Rattle.store_laws.specs.Rests.{AdoptRests, StoreRests}
 use Rattle.store_laws.proofs.Commits.{file_own, keys_same, put_found}
+use Rattle.store_laws.proofs.Differing.{among_all, differ_stays, step_more, steps_stay}
 use Rattle.store_laws.proofs.Holding.{held_stands, versions_same}
+use Rattle.store_laws.proofs.PulledPages.{laid_is}
 use Rattle.store_laws.proofs.Pulls.{own_ancestor}
+use Rattle.store_laws.proofs.Serving.{IsCopy, copy_is as own_copy_is}
 use Rattle.store_laws.proofs.Staying.{has_more, instance_more}
 use Rattle.store_laws.proofs.Tabled.{ascends_row, row_other, row_same}
 
-take_whole : {A : Type 0} (xs : List A) → take (length xs) xs ≡ xs
-take_whole [] = refl
-take_whole (x ∷ xs) = ap (λ ys. x ∷ ys) (take_whole xs)
+-- a pull over none is over no copy, and one over a copy begins from its stamp
+over_none : (base : Option Stamp) → is_over None base ≡ true → base ≡ None
+over_none None e = refl
+over_none (Some b) e = absurd (true_false (sym e))
+
+over_some : (x : FileCopy) (base : Option Stamp) → is_over (Some x) base ≡ true → base ≡ Some x.stamp
+over_some x None e = absurd (true_false (sym e))
+over_some x (Some b) e = ap Some (sym (same_stamp_eq x.stamp b e))
 
 none_any : {A : Type 0} (p : A → Bool) (xs : List A) → ((x : A) → Among x xs → p x ≡ true → ⊥) → list_any p xs ≡ false
 none_any p [] away = refl
@@ -64,7 +76,46 @@ none_any p (x ∷ xs) away = at (none_any p xs (λ y k. away y (inr k))) (p x) r
     at later true e = absurd (away x (inl refl) e)
     at later false e = rw e later
 
-module _ (c : Config) (n : ℕ) (trace : List Line) (few : PacksAreOfSites c) (h : IsFollowed c trace) (rests : StoreRests c trace) (f : Frame) (frame : FrameFact c trace f) (s : Store) (kept : StoreHeld c f trace s) (p : Pull) (k : PullFact c trace f.epoch f.me p) (complete : is_complete p ≡ true) (wants : AdoptRests c trace f p) (above : is_above_own p (copy_of s p.file) ≡ true) where
+-- what was pulled over the site's own copy
+module _ (c : Config) (trace : List Line) (rests : StoreRests c trace) (f : Frame) (s : Store) (kept : StoreHeld c f trace s) (p : Pull) (k : PullFact c trace f.epoch f.me p) (complete : is_complete p ≡ true) (fits : fits_own p (copy_of s p.file) ≡ true) where
+  abbrev own_bytes : List ℕ
+  own_bytes = content_of (copy_of s p.file)
+
+  narrow_file : p.file.ino < inode_span
+  narrow_file = rests.narrow p.file p.stamp (subst (λ (y : Stamp). Stands c trace p.file y) k.stamp_is k.is_version.stands)
+
+  -- the pages that were pulled are all that differ from the own copy
+  pub pulled_agree : AgreeBut (content_of (copy_of s p.file)) k.version.content (wanted_pages p)
+  pulled_agree = over (held_version c (entries trace) f.me p.file) k.over (kept.copies.are p.file narrow_file)
+    where
+      known : is_some p.wanted ≡ true
+      known = and_first (is_some p.wanted) _ complete
+
+      unknown : p.wanted ≡ None → ⊥
+      unknown e = true_false (sym known ∙ ap is_some e)
+
+      any_base : (o : Option FileCopy) → copy_of s p.file ≡ o → is_over o p.base ≡ true
+      any_base o e = subst (λ (x : Option FileCopy). is_over x p.base ≡ true) e (and_first (is_over (copy_of s p.file) p.base) _ fits)
+
+      above : (o : Option FileCopy) → copy_of s p.file ≡ o → is_above_own p o ≡ true
+      above o e = subst (λ (x : Option FileCopy). is_above_own p x ≡ true) e (and_second (is_over (copy_of s p.file) p.base) _ fits)
+
+      agreed : (own : HeldVersion) → (p.wanted ≡ None) ⊎ AgreeBut own.content k.version.content (wanted_pages p) → AgreeBut own.content k.version.content (wanted_pages p)
+      agreed own (inl e) = absurd (unknown e)
+      agreed own (inr a) = a
+
+      over : (o : Option HeldVersion) → PullsOver o p k.version → copy_of s p.file ≡ option_map (copy_for p.file) o → AgreeBut own_bytes k.version.content (wanted_pages p)
+      over None z e = λ page inside. inl (subst (λ (o : Option (List ℕ)). Among page (unwrap_or o [])) (sym (z (over_none p.base (any_base None e)))) (among_all (pages_of (length k.version.content)) page inside))
+      over (Some own) z e = subst (λ (o : Option FileCopy). AgreeBut (content_of o) k.version.content (wanted_pages p)) (sym e) (agreed own (z (over_some (copy_for p.file own) p.base (any_base (Some (copy_for p.file own)) e)) (above (Some (copy_for p.file own)) e)))
+
+  all_came : pages_got p ≡ length (wanted_pages p)
+  all_came = equal (pages_got p) (length (wanted_pages p)) (and_second (is_some p.wanted) _ complete)
+
+  -- so together they are the version
+  pub pulled_content : content_adopted p (content_of (copy_of s p.file)) ≡ k.version.content
+  pulled_content = laid_is p.size (wanted_pages p) p.content own_bytes k.version.content k.size_is (λ i lt. k.pages i (subst (λ (m : ℕ). i < m) (sym all_came) lt)) pulled_agree
+
+module _ (c : Config) (n : ℕ) (trace : List Line) (few : PacksAreOfSites c) (h : IsFollowed c trace) (rests : StoreRests c trace) (f : Frame) (frame : FrameFact c trace f) (s : Store) (kept : StoreHeld c f trace s) (p : Pull) (k : PullFact c trace f.epoch f.me p) (complete : is_complete p ≡ true) (wants : AdoptRests c trace f p) (fits : fits_own p (copy_of s p.file) ≡ true) where
   abbrev told : Told
   told = Shown (adopt_record f p)
 
@@ -83,8 +134,8 @@ module _ (c : Config) (n : ℕ) (trace : List Line) (few : PacksAreOfSites c) (h
   version_is : k.version ≡ version_of c (entries trace) p.file p.stamp
   version_is = k.is_version.same ∙ ap (version_of c (entries trace) p.file) k.stamp_is
 
-  content_is : p.content ≡ k.version.content
-  content_is = k.pages ∙ (ap (λ (m : ℕ). take m k.version.content) (equal (length p.content) p.size complete ∙ sym k.size_is) ∙ take_whole k.version.content)
+  abbrev under : List ℕ
+  under = content_of (copy_of s p.file)
 
   vector_same : p.vector ≡ vector_of (history c (entries trace)) p.file p.stamp
   vector_same = sym k.vector_is ∙ ap (λ (v : HeldVersion). v.vector) version_is
@@ -100,7 +151,7 @@ module _ (c : Config) (n : ℕ) (trace : List Line) (few : PacksAreOfSites c) (h
       over : (o : Option Stamp) → held c (entries trace) f.me p.file ≡ o → copy_of s p.file ≡ option_map (copy_for p.file) (option_map (version_of c (entries trace) p.file) o) → is_above (history c (entries trace)) p.file o p.stamp ≡ true
       over None e q = refl
       over (Some old) e q = wants.below old (held_stands c (entries trace) (followed_rows c trace h) f.me p.file old e)
-          (subst (λ (v : List ℕ). is_below (vector_of (history c (entries trace)) p.file old) v ≡ true) vector_same (sym (ap (is_above_own p) q) ∙ above))
+          (subst (λ (v : List ℕ). is_below (vector_of (history c (entries trace)) p.file old) v ≡ true) vector_same (sym (ap (is_above_own p) q) ∙ fits_above p (copy_of s p.file) fits))
 
   pub may_adopt : MayTell c trace (Shown (adopt_record f p))
   may_adopt = record {
@@ -147,43 +198,60 @@ module _ (c : Config) (n : ℕ) (trace : List Line) (few : PacksAreOfSites c) (h
     version_now : k.version ≡ version_of c (entries after) p.file p.stamp
     version_now = version_is ∙ sym (same_version_of c trace after versions p.file p.stamp stands)
 
-    copy_is : copy_adopted p ≡ copy_for p.file (version_of c (entries after) p.file p.stamp)
+    copy_is : copy_adopted p (content_of (copy_of s p.file)) ≡ copy_for p.file (version_of c (entries after) p.file p.stamp)
     copy_is = λ j. record {
       file = p.file;
       kind = (sym k.kind_is ∙ ap (λ (v : HeldVersion). v.kind) version_now) j;
       set = (sym k.set_is ∙ ap (λ (v : HeldVersion). v.set) version_now) j;
       stamp = p.stamp;
       vector = (sym k.vector_is ∙ ap (λ (v : HeldVersion). v.vector) version_now) j;
-      content = (content_is ∙ ap (λ (v : HeldVersion). v.content) version_now) j;
+      content = (pulled_content c trace rests f s kept p k complete fits ∙ ap (λ (v : HeldVersion). v.content) version_now) j;
     }
 
-    own_copy : (g : FileId) → p.file ≡ g → copy_of (with_copy (copy_adopted p) s) g ≡ option_map (copy_for g) (held_version c (entries after) f.me g)
-    own_copy g same = subst (λ (y : FileId). copy_of (with_copy (copy_adopted p) s) y ≡ option_map (copy_for y) (held_version c (entries after) f.me y)) same
-        (row_same copy_key (copy_adopted p) s.copies ∙ (ap Some copy_is ∙ sym (ap (λ (o : Option Stamp). option_map (copy_for p.file) (option_map (version_of c (entries after) p.file) o)) held_own)))
+    own_copy : (g : FileId) → p.file ≡ g → copy_of (with_version (copy_adopted p (content_of (copy_of s p.file))) (wanted_pages p) s) g ≡ option_map (copy_for g) (held_version c (entries after) f.me g)
+    own_copy g same = subst (λ (y : FileId). copy_of (with_version (copy_adopted p (content_of (copy_of s p.file))) (wanted_pages p) s) y ≡ option_map (copy_for y) (held_version c (entries after) f.me y)) same
+        (row_same copy_key (copy_adopted p (content_of (copy_of s p.file))) s.copies ∙ (ap Some copy_is ∙ sym (ap (λ (o : Option Stamp). option_map (copy_for p.file) (option_map (version_of c (entries after) p.file) o)) held_own)))
       where
         held_own : held c (entries after) f.me p.file ≡ Some p.stamp
         held_own = ap (λ (b : Bool). cond b (Some p.stamp) (held c (entries trace) f.me p.file)) (and_true (same_file p.file p.file) (f.me == f.me) (file_own p.file) (equal_self f.me))
 
-    other_copy : (g : FileId) → g.ino < inode_span → same_file p.file g ≡ false → copy_of (with_copy (copy_adopted p) s) g ≡ option_map (copy_for g) (held_version c (entries after) f.me g)
-    other_copy g low other = row_other copy_key (copy_adopted p) (file_key g) s.copies (λ e. true_false (sym (keys_same p.file g narrow low e) ∙ other))
+    other_copy : (g : FileId) → g.ino < inode_span → same_file p.file g ≡ false → copy_of (with_version (copy_adopted p (content_of (copy_of s p.file))) (wanted_pages p) s) g ≡ option_map (copy_for g) (held_version c (entries after) f.me g)
+    other_copy g low other = row_other copy_key (copy_adopted p (content_of (copy_of s p.file))) (file_key g) s.copies (λ e. true_false (sym (keys_same p.file g narrow low e) ∙ other))
         ∙ (kept.copies.are g low ∙ sym (ap (λ (o : Option Stamp). option_map (copy_for g) (option_map (version_of c (entries after) g) o)) held_other ∙ versions_same c trace after versions g (held c (entries trace) f.me g) (λ t e. held_stands c (entries trace) (followed_rows c trace h) f.me g t e)))
       where
         held_other : held c (entries after) f.me g ≡ held c (entries trace) f.me g
         held_other = ap (λ (b : Bool). cond (b && (f.me == f.me)) (Some p.stamp) (held c (entries trace) f.me g)) other
 
-    copies_adopted : CopiesAreHeld c after f.me (with_copy (copy_adopted p) s)
-    copies_adopted = record { are = λ g low. over g low (same_file p.file g) refl; ascends = ascends_row copy_key (copy_adopted p) s.copies kept.copies.ascends }
+    copies_adopted : CopiesAreHeld c after f.me (with_version (copy_adopted p (content_of (copy_of s p.file))) (wanted_pages p) s)
+    copies_adopted = record { are = λ g low. over g low (same_file p.file g) refl; ascends = ascends_row copy_key (copy_adopted p (content_of (copy_of s p.file))) s.copies kept.copies.ascends }
       where
-        over : (g : FileId) → g.ino < inode_span → (b : Bool) → same_file p.file g ≡ b → copy_of (with_copy (copy_adopted p) s) g ≡ option_map (copy_for g) (held_version c (entries after) f.me g)
+        over : (g : FileId) → g.ino < inode_span → (b : Bool) → same_file p.file g ≡ b → copy_of (with_version (copy_adopted p (content_of (copy_of s p.file))) (wanted_pages p) s) g ≡ option_map (copy_for g) (held_version c (entries after) f.me g)
         over g low true e = own_copy g (same_file_eq p.file g e)
         over g low false e = other_copy g low e
 
-    pub store_adopted : StoreHeld c f after (with_copy (copy_adopted p) s)
+    -- what is remembered of it
+    step_so : (o : Option FileCopy) → ((x : FileCopy) → o ≡ Some x → IsCopy c trace f.me p.file x) → AgreeBut (content_of o) k.version.content (wanted_pages p) → StepFact c after p.file (step_to (copy_adopted p under) (wanted_pages p) o)
+    step_so None are a = versions.stands p.file p.stamp stands
+    step_so (Some x) are a = differ_stays c trace after versions p.file x.stamp p.stamp (wanted_pages p) (record {
+      earlier_stands = subst (Stands c trace p.file) (sym at) (are x refl).stands;
+      later_stands = stands;
+      agree = subst (λ (xs : List ℕ). AgreeBut xs (content_in (history c (entries trace)) p.file p.stamp) (wanted_pages p)) own_content (subst (λ (xs : List ℕ). AgreeBut x.content xs (wanted_pages p)) (ap (λ (v : HeldVersion). v.content) version_is) a);
+    })
+      where
+        at : x.stamp ≡ (are x refl).stamp
+        at = ap (λ (y : FileCopy). y.stamp) (are x refl).same
+
+        own_content : x.content ≡ content_in (history c (entries trace)) p.file x.stamp
+        own_content = ap (λ (y : FileCopy). y.content) (are x refl).same ∙ ap (content_in (history c (entries trace)) p.file) (sym at)
+
+    pub store_adopted : StoreHeld c f after (with_version (copy_adopted p (content_of (copy_of s p.file))) (wanted_pages p) s)
     store_adopted = record {
       copies = copies_adopted;
       instances = record {
         instances = every_both (InstanceFact c trace f) (InstanceFact c after f) s.instances (λ i fact. instance_more c n told trace few h may_adopt stay f i tt fact) kept.instances.instances;
         apart = kept.instances.apart;
         has = has_more n told trace f s (λ z. z) kept.instances.has;
+        steps = step_more c after rests.narrow p.file narrow (step_to (copy_adopted p under) (wanted_pages p) (copy_of s p.file)) (step_so (copy_of s p.file) (λ x e. own_copy_is c trace h f.me s kept.copies p.file narrow x e) (pulled_agree c trace rests f s kept p k complete fits)) s.steps
+            (steps_stay c trace after versions s.steps kept.instances.steps);
       };
     }

@@ -104,14 +104,21 @@ step_asks c older (says.Act e i n o result) d m step = subst (λ (y : CallId). h
 step_asks c older (says.Release e i f stamp) d m step = subst (λ (y : CallId). heard c older y ≡ log older y) (some_same m.in_time.call d (sym m.in_time.owner ∙ step)) m.in_time.asks.nothing_waits
 step_asks c older _ d m step = absurd step
 
+-- one want asks one operation
+one_operation : (inst i : Serial) (done o : Op) → want.Do inst done ≡ want.Do i o → done ≡ o
+one_operation inst i done o e = cc
+
 module _ (c : Config) (n : ℕ) (x : Told) (older : List Line) (h : IsFollowed c older) (may : MayTell c older x) (e : EpochId) (d : CallId) (i : Serial) (o : Op) (inside : IsCallIn (entries older) e d) (asked : asked_now c older d ≡ want.Do i o) where
-  -- the operation is told now
-  act_now : (number : ℕ) (what : Op) (r : Outcome) → Printed (ActRecord e i number what r) older x → Waits c (With n x older) d (outcome_answer r)
+  -- the operation is told now, and it is the one that the call asks
+  act_now : (number : ℕ) (what : Op) (r : Outcome) → Printed (ActRecord e i number what r) older x → Waits c (With n x older) d (outcome_answer r) × (what ≡ o)
   act_now number what r p = over x may p
     where
-      over : (y : Told) → MayTell c older y → Printed (ActRecord e i number what r) older y → Waits c (With n y older) d (outcome_answer r)
-      over (Shown (says.Act at inst m done gave)) k p = by_owner (call_of_act (entries older) at inst m) d (heard c older d ++ outcome_answer gave ∷ []) (heard c older d) (k.in_time.owner ∙ ap Some (sym same))
-          ∙ (ap (λ (xs : Answers). xs ++ outcome_answer gave ∷ []) (subst (λ (z : CallId). heard c older z ≡ log older z) (sym same) k.in_time.asks.nothing_waits) ∙ ap (λ (g : Outcome). log older d ++ outcome_answer g ∷ []) p.result_is)
+      over : (y : Told) → MayTell c older y → Printed (ActRecord e i number what r) older y → Waits c (With n y older) d (outcome_answer r) × (what ≡ o)
+      over (Shown (says.Act at inst m done gave)) k p = (
+        by_owner (call_of_act (entries older) at inst m) d (heard c older d ++ outcome_answer gave ∷ []) (heard c older d) (k.in_time.owner ∙ ap Some (sym same))
+            ∙ (ap (λ (xs : Answers). xs ++ outcome_answer gave ∷ []) (subst (λ (z : CallId). heard c older z ≡ log older z) (sym same) k.in_time.asks.nothing_waits) ∙ ap (λ (g : Outcome). log older d ++ outcome_answer g ∷ []) p.result_is),
+        sym p.operation_is ∙ one_operation inst i done o (sym k.in_time.asks.asked ∙ (ap (asked_now c older) (sym same) ∙ asked)),
+      )
         where
           same : d ≡ k.in_time.call
           same = acts_of c older at inst m done gave h k d (subst (λ (w : EpochId). IsCallIn (entries older) w d) (sym p.epoch_is) inside) (ap is_request asked)
@@ -135,14 +142,14 @@ module _ (c : Config) (n : ℕ) (x : Told) (older : List Line) (h : IsFollowed c
       over (Shown y) k found named step = acts y k found named (step_acts c older y e i d o inside (record { asked = asked; request = refl; nothing_waits = step_asks c older y d k step }) k step)
       over _ k found named step = absurd step
 
-last_waits : (c : Config) (t : List Line) → IsFollowed c t → (e : EpochId) (d : CallId) (i : Serial) (o : Op) (number : ℕ) (what : Op) (r : Outcome) (x : Instance) → IsCallIn (entries t) e d → asked_now c t d ≡ want.Do i o → WasDone t e i number what r → instance_now c t e i ≡ Some x → number ≡ x.work.ops → (heard c t d ≡ log t d → ⊥) → Waits c t d (outcome_answer r)
+last_waits : (c : Config) (t : List Line) → IsFollowed c t → (e : EpochId) (d : CallId) (i : Serial) (o : Op) (number : ℕ) (what : Op) (r : Outcome) (x : Instance) → IsCallIn (entries t) e d → asked_now c t d ≡ want.Do i o → WasDone t e i number what r → instance_now c t e i ≡ Some x → number ≡ x.work.ops → (heard c t d ≡ log t d → ⊥) → Waits c t d (outcome_answer r) × (what ≡ o)
 last_waits c [] h e d i o number what r x inside asked was found is waits = absurd was
 last_waits c (y ∷ older) h e d i o number what r x inside asked was found is waits = over (λ z here now k there last not_clear. last_waits c older h.1 e d i o number what r z here now k there last not_clear) (rests_or_clear c y.number y.told older d h.1 h.0 (inside.accepted, inside.named))
   where
     Before : Type 0
-    Before = (z : Instance) → IsCallIn (entries older) e d → asked_now c older d ≡ want.Do i o → WasDone older e i number what r → instance_now c older e i ≡ Some z → number ≡ z.work.ops → (heard c older d ≡ log older d → ⊥) → Waits c older d (outcome_answer r)
+    Before = (z : Instance) → IsCallIn (entries older) e d → asked_now c older d ≡ want.Do i o → WasDone older e i number what r → instance_now c older e i ≡ Some z → number ≡ z.work.ops → (heard c older d ≡ log older d → ⊥) → Waits c older d (outcome_answer r) × (what ≡ o)
 
-    rests : Before → Rests c y.number y.told older d → WasDone (y ∷ older) e i number what r → Waits c (y ∷ older) d (outcome_answer r)
+    rests : Before → Rests c y.number y.told older d → WasDone (y ∷ older) e i number what r → Waits c (y ∷ older) d (outcome_answer r) × (what ≡ o)
     rests later s (inl p) = act_now c y.number y.told older h.1 h.0 e d i o (back_in c y.number y.told older e d h.1 h.0 inside s.named) (sym s.asked ∙ asked) number what r p
     rests later s (inr k) = at (same_told c older y.number y.told d)
       where
@@ -159,12 +166,13 @@ last_waits c (y ∷ older) h e d i o number what r x inside asked was found is w
         last = (let low : number ≤ old.0.work.ops = done_low c older h.1 e i number what r old.0 k old.1 in
             let up : old.0.work.ops ≤ x.work.ops = ops_rise c y.number y.told older h.1 h.0 e i old.0 x named old.1 found in omega (arith, low, up, is))
 
-        at : Same c older y.number y.told d ⊎ (StepOf older y.told d ⊎ Turns y.told d) → Waits c (y ∷ older) d (outcome_answer r)
-        at (inl same) = same.heard_same ∙ (later old.0 here (sym s.asked ∙ asked) k old.1 last (λ clear. waits (same.heard_same ∙ (clear ∙ sym same.log_same))) ∙ ap (λ (xs : Answers). xs ++ outcome_answer r ∷ []) (sym same.log_same))
+        at : Same c older y.number y.told d ⊎ (StepOf older y.told d ⊎ Turns y.told d) → Waits c (y ∷ older) d (outcome_answer r) × (what ≡ o)
+        at (inl same) = (let was : Waits c older d (outcome_answer r) × (what ≡ o) = later old.0 here (sym s.asked ∙ asked) k old.1 last (λ clear. waits (same.heard_same ∙ (clear ∙ sym same.log_same))) in
+            (same.heard_same ∙ (was.0 ∙ ap (λ (xs : Answers). xs ++ outcome_answer r ∷ []) (sym same.log_same)), was.1))
         at (inr (inl step)) = absurd (step_beyond c y.number y.told older h.1 h.0 e d i o here (sym s.asked ∙ asked) number what r x k found is step)
         at (inr (inr turn)) = absurd (waits (turn_clear c y.number y.told older d h.0 turn))
 
-    over : Before → Rests c y.number y.told older d ⊎ (heard c (y ∷ older) d ≡ log (y ∷ older) d) → Waits c (y ∷ older) d (outcome_answer r)
+    over : Before → Rests c y.number y.told older d ⊎ (heard c (y ∷ older) d ≡ log (y ∷ older) d) → Waits c (y ∷ older) d (outcome_answer r) × (what ≡ o)
     over later (inl s) = rests later s was
     over later (inr clear) = absurd (waits clear)
 
@@ -177,9 +185,9 @@ same_answer (outcome.Found ino kind) = refl
 same_answer (outcome.Data bytes) = refl
 same_answer (outcome.Committed stamp) = refl
 
--- an operation that was done under the number that a call asks it now has its answer waiting for the call
-pub act_waits : (c : Config) (t : List Line) (e : EpochId) (d : CallId) (i : Serial) (o what : Op) (number : ℕ) (r : Outcome) → IsFollowed c t → IsCallIn (entries t) e d → epoch_of (entries t) d.site ≡ Some e → asked_now c t d ≡ want.Do i o → number ≡ ops_asked c t i → WasDone t e i number what r → Waits c t d (op_answer r)
-act_waits c t e d i o what number r h inside there asked counted was = subst (Waits c t d) (same_answer r) (last_waits c t h e d i o number what r opened.at inside asked was opened.found last unclear)
+-- an operation that was done under the number that a call asks it now has its answer waiting for the call, and is the one that it asks
+pub act_waits : (c : Config) (t : List Line) (e : EpochId) (d : CallId) (i : Serial) (o what : Op) (number : ℕ) (r : Outcome) → IsFollowed c t → IsCallIn (entries t) e d → epoch_of (entries t) d.site ≡ Some e → asked_now c t d ≡ want.Do i o → number ≡ ops_asked c t i → WasDone t e i number what r → Waits c t d (op_answer r) × (what ≡ o)
+act_waits c t e d i o what number r h inside there asked counted was = (subst (Waits c t d) (same_answer r) both.0, both.1)
   where
     has : has_instances c t d i ≡ true
     has = op_had c t d i o h (inside.accepted, inside.named) asked
@@ -227,6 +235,9 @@ act_waits c t e d i o what number r h inside there asked counted was = subst (Wa
           where
             same : d ≡ a.somebody.call
             same = one_has c t e i d a.somebody.call h inside a.somebody.inside (ap is_request asked) (asking c t a.somebody.call (want.Do i a.somebody.operation) a.somebody.asks) has (op_had c t a.somebody.call i a.somebody.operation h (a.somebody.inside.accepted, a.somebody.inside.named) a.somebody.asks.asked)
+
+    both : Waits c t d (outcome_answer r) × (what ≡ o)
+    both = last_waits c t h e d i o number what r opened.at inside asked was opened.found last unclear
 
 -- ---- closes ----
 

@@ -1,6 +1,6 @@
 -- An open at its storage site: the instance is begun as it was granted, or as a make on a number that is free; a repeated request is
 -- answered again.
-use Rattle.std.proofs.Common.{◌≡◌, ℕ, ◌≤◌, ◌==◌, Bool, true, false, not, cond, ◌&&◌, List, [], ◌∷◌, Option, Some, None, refl, sym, ◌∙◌, ap, subst, ◌⊎◌, inl, inr}
+use Rattle.std.proofs.Common.{◌≡◌, ℕ, ◌≤◌, ◌==◌, Bool, true, false, not, cond, ◌&&◌, List, [], ◌∷◌, Option, Some, None, refl, sym, ◌∙◌, ap, subst, ◌⊎◌, inl, inr, length}
 use Rattle.std.specs.Option.{option_map, option_or, is_none}
 use Rattle.role_steps.proofs.of_plain_facts.Numbers.{equal}
 use Rattle.role_steps.proofs.of_plain_facts.Options.{none_some, some_none}
@@ -43,7 +43,7 @@ use Rattle.tree_laws.specs.Printed.{entries}
 use Rattle.tree_laws.specs.Doing.{FrameFact, StoreFine, StoreHeld}
 use Rattle.tree_laws.specs.Following.{MayTell, MayBegin, IsFollowed}
 use Rattle.tree_laws.specs.Frames.{AllStay, VersionsStay}
-use Rattle.tree_laws.specs.Packets.{PacketFact, PlainOpenSs}
+use Rattle.tree_laws.specs.Packets.{BegunSize, HasSize, PacketFact, PlainOpenSs}
 use Rattle.tree_laws.specs.Past.{GrantRecord, Printed, ShutsIt, WasBegun, WasGranted, WasShut}
 use Rattle.tree_laws.specs.Stores.{HoldsMade, InstanceFact, LiesAs, PlainLies, WorksAs, copy_for}
 use Rattle.tree_laws.proofs.CarriedLooks.{More}
@@ -51,9 +51,12 @@ use Rattle.tree_laws.proofs.CarriedVersions.{joins_stay}
 use Rattle.lawful_trace.specs.TreeRows.{IsCallIn}
 use Rattle.tree_laws.proofs.Versions.{versions_stay}
 use Rattle.sync_laws.specs.of_order_laws.Joining.{PacksAreOfSites}
+use Rattle.tree_laws.proofs.Rows.{followed_rows}
+use Rattle.store_laws.proofs.Holding.{held_stands}
+use Rattle.store_laws.proofs.Differing.{steps_stay}
 use Rattle.store_laws.specs.Rests.{AllStays, IsAsGranted, IsUnbegun, StoreRests}
 use Rattle.store_laws.proofs.Begun.{granted_named, named_of}
-use Rattle.store_laws.proofs.Places.{plain_place}
+use Rattle.store_laws.proofs.Places.{AreOne, granted_once, plain_place}
 use Rattle.user_laws.proofs.OpenGrants.{only_some}
 use Rattle.store_laws.proofs.Staying.{instance_more}
 use Rattle.store_laws.proofs.Tabled.{apart_latest, every_latest, latest_has, latest_same}
@@ -67,8 +70,8 @@ to_sync_sent c trace f group b k = over (sync_site f.config f.members group)
     over None = tt
     over (Some to) = (k to, tt)
 
-pub opened_sent : (c : Config) (trace : List Line) (f : Frame) (i : Instance) → WasBegun trace f.me f.epoch i.inst i.file → Every (PacketFact c trace) (opened_packets f i)
-opened_sent c trace f i b = to_sync_sent c trace f i.file.group (body.Opened i.inst (opened.Open i.file.ino i.size)) (λ to. (i.file, b, refl))
+pub opened_sent : (c : Config) (trace : List Line) (f : Frame) (i : Instance) → WasBegun trace f.me f.epoch i.inst i.file → BegunSize c trace f.epoch i.inst i.size → Every (PacketFact c trace) (opened_packets f i)
+opened_sent c trace f i b sized = to_sync_sent c trace f i.file.group (body.Opened i.inst (opened.Open i.file.ino i.size)) (λ to. (i.file, b, refl, sized))
 
 -- ---- what was shut was begun ----
 
@@ -188,6 +191,7 @@ with_new c n trace few h f s held i may stay fact = record {
     instances = every_latest instance_key i (InstanceFact c trace f) (InstanceFact c (More n (Begins f.me f.epoch i.inst i.file) trace) f) s.instances (λ j other k. instance_more c n (Begins f.me f.epoch i.inst i.file) trace few h may stay f j tt k) held.instances.apart held.instances.instances fact;
     apart = apart_latest instance_key i s.instances held.instances.apart;
     has = has;
+    steps = steps_stay c trace (More n (Begins f.me f.epoch i.inst i.file) trace) (versions_stay c n (Begins f.me f.epoch i.inst i.file) trace h may stay.fresh stay.order) s.steps held.instances.steps;
   };
 }
   where
@@ -203,7 +207,7 @@ plain_begun c n trace few h rests f frame s held r plain k new stays = record {
   told = (may, tt);
   own = (refl, tt);
   view = with_new c n trace few h f s held i may (stays may).0 fact;
-  sent = opened_sent c after f i (inl (record { site_is = refl; epoch_is = refl; serial_is = refl; file_is = refl }));
+  sent = opened_sent c after f i fact.begun fact.sized;
   written = tt;
 }
   where
@@ -264,9 +268,24 @@ plain_begun c n trace few h rests f frame s held r plain k new stays = record {
     user = (let d : (d : CallId) × (r.inst.us ≡ d.site) × IsCallIn (entries trace) f.epoch d = named_of c trace h f.epoch r.inst (granted_named trace f.epoch k.call k.request r.inst r.mode r.file k.stamp f.me k.was_granted) in
         subst (λ (u : ℕ). u ≤ sites_max) (sym d.1) (rests.sites f.epoch d.0 d.2))
 
+    -- it finds the bytes of the version on which it was granted
+    own_size : (v : Stamp) → k.stamp ≡ Some v → HasSize c after r.file mode.Read k.stamp i.size
+    own_size v e = (v, e, held_stands c (entries trace) (followed_rows c trace h) f.me r.file v (sym (rests.inside f.epoch f.me r.file frame.inside) ∙ (granted.holds ∙ e)), sym (ap (λ (o : Option FileCopy). length (content_of o)) (copy_is ∙ ap (λ (o : Option Stamp). option_map (copy_for r.file) (option_map (version_of c (entries trace) r.file) o)) e)))
+
+    size_now : (call : CallId) (request : ℕ) (g : FileId) (stamp : Option Stamp) (site : ℕ) → WasGranted after f.epoch call request r.inst mode.Read g stamp site → HasSize c after g mode.Read stamp i.size
+    size_now call request g stamp site (inl p) = absurd p
+    size_now call request g stamp site (inr was) = subst (λ (y : FileId). HasSize c after y mode.Read stamp i.size) once.file_is (subst (λ (o : Option Stamp). HasSize c after r.file mode.Read o i.size) once.stamp_is (own_size on.0 (once.stamp_is ∙ on.1)))
+      where
+        once : AreOne k.call call r.mode mode.Read r.file g k.stamp stamp f.me site
+        once = granted_once c trace h f.epoch k.call call k.request request r.inst r.mode mode.Read r.file g k.stamp stamp f.me site k.was_granted was
+
+        on : (v : Stamp) × (stamp ≡ Some v)
+        on = granted_on c trace h f.epoch call request r.inst mode.Read g stamp site was
+
     fact : InstanceFact c after f i
     fact = record {
       begun = inl (record { site_is = refl; epoch_is = refl; serial_is = refl; file_is = refl });
+      sized = size_now;
       user = user;
       vector_is = joins_stay c trace after versions r.file r.parents r.vector k.vector_is;
       lies = plain_as c after f i r.mode plain (record { stamp = k.some.0; stands = k.some.1; set_is = k.set_is; kind_is = k.kind_is });

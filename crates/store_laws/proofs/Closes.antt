@@ -69,6 +69,7 @@ with_stage c trace f s kept i t k next = record {
   instances = record {
     instances = every_latest instance_key (record i { stage = t }) (InstanceFact c trace f) (InstanceFact c trace f) s.instances (λ j other fact. fact) kept.instances.apart kept.instances.instances fact;
     apart = apart_latest instance_key (record i { stage = t }) s.instances kept.instances.apart;
+    steps = kept.instances.steps;
     has = λ j file b. latest_has instance_key (record i { stage = t }) (serial_key j) s.instances (kept.instances.has j file b);
   };
 }
@@ -87,6 +88,7 @@ with_stage c trace f s kept i t k next = record {
     fact : InstanceFact c trace f (record i { stage = t })
     fact = record {
       begun = k.begun;
+      sized = k.sized;
       user = k.user;
       vector_is = k.vector_is;
       lies = lies_with c trace f i i.vector i.parents i.work i.answered t i.mode k.lies;

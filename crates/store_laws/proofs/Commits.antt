@@ -44,7 +44,7 @@ use Rattle.commit_graph.specs.declared.history.Version.{Version}
 use Rattle.trace_book.specs.declared.record.Record.TheVariants as says
 use Rattle.file_effects.specs.Works.{committed}
 use Rattle.file_effects.specs.declared.work.Work.{Work}
-use Rattle.role_steps.specs.Storage.{commit_record, copy_key, copy_made, copy_of, instance_committed, instance_key, next_stamp, next_vector, with_copy}
+use Rattle.role_steps.specs.Storage.{commit_record, copy_key, copy_made, copy_of, instance_committed, instance_key, next_stamp, next_vector, with_commit}
 use Rattle.role_steps.specs.Views.{Frame, Store, Told, Shown, file_key}
 use Rattle.role_steps.specs.declared.instances.Instance.{Instance}
 use Rattle.the_run.specs.Worlds.{Line}
@@ -329,29 +329,32 @@ module _ (c : Config) (n : ℕ) (trace : List Line) (few : PacksAreOfSites c) (h
     file_now : LiesNow c after i
     file_now = lies_now i.mode refl k.lies
 
+    pub narrow_now : i.file.ino < inode_span
+    narrow_now = file_now.narrow
+
     -- ---- the disk ----
 
     copy_is : copy_made i (next_vector f i) (next_stamp f (next_vector f i)) ≡ copy_for i.file (version_of c (entries after) i.file (next_stamp f (next_vector f i)))
     copy_is = λ j. record { file = i.file; kind = sym file_now.kind_is j; set = sym file_now.set_is j; stamp = next_stamp f (next_vector f i); vector = written j; content = sym content_now j }
 
-    own_copy : (g : FileId) → i.file ≡ g → copy_of (with_copy (copy_made i (next_vector f i) (next_stamp f (next_vector f i))) s) g ≡ option_map (copy_for g) (held_version c (entries after) f.me g)
-    own_copy g same = subst (λ (y : FileId). copy_of (with_copy (copy_made i (next_vector f i) (next_stamp f (next_vector f i))) s) y ≡ option_map (copy_for y) (held_version c (entries after) f.me y)) same
+    own_copy : (g : FileId) → i.file ≡ g → copy_of (with_commit i (next_vector f i) (next_stamp f (next_vector f i)) s) g ≡ option_map (copy_for g) (held_version c (entries after) f.me g)
+    own_copy g same = subst (λ (y : FileId). copy_of (with_commit i (next_vector f i) (next_stamp f (next_vector f i)) s) y ≡ option_map (copy_for y) (held_version c (entries after) f.me y)) same
         (row_same copy_key (copy_made i (next_vector f i) (next_stamp f (next_vector f i))) s.copies ∙ (ap Some copy_is ∙ sym (ap (λ (o : Option Stamp). option_map (copy_for i.file) (option_map (version_of c (entries after) i.file) o)) held_own)))
       where
         held_own : held c (entries after) f.me i.file ≡ Some (next_stamp f (next_vector f i))
         held_own = ap (λ (b : Bool). cond b (Some (next_stamp f (next_vector f i))) (held c (entries trace) f.me i.file)) (and_true (same_file i.file i.file) (f.me == f.me) (file_own i.file) (equal_self f.me))
 
-    other_copy : (g : FileId) → g.ino < inode_span → same_file i.file g ≡ false → copy_of (with_copy (copy_made i (next_vector f i) (next_stamp f (next_vector f i))) s) g ≡ option_map (copy_for g) (held_version c (entries after) f.me g)
+    other_copy : (g : FileId) → g.ino < inode_span → same_file i.file g ≡ false → copy_of (with_commit i (next_vector f i) (next_stamp f (next_vector f i)) s) g ≡ option_map (copy_for g) (held_version c (entries after) f.me g)
     other_copy g narrow other = row_other copy_key (copy_made i (next_vector f i) (next_stamp f (next_vector f i))) (file_key g) s.copies (λ e. true_false (sym (keys_same i.file g file_now.narrow narrow e) ∙ other))
         ∙ (kept.copies.are g narrow ∙ sym (ap (λ (o : Option Stamp). option_map (copy_for g) (option_map (version_of c (entries after) g) o)) held_other ∙ versions_same c trace after versions g (held c (entries trace) f.me g) (λ t e. held_stands c (entries trace) (followed_rows c trace h) f.me g t e)))
       where
         held_other : held c (entries after) f.me g ≡ held c (entries trace) f.me g
         held_other = ap (λ (b : Bool). cond (b && (f.me == f.me)) (Some (next_stamp f (next_vector f i))) (held c (entries trace) f.me g)) other
 
-    pub copies_now : CopiesAreHeld c after f.me (with_copy (copy_made i (next_vector f i) (next_stamp f (next_vector f i))) s)
+    pub copies_now : CopiesAreHeld c after f.me (with_commit i (next_vector f i) (next_stamp f (next_vector f i)) s)
     copies_now = record { are = λ g narrow. over g narrow (same_file i.file g) refl; ascends = ascends_row copy_key (copy_made i (next_vector f i) (next_stamp f (next_vector f i))) s.copies kept.copies.ascends }
       where
-        over : (g : FileId) → g.ino < inode_span → (b : Bool) → same_file i.file g ≡ b → copy_of (with_copy (copy_made i (next_vector f i) (next_stamp f (next_vector f i))) s) g ≡ option_map (copy_for g) (held_version c (entries after) f.me g)
+        over : (g : FileId) → g.ino < inode_span → (b : Bool) → same_file i.file g ≡ b → copy_of (with_commit i (next_vector f i) (next_stamp f (next_vector f i)) s) g ≡ option_map (copy_for g) (held_version c (entries after) f.me g)
         over g narrow true e = own_copy g (same_file_eq i.file g e)
         over g narrow false e = other_copy g narrow e
 

@@ -8,7 +8,7 @@ use Rattle.locus_ids.specs.declared.ids.Serial.{Serial}
 use Rattle.locus_ids.specs.declared.ids.Stamp.{Stamp}
 use Rattle.commit_graph.specs.Grants.{is_read}
 use Rattle.trace_book.specs.declared.operation.Outcome.{Outcome as Result}
-use Rattle.role_steps.specs.Storage.{commit_record, commit_write, copy_made, instance_committed, instance_key, instance_of, next_stamp, next_vector, with_copy, with_instance}
+use Rattle.role_steps.specs.Storage.{commit_record, commit_write, instance_committed, instance_key, instance_of, next_stamp, next_vector, with_instance, with_commit}
 use Rattle.role_steps.specs.Views.{Frame, Store, Told, Shown, serial_key}
 use Rattle.role_steps.specs.declared.instances.Instance.{Instance}
 use Rattle.the_run.specs.Worlds.{Line}
@@ -24,6 +24,9 @@ use Rattle.tree_laws.specs.Frames.{AllStay}
 use Rattle.tree_laws.specs.Past.{WasBegun, WasShut}
 use Rattle.tree_laws.specs.Stores.{AnsweredFact, CopiesAreHeld, HoldsMade, InstanceFact, WorksAs}
 use Rattle.sync_laws.specs.of_order_laws.Joining.{PacksAreOfSites}
+use Rattle.tree_laws.proofs.CarriedSizes.{begun_size_stays}
+use Rattle.tree_laws.proofs.Versions.{versions_stay}
+use Rattle.store_laws.proofs.Remembering.{steps_committed}
 use Rattle.store_laws.specs.Rests.{StoreRests}
 use Rattle.store_laws.proofs.Closes.{lies_with}
 use Rattle.store_laws.proofs.Commits.{committing_is, copies_now, has_now, joins_now, lies_after, may_commit, others_now}
@@ -47,10 +50,10 @@ module _ (c : Config) (n : ℕ) (trace : List Line) (few : PacksAreOfSites c) (h
   made_instance = instance_committed i (next_vector f i) (next_stamp f (next_vector f i))
 
   abbrev disk : Store
-  disk = with_copy (copy_made i (next_vector f i) (next_stamp f (next_vector f i))) s
+  disk = with_commit i (next_vector f i) (next_stamp f (next_vector f i)) s
 
   abbrev now : Store
-  now = with_instance (instance_committed i (next_vector f i) (next_stamp f (next_vector f i))) (with_copy (copy_made i (next_vector f i) (next_stamp f (next_vector f i))) s)
+  now = with_instance (instance_committed i (next_vector f i) (next_stamp f (next_vector f i))) (with_commit i (next_vector f i) (next_stamp f (next_vector f i)) s)
 
   pub may : MayTell c trace told
   may = may_commit c n trace few h rests f frame s kept i k x w unshut owes writes
@@ -73,6 +76,7 @@ module _ (c : Config) (n : ℕ) (trace : List Line) (few : PacksAreOfSites c) (h
     pub begun_after : IsBegunSo c after f made_instance
     begun_after = record {
       begun = inr k.begun;
+      sized = begun_size_stays c n told trace h may (versions_stay c n told trace h may stay.fresh stay.order) f.epoch f.me i.inst i.file i.size k.begun k.sized;
       user = k.user;
       vector_is = joins_now c n trace few h rests f frame s kept i k x w unshut owes writes;
       lies = lies_with c after f i vector (stamp ∷ []) made_instance.work i.answered i.stage i.mode (lies_after c n trace few h rests f frame s kept i k x w unshut owes writes stay);
@@ -87,6 +91,7 @@ module _ (c : Config) (n : ℕ) (trace : List Line) (few : PacksAreOfSites c) (h
           (λ j other y. λ ne. others_now c n trace few h rests f frame s kept i k x w unshut owes writes stay j other y) kept.instances.apart kept.instances.instances (λ ne. absurd (ne refl));
       apart = apart_latest instance_key made_instance s.instances kept.instances.apart;
       has = has_after;
+      steps = steps_committed c n trace few h rests f frame s kept i k x w unshut owes writes stay;
     }
       where
         copies : CopiesAreHeld c after f.me disk

@@ -10,7 +10,7 @@ use Rattle.commit_graph.specs.Grants.{is_read}
 use Rattle.trace_book.specs.declared.record.Record.TheVariants as says
 use Rattle.wire_messages.specs.declared.body.CloseAnswer.TheVariants as closing
 use Rattle.role_steps.specs.Reports.{stamp_made}
-use Rattle.role_steps.specs.Storage.{closes, closes_owing, commit_record, commits, content_of, copy_key, copy_made, copy_of, instance_committed, instance_key, instance_of, is_spent, made_version, next_stamp, next_vector, on_close, on_close_at, on_close_of, shuts, shuts_again, with_copy, with_instance}
+use Rattle.role_steps.specs.Storage.{closes, closes_owing, commit_record, commits, content_of, copy_key, copy_made, copy_of, instance_committed, instance_key, instance_of, is_spent, made_version, next_stamp, next_vector, on_close, on_close_at, on_close_of, shuts, shuts_again, with_instance, with_commit}
 use Rattle.role_steps.specs.Views.{Frame, Store, Told, Shown, Shuts, and_then, joined_to, serial_key, Outcome}
 use Rattle.role_steps.specs.declared.instances.Instance.{Instance}
 use Rattle.role_steps.specs.declared.instances.Stage.{Stage}
@@ -84,7 +84,7 @@ module _ (c : Config) (n : ℕ) (trace : List Line) (few : PacksAreOfSites c) (h
     made_instance = instance_committed i (next_vector f i) (next_stamp f (next_vector f i))
 
     abbrev now : Store
-    now = with_instance (instance_committed i (next_vector f i) (next_stamp f (next_vector f i))) (with_copy (copy_made i (next_vector f i) (next_stamp f (next_vector f i))) s)
+    now = with_instance (instance_committed i (next_vector f i) (next_stamp f (next_vector f i))) (with_commit i (next_vector f i) (next_stamp f (next_vector f i)) s)
 
     module _ (stay : AllStay c trace after told) where
       made_after : MaybeMade c after f.epoch f.me i.inst (made_version made_instance (copy_of now i.file) (Some stamp))

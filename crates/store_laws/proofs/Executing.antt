@@ -35,7 +35,7 @@ use Rattle.file_effects.specs.declared.work.Work.{Work}
 use Rattle.role_steps.specs.OperationEffects.{Mending, has_several, joined_contents, mend_effect}
 use Rattle.role_steps.specs.Operations.{abort_op, act_record, acts, acts_committed, by_number, commits_owing, executes, executes_effect, last_committed, on_op, on_op_at, on_op_of, op_again}
 use Rattle.role_steps.specs.Own.{Every}
-use Rattle.role_steps.specs.Storage.{commit_record, commits, content_of, copy_made, copy_of, free_pages, instance_committed, instance_key, instance_of, is_spent, next_stamp, next_vector, with_copy, with_instance}
+use Rattle.role_steps.specs.Storage.{commit_record, commits, content_of, copy_of, free_pages, instance_committed, instance_key, instance_of, is_spent, next_stamp, next_vector, with_instance, with_commit}
 use Rattle.role_steps.specs.Views.{Frame, Store, Told, Shown, Outcome, and_then, joined_to, quiet, sends, serial_key}
 use Rattle.role_steps.specs.declared.instances.Instance.{Instance}
 use Rattle.role_steps.specs.declared.instances.Stage.{Stage}
@@ -185,7 +185,7 @@ module _ (c : Config) (n : ℕ) (trace : List Line) (few : PacksAreOfSites c) (h
     made_instance = instance_committed i (next_vector f i) (next_stamp f (next_vector f i))
 
     abbrev later : Store
-    later = with_instance (instance_committed i (next_vector f i) (next_stamp f (next_vector f i))) (with_copy (copy_made i (next_vector f i) (next_stamp f (next_vector f i))) s)
+    later = with_instance (instance_committed i (next_vector f i) (next_stamp f (next_vector f i))) (with_commit i (next_vector f i) (next_stamp f (next_vector f i)) s)
 
     abbrev now : Open
     now = once_committed (next_stamp f (next_vector f i)) x

@@ -1,5 +1,5 @@
 -- What a site holds by the trace stands, and is what it was while others tell.
-use Rattle.std.proofs.Common.{◌≡◌, ℕ, ◌==◌, Bool, true, false, cond, ◌&&◌, List, [], ◌∷◌, Option, Some, None, refl, sym, ◌∙◌, ap, subst}
+use Rattle.std.proofs.Common.{◌≡◌, ℕ, ◌==◌, Bool, true, false, cond, ◌&&◌, List, [], ◌∷◌, Option, Some, None, refl, sym, ◌∙◌, ap, subst, ◌⊎◌, inl, inr}
 use Rattle.std.specs.Option.{option_map}
 use Rattle.role_steps.proofs.of_plain_facts.Numbers.{apart_test, equal}
 use Rattle.role_steps.proofs.of_plain_facts.Options.{none_some, some_same}
@@ -20,7 +20,7 @@ use Rattle.tree_model.specs.Packs.{has_pack}
 use Rattle.lawful_trace.specs.Lawful.{MayCome}
 use Rattle.tree_laws.specs.Printed.{entries, onto_entries}
 use Rattle.tree_laws.specs.Following.{MayTell, IsFollowed, RowsAreLawful}
-use Rattle.tree_laws.specs.Frames.{VersionsStay, AllStay}
+use Rattle.tree_laws.specs.Frames.{VersionsStay, AllStay, IsFresh}
 use Rattle.tree_laws.specs.Instances.{Stands}
 use Rattle.tree_laws.specs.Doing.{IsAdopted, IsAdoptedRecord, IsOfStore, IsStoreRecord}
 use Rattle.tree_laws.specs.Stores.{CopiesAreHeld, copy_for}
@@ -30,6 +30,7 @@ use Rattle.tree_laws.proofs.Rows.{followed_rows}
 use Rattle.tree_laws.proofs.Versions.{versions_stay}
 use Rattle.sync_laws.proofs.of_order_laws.Knowing.{versions_stand}
 use Rattle.sync_laws.proofs.of_order_laws.Standing.{same_file_eq, newest, roots_stand}
+use Rattle.store_laws.specs.Pulling.{AdoptsFile, MakesVersion}
 
 -- ---- what is held stands ----
 
@@ -86,3 +87,35 @@ copies_stay c n x older h may stay me e s away unadopted k = record { are = λ f
     same : (f : FileId) → option_map (copy_for f) (held_version c (entries (More n x older)) me f) ≡ option_map (copy_for f) (held_version c (entries older) me f)
     same f = ap (λ (o : Option Stamp). option_map (copy_for f) (option_map (version_of c (entries (More n x older)) f) o)) (held_elsewhere c n x older me e f away unadopted)
         ∙ versions_same c older (More n x older) versions f (held c (entries older) me f) (λ t e. held_stands c (entries older) (followed_rows c older h) me f t e)
+
+-- ---- what a site holds after a line ----
+
+-- the same, or what it has just committed
+abbrev pub HeldAfter : Config → ℕ → Told → List Line → ℕ → FileId → Type 0
+HeldAfter c n x older me f = (held c (onto_entries n x (entries older)) me f ≡ held c (entries older) me f) ⊎ ((s : Stamp) × MakesVersion me f s x × (held c (onto_entries n x (entries older)) me f ≡ Some s))
+
+held_after_record : (c : Config) (n : ℕ) (older : List Line) (r : Record) (me : ℕ) (f : FileId) → (AdoptsFile me f (Shown r) → ⊥) → HeldAfter c n (Shown r) older me f
+held_after_record c n older (says.Commit g site stamp parents content) me f away = over (same_file g f && (site == me)) refl
+  where
+    over : (b : Bool) → (same_file g f && (site == me)) ≡ b → (cond b (Some stamp) (held c (entries older) me f) ≡ held c (entries older) me f) ⊎ ((s : Stamp) × ((g ≡ f) × (site ≡ me) × (stamp ≡ s)) × (cond b (Some stamp) (held c (entries older) me f) ≡ Some s))
+    over true e = inr (stamp, (same_file_eq g f (and_first (same_file g f) (site == me) e), equal site me (and_second (same_file g f) (site == me) e), refl), refl)
+    over false e = inl refl
+held_after_record c n older (says.Adopt g site stamp) me f away = over (same_file g f && (site == me)) refl
+  where
+    over : (b : Bool) → (same_file g f && (site == me)) ≡ b → (cond b (Some stamp) (held c (entries older) me f) ≡ held c (entries older) me f) ⊎ ((s : Stamp) × ⊥ × (cond b (Some stamp) (held c (entries older) me f) ≡ Some s))
+    over true e = absurd (away (same_file_eq g f (and_first (same_file g f) (site == me) e), equal site me (and_second (same_file g f) (site == me) e)))
+    over false e = inl refl
+held_after_record c n older _ me f away = inl refl
+
+pub held_after : (c : Config) (n : ℕ) (x : Told) (older : List Line) (me : ℕ) (f : FileId) → (AdoptsFile me f x → ⊥) → HeldAfter c n x older me f
+held_after c n (Shown r) older me f away = held_after_record c n older r me f away
+held_after c n _ older me f away = inl refl
+
+-- what is committed has a stamp that didn't stand
+fresh_record : (c : Config) (older : List Line) (r : Record) (me : ℕ) (f : FileId) (s : Stamp) → IsFresh c older (Shown r) → MakesVersion me f s (Shown r) → Stands c older f s → ⊥
+fresh_record c older (says.Commit g site stamp parents content) me f s fresh made stands = fresh (subst (λ (y : FileId). Stands c older y stamp) (sym made.0) (subst (Stands c older f) (sym made.2) stands))
+fresh_record c older _ me f s fresh made stands = absurd made
+
+pub fresh_made : (c : Config) (older : List Line) (x : Told) (me : ℕ) (f : FileId) (s : Stamp) → IsFresh c older x → MakesVersion me f s x → Stands c older f s → ⊥
+fresh_made c older (Shown r) me f s fresh made stands = fresh_record c older r me f s fresh made stands
+fresh_made c older _ me f s fresh made stands = absurd made

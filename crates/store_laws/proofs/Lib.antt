@@ -1,4 +1,5 @@
 pub mod Tabled
+pub mod Differing
 pub mod Begun
 pub mod Holding
 pub mod Makers
@@ -17,9 +18,12 @@ pub mod Closes
 pub mod Raising
 pub mod Commits
 pub mod Shutting
+pub mod Remembering
 pub mod Committed
 pub mod Ending
+pub mod PulledPages
 pub mod Pulls
+pub mod PullsComing
 pub mod Effects
 pub mod Operating
 pub mod Executing
@@ -61,3 +65,4 @@ pub use Rattle.sync_laws.proofs as of_sync_laws
 pub use Rattle.sync_laws.proofs.of_order_laws as of_order_laws
 pub use Rattle.user_laws.proofs as of_user_laws
 pub use Rattle.user_laws.proofs.of_holding_laws as of_holding_laws
+pub use Rattle.work_laws.proofs as of_work_laws

@@ -34,6 +34,9 @@ use Rattle.tree_laws.specs.Stores.{InstanceFact}
 use Rattle.tree_laws.proofs.Making.{begun_place}
 use Rattle.tree_laws.proofs.Serials.{unnamed}
 use Rattle.sync_laws.specs.of_order_laws.Joining.{PacksAreOfSites}
+use Rattle.tree_laws.proofs.Versions.{versions_stay}
+use Rattle.store_laws.proofs.Begun.{granted_named}
+use Rattle.store_laws.proofs.Differing.{steps_stay}
 use Rattle.store_laws.specs.Rests.{AllStays, IsUnbegun, StoreRests}
 use Rattle.store_laws.proofs.Beginning.{opened_sent, plain_begun, shut_begun, to_sync_sent}
 use Rattle.store_laws.proofs.Numbers.{begun_used, holds_copy, so_used, used_so}
@@ -198,6 +201,7 @@ module _ (c : Config) (n : ℕ) (trace : List Line) (few : PacksAreOfSites c) (h
       fact : InstanceFact c after f i
       fact = record {
         begun = begun;
+        sized = λ call request g stamp site was. absurd (nobody_after (granted_named after f.epoch call request inst mode.Read g stamp site was));
         user = subst (λ (u : ℕ). u ≤ sites_max) (sym now.user_is) (rests.sites f.epoch now.call now.asks.inside);
         vector_is = subst (λ (ps : List Stamp). JoinsParents c after made ps vector) (sym no_parents) joins;
         lies = (now.call, inl (record { now = makes_after; call_is = refl }), set_is, kind_is, inl (record { site_is = refl; epoch_is = refl; serial_is = refl; file_is = refl }));
@@ -222,9 +226,11 @@ module _ (c : Config) (n : ℕ) (trace : List Line) (few : PacksAreOfSites c) (h
                 (λ j other k. instance_more c n reserves_it between few (may_begin, h) may_reserve ((stays may_begin).1 may_reserve).0 f j tt (instance_more c n begins_it trace few h may_begin (stays may_begin).0 f j tt k)) held_so.instances.apart held_so.instances.instances fact;
             apart = apart_latest instance_key i s.instances held_so.instances.apart;
             has = has_after;
+            steps = steps_stay c between after (versions_stay c n reserves_it between (may_begin, h) may_reserve ((stays may_begin).1 may_reserve).0.fresh ((stays may_begin).1 may_reserve).0.order) s.steps
+                (steps_stay c trace between (versions_stay c n begins_it trace h may_begin (stays may_begin).0.fresh (stays may_begin).0.order) s.steps held_so.instances.steps);
           };
         };
-        sent = opened_sent c after f i begun;
+        sent = opened_sent c after f i begun fact.sized;
         written = tt;
       }
 
@@ -252,7 +258,7 @@ opened_again : (c : Config) (n : ℕ) (trace : List Line) (f : Frame) (s : Store
 opened_again c n trace f s kept i k = record { told = tt; own = tt; view = kept; sent = over (is_open i.stage); written = tt }
   where
     over : (b : Bool) → Every (PacketFact c trace) (cond b (opened_packets f i) [])
-    over true = opened_sent c trace f i k.begun
+    over true = opened_sent c trace f i k.begun k.sized
     over false = tt
 
 -- an instance that isn't there is begun

@@ -53,6 +53,8 @@ use Rattle.tree_laws.proofs.Kinship.{tree_epoch_is}
 use Rattle.tree_laws.proofs.Names.{same_epoch_own}
 use Rattle.tree_laws.proofs.Versions.{versions_stay}
 use Rattle.sync_laws.specs.of_order_laws.Joining.{PacksAreOfSites}
+use Rattle.tree_laws.proofs.CarriedSizes.{begun_size_stays}
+use Rattle.store_laws.proofs.Differing.{steps_stay}
 use Rattle.store_laws.proofs.Closes.{lies_with}
 use Rattle.store_laws.proofs.Effects.{GoesOn, outcome_own}
 use Rattle.store_laws.proofs.Makers.{lies_stay}
@@ -190,6 +192,7 @@ module _ (c : Config) (n : ℕ) (trace : List Line) (few : PacksAreOfSites c) (h
     fact : InstanceFact c after f gone_on
     fact = record {
       begun = inr b.begun;
+      sized = begun_size_stays c n (act_record f i w.ops o r) trace h may_act versions f.epoch f.me i.inst i.file i.size b.begun b.sized;
       user = b.user;
       vector_is = joins_stay c trace after versions i.file i.parents i.vector b.vector_is;
       lies = lies_with c after f i i.vector i.parents w (Some r) i.stage i.mode (lies_stay c n (act_record f i w.ops o r) trace h may_act versions f i b.begun i.mode b.lies);
@@ -206,6 +209,7 @@ module _ (c : Config) (n : ℕ) (trace : List Line) (few : PacksAreOfSites c) (h
             (λ j other y. instance_more c n (act_record f i w.ops o r) trace few h may_act stay f j (λ p q. other (ap serial_key (sym q))) (y other)) kept.apart kept.others fact;
         apart = apart_latest instance_key gone_on s.instances kept.apart;
         has = has_after;
+        steps = steps_stay c trace after versions s.steps kept.steps;
       };
     }
       where

@@ -1,11 +1,11 @@
--- Pulls: what a site pulls is a version that is known, of a file of which one version is kept, and its pages are those of the version.
-use Rattle.std.proofs.Common.{◌≡◌, ℕ, zero, suc, ◌+◌, ◌*◌, ◌<◌, ◌≤◌, ◌==◌, min, Bool, true, false, not, cond, ◌&&◌, ◌||◌, List, [], ◌∷◌, ◌++◌, length, take, drop, Option, Some, None, refl, sym, ◌∙◌, ap, subst, arith, ◌⊎◌, inl, inr}
-use Rattle.std.specs.Prelude.{nat_lt}
+-- Pulls: what a site pulls is a version that is known, of a file of which one version is kept, over the version that it has; its pages are
+-- those of the version, and all in which the two differ. So it stays while lines are told, and so does a notice leave it.
+use Rattle.std.proofs.Common.{◌≡◌, ℕ, ◌*◌, ◌-◌, ◌<◌, ◌≤◌, Bool, true, false, cond, ◌||◌, List, [], ◌∷◌, length, Option, Some, None, refl, sym, ◌∙◌, ap, subst, arith, inl, inr}
 use Rattle.std.specs.List.{list_any}
+use Rattle.std.specs.Option.{option_map}
 use Rattle.std.proofs.lemmas.Bool.Decides.{nat_tests}
-use Rattle.std.proofs.lemmas.List.{length-take}
-use Rattle.role_steps.proofs.of_plain_facts.Numbers.{equal}
-use Rattle.role_steps.proofs.of_plain_facts.Tests.{and_first, and_second, true_false}
+use Rattle.role_steps.proofs.of_plain_facts.Options.{none_some, some_same}
+use Rattle.role_steps.proofs.of_plain_facts.Tests.{true_false}
 use Rattle.locus_ids.specs.declared.config.Config.{Config}
 use Rattle.locus_ids.specs.declared.ids.EpochId.{EpochId}
 use Rattle.locus_ids.specs.declared.ids.FileId.{FileId}
@@ -13,94 +13,125 @@ use Rattle.locus_ids.specs.declared.ids.Kind.{Kind}
 use Rattle.locus_ids.specs.declared.ids.Stamp.{Stamp}
 use Rattle.locus_ids.specs.declared.sites.Sites.{Sites}
 use Rattle.locus_ids.specs.Sizes.{inode_span, page_bytes}
+use Rattle.commit_graph.specs.Vectors.{vector_of}
 use Rattle.commit_graph.specs.Versions.{is_ancestor, is_version, same_stamp}
 use Rattle.commit_graph.specs.declared.history.Version.{Version}
-use Rattle.file_content.specs.Pages.{page_of, pages_of}
+use Rattle.file_content.specs.Pages.{pages_from, pages_of}
 use Rattle.wire_messages.specs.declared.body.Body.TheVariants as body
 use Rattle.role_steps.specs.Own.{Every}
-use Rattle.role_steps.specs.Pulling.{begins_pull, goes_on, is_awaited, is_complete, next_page, on_notify, on_page, on_page_of, pull_key, pull_of, pull_packets, replaces_pull}
+use Rattle.role_steps.specs.Pulling.{begins_pull, goes_on, is_complete, next_asked, on_notify, pull_key, pull_of, pull_over, pull_packets, replaces_pull}
 use Rattle.role_steps.specs.Storage.{copy_of}
-use Rattle.role_steps.specs.Tables.{with_row}
 use Rattle.role_steps.specs.Versions.{is_below}
-use Rattle.role_steps.specs.Views.{Frame, Store, Told, file_key, packet, quiet, sends}
+use Rattle.role_steps.specs.Views.{Frame, Store, Told, packet, quiet, sends}
 use Rattle.role_steps.specs.declared.copies.FileCopy.{FileCopy}
 use Rattle.role_steps.specs.declared.pulls.Pull.{Pull}
 use Rattle.the_run.specs.Worlds.{Line}
-use Rattle.tree_model.specs.Files.{HeldVersion, version_of}
-use Rattle.tree_model.specs.Histories.{history}
+use Rattle.tree_model.specs.Epochs.{has_joined}
+use Rattle.tree_model.specs.Files.{HeldVersion, held_version, version_of}
+use Rattle.tree_model.specs.Histories.{held, history}
 use Rattle.tree_laws.specs.Printed.{entries}
+use Rattle.tree_laws.specs.Deltas.{BaseFact, PullsOver}
 use Rattle.tree_laws.specs.Doing.{FrameFact, PullsFact, PullsFine}
 use Rattle.tree_laws.specs.Following.{MayTell, IsFollowed}
 use Rattle.tree_laws.specs.Frames.{AllStay, VersionsStay}
 use Rattle.tree_laws.specs.Instances.{HasAtLeast, Stands}
-use Rattle.tree_laws.specs.Packets.{NotifyFact, PacketFact, PageFact}
-use Rattle.tree_laws.specs.Stores.{CopiesAreHeld, PullFact}
+use Rattle.tree_laws.specs.Packets.{NotifyFact, PacketFact}
+use Rattle.tree_laws.specs.Stores.{CopiesAreHeld, PullFact, copy_for}
 use Rattle.tree_laws.proofs.CarriedLooks.{More}
-use Rattle.tree_laws.proofs.CarriedVersions.{version_stays}
-use Rattle.tree_laws.proofs.Boots.{every_both}
+use Rattle.tree_laws.proofs.CarriedVersions.{same_version_of, version_stays}
 use Rattle.tree_laws.proofs.Kinship.{started_stays}
+use Rattle.tree_laws.proofs.Rows.{followed_rows}
 use Rattle.tree_laws.proofs.Versions.{versions_stay}
 use Rattle.sync_laws.proofs.of_order_laws.Standing.{same_stamp_eq}
+use Rattle.sync_laws.proofs.Members.{inside_joined}
+use Rattle.store_laws.specs.Pulling.{AdoptsFile, MakesVersion, NewAreNotBelow}
 use Rattle.store_laws.specs.Rests.{StoreRests}
+use Rattle.store_laws.proofs.Holding.{HeldAfter, fresh_made, held_after, held_stands}
+use Rattle.store_laws.proofs.PulledPages.{all_ascend, all_below}
 use Rattle.store_laws.proofs.Serving.{IsCopy, copy_is}
-use Rattle.store_laws.proofs.Tabled.{row_found}
+use Rattle.store_laws.proofs.Tabled.{every_row}
 
 -- ---- while lines are told ----
 
-pull_stays : (c : Config) (n : ℕ) (x : Told) (older : List Line) → VersionsStay c older (More n x older) → (e : EpochId) (me : ℕ) (p : Pull) → PullFact c older e me p → PullFact c (More n x older) e me p
-pull_stays c n x older v e me p k = record {
-  started = started_stays c n x older e p.file.group k.started;
-  known = v.known e p.file p.stamp k.known;
-  single = v.single e p.file k.started k.single;
-  version = k.version;
-  is_version = version_stays c older (More n x older) v p.file k.version k.is_version;
-  stamp_is = k.stamp_is;
-  kind_is = k.kind_is;
-  set_is = k.set_is;
-  vector_is = k.vector_is;
-  size_is = k.size_is;
-  pages = k.pages;
-  even = k.even;
-  wanted = k.wanted;
-  holds = v.have e p.holder p.file p.stamp k.holds;
-}
+-- what a site holds, told again
+pub held_same : (c : Config) (old new : List Line) → VersionsStay c old new → (f : FileId) (o : Option Stamp) → ((s : Stamp) → o ≡ Some s → Stands c old f s) → option_map (version_of c (entries new) f) o ≡ option_map (version_of c (entries old) f) o
+held_same c old new v f None stands = refl
+held_same c old new v f (Some s) stands = ap Some (same_version_of c old new v f s (stands s refl))
 
-pub all_pulls_stay : (c : Config) (n : ℕ) (x : Told) (older : List Line) → IsFollowed c older → MayTell c older x → AllStay c older (More n x older) x → (f : Frame) (ps : List Pull) → PullsFact c f older ps → PullsFact c f (More n x older) ps
-all_pulls_stay c n x older h may stay f ps k = every_both (PullFact c older f.epoch f.me) (PullFact c (More n x older) f.epoch f.me) ps (pull_stays c n x older (versions_stay c n x older h may stay.fresh stay.order) f.epoch f.me) k
+base_stays : (c : Config) (old new : List Line) → VersionsStay c old new → (o : Option HeldVersion) (p : Pull) (base : Option Stamp) → BaseFact c old o p base → BaseFact c new o p base
+base_stays c old new v o p None k = tt
+base_stays c old new v o p (Some b) k = record { stands = v.stands p.file b k.stands; now = k.now; has = k.has; over = k.over }
 
--- ---- lists ----
+base_stands : (c : Config) (trace : List Line) (o : Option HeldVersion) (p : Pull) (base : Option Stamp) (s : Stamp) → BaseFact c trace o p base → base ≡ Some s → Stands c trace p.file s
+base_stands c trace o p None s k e = absurd (none_some s e)
+base_stands c trace o p (Some b) s k e = subst (Stands c trace p.file) (some_same b s e) k.stands
 
-every_row : {A : Type 0} (key : A → ℕ) (x : A) (P : A → Type 0) (xs : List A) → Every P xs → P x → Every P (with_row key x xs)
-every_row key x P [] h p = (p, tt)
-every_row key x P (y ∷ ys) h p = at (every_row key x P ys h.1 p) (nat_lt (key y) (key x)) (key y == key x)
-  where
-    at : Every P (with_row key x ys) → (a b : Bool) → Every P (elim a [ true ↦ y ∷ with_row key x ys | false ↦ elim b [ true ↦ x ∷ ys | false ↦ x ∷ y ∷ ys ] ])
-    at later true b = (h.0, later)
-    at later false true = (p, h.1)
-    at later false false = (p, h)
+-- over a version that the site has just made
+base_new : (c : Config) (old new : List Line) → VersionsStay c old new → (o : Option HeldVersion) (now : HeldVersion) (p : Pull) (base : Option Stamp) → is_below now.vector p.vector ≡ false → BaseFact c old o p base → BaseFact c new (Some now) p base
+base_new c old new v o now p None apart k = tt
+base_new c old new v o now p (Some b) apart k = record { stands = v.stands p.file b k.stands; now = now; has = refl; over = inr apart }
 
-joined_take : (n m : ℕ) (xs : List ℕ) → take n xs ++ take m (drop n xs) ≡ take (n + m) xs
-joined_take zero m xs = ap (λ k. take k xs) (zero_more m)
-  where
-    zero_more : (a : ℕ) → a ≡ 0 + a
-    zero_more a = omega arith
-joined_take (suc n) m [] = empty m
-  where
-    nothing : (k : ℕ) → ◌≡◌ {A = List ℕ} (take k []) []
-    nothing zero = refl
-    nothing (suc k) = refl
+module _ (c : Config) (n : ℕ) (x : Told) (older : List Line) (h : IsFollowed c older) (may : MayTell c older x) (stay : AllStay c older (More n x older) x) (newer : NewAreNotBelow c older (More n x older) x) (e : EpochId) (me : ℕ) (p : Pull) (away : AdoptsFile me p.file x → ⊥) (k : PullFact c older e me p) where
+  abbrev new : List Line
+  new = More n x older
 
-    empty : (k : ℕ) → ◌≡◌ {A = List ℕ} (take k []) (take (suc n + k) [])
-    empty k = nothing k ∙ sym (nothing (suc n + k))
-joined_take (suc n) m (x ∷ xs) = ap (λ ys. x ∷ ys) (joined_take n m xs) ∙ ap (λ k. take k (x ∷ xs)) (more n m)
-  where
-    more : (a b : ℕ) → suc (a + b) ≡ suc a + b
-    more a b = omega arith
+  v : VersionsStay c older new
+  v = versions_stay c n x older h may stay.fresh stay.order
 
-take_own : (m : ℕ) (xs : List ℕ) → take (length (take m xs)) xs ≡ take m xs
-take_own zero xs = refl
-take_own (suc m) [] = refl
-take_own (suc m) (x ∷ xs) = ap (λ ys. x ∷ ys) (take_own m xs)
+  vector_same : p.vector ≡ vector_of (history c (entries older)) p.file p.stamp
+  vector_same = sym k.vector_is ∙ (ap (λ (y : HeldVersion). y.vector) k.is_version.same ∙ ap (vector_of (history c (entries older)) p.file) k.stamp_is)
+
+  stands : Stands c older p.file p.stamp
+  stands = subst (λ (y : Stamp). Stands c older p.file y) k.stamp_is k.is_version.stands
+
+  -- what the pull is over, of what the site has then
+  record IsOver (o : Option HeldVersion) : Type 0 where
+    based : BaseFact c new o p p.base
+    over : PullsOver o p k.version
+
+  is_same : held c (entries new) me p.file ≡ held c (entries older) me p.file → IsOver (held_version c (entries new) me p.file)
+  is_same e = subst IsOver (sym (ap (option_map (version_of c (entries new) p.file)) e ∙ held_same c older new v p.file (held c (entries older) me p.file) (λ s q. held_stands c (entries older) (followed_rows c older h) me p.file s q)))
+      (record { based = base_stays c older new v (held_version c (entries older) me p.file) p p.base k.based; over = k.over })
+
+  is_new : (s : Stamp) → MakesVersion me p.file s x → held c (entries new) me p.file ≡ Some s → IsOver (held_version c (entries new) me p.file)
+  is_new s made e = subst IsOver (sym (ap (option_map (version_of c (entries new) p.file)) e)) (record {
+    based = base_new c older new v (held_version c (entries older) me p.file) (version_of c (entries new) p.file s) p p.base apart k.based;
+    over = λ q b. absurd (fresh_made c older x me p.file s stay.fresh made (base_stands c older (held_version c (entries older) me p.file) p p.base s k.based q));
+  })
+    where
+      apart : is_below (vector_of (history c (entries new)) p.file s) p.vector ≡ false
+      apart = subst (λ (y : List ℕ). is_below (vector_of (history c (entries new)) p.file s) y ≡ false) (sym vector_same) (newer me p.file s made p.stamp stands)
+
+  is_over : HeldAfter c n x older me p.file → IsOver (held_version c (entries new) me p.file)
+  is_over (inl e) = is_same e
+  is_over (inr made) = is_new made.0 made.1 made.2
+
+  pub pull_stays : PullFact c new e me p
+  pull_stays = (let o : IsOver (held_version c (entries new) me p.file) = is_over (held_after c n x older me p.file away) in record {
+    started = started_stays c n x older e p.file.group k.started;
+    known = v.known e p.file p.stamp k.known;
+    single = v.single e p.file k.started k.single;
+    version = k.version;
+    is_version = version_stays c older new v p.file k.version k.is_version;
+    stamp_is = k.stamp_is;
+    kind_is = k.kind_is;
+    set_is = k.set_is;
+    vector_is = k.vector_is;
+    size_is = k.size_is;
+    rising = k.rising;
+    inside = k.inside;
+    few = k.few;
+    pages = k.pages;
+    even = k.even;
+    based = o.based;
+    over = o.over;
+    wanted = k.wanted;
+    holds = v.have e p.holder p.file p.stamp k.holds;
+  })
+
+pub all_pulls_stay : (c : Config) (n : ℕ) (x : Told) (older : List Line) → IsFollowed c older → MayTell c older x → AllStay c older (More n x older) x → NewAreNotBelow c older (More n x older) x → (f : Frame) (ps : List Pull) → Every (λ (p : Pull). AdoptsFile f.me p.file x → ⊥) ps → PullsFact c f older ps → PullsFact c f (More n x older) ps
+all_pulls_stay c n x older h may stay newer f [] away k = tt
+all_pulls_stay c n x older h may stay newer f (p ∷ ps) away k = (pull_stays c n x older h may stay newer f.epoch f.me p away.0 k.0, all_pulls_stay c n x older h may stay newer f ps away.1 k.1)
 
 -- ---- what is sent ----
 
@@ -117,31 +148,50 @@ own_ancestor (v ∷ older) f a = over (is_version f a v) (same_stamp a a) own (o
     over true false t later = absurd (true_false (sym t))
     over false d t later = later
 
-asked_sent : (c : Config) (trace : List Line) (f : Frame) (p : Pull) → PullFact c trace f.epoch f.me p → Every (PacketFact c trace) (pull_packets f p)
-asked_sent c trace f p k = over (is_complete p)
+asked_of : (c : Config) (trace : List Line) (f : Frame) (p : Pull) → has_joined (entries trace) f.me f.epoch ≡ true → Stands c trace p.file p.stamp → (base : Option Stamp) (wanted : Option (List ℕ)) → BaseFact c trace (held_version c (entries trace) f.me p.file) p base → PacketFact c trace (packet f p.holder (next_asked p base wanted))
+asked_of c trace f p joined stands (Some own) None k = record { wanted_stands = stands; own_stands = k.stands; joined = joined }
+asked_of c trace f p joined stands (Some own) (Some pages) k = stands
+asked_of c trace f p joined stands None wanted k = stands
+
+pub asked_sent : (c : Config) (trace : List Line) (f : Frame) (p : Pull) → has_joined (entries trace) f.me f.epoch ≡ true → PullFact c trace f.epoch f.me p → Every (PacketFact c trace) (pull_packets f p)
+asked_sent c trace f p joined k = over (is_complete p)
   where
-    over : (b : Bool) → Every (PacketFact c trace) (cond b [] (packet f p.holder (body.Pull p.file p.stamp (next_page p)) ∷ []))
+    over : (b : Bool) → Every (PacketFact c trace) (cond b [] (packet f p.holder (next_asked p p.base p.wanted) ∷ []))
     over true = tt
-    over false = (subst (λ (s : Stamp). Stands c trace p.file s) k.stamp_is k.is_version.stands, tt)
+    over false = (asked_of c trace f p joined (subst (λ (s : Stamp). Stands c trace p.file s) k.stamp_is k.is_version.stands) p.base p.wanted k.based, tt)
 
-goes_fine : (c : Config) (n : ℕ) (trace : List Line) (f : Frame) (p : Pull) (ps : List Pull) → PullsFact c f trace ps → PullFact c trace f.epoch f.me p → PullsFine c n trace f (goes_on f p ps)
-goes_fine c n trace f p ps all k = record { told = tt; own = tt; view = every_row pull_key p (PullFact c trace f.epoch f.me) ps all k; sent = asked_sent c trace f p k; written = tt }
+pub goes_fine : (c : Config) (n : ℕ) (trace : List Line) (f : Frame) (p : Pull) (ps : List Pull) → has_joined (entries trace) f.me f.epoch ≡ true → PullsFact c f trace ps → PullFact c trace f.epoch f.me p → PullsFine c n trace f (goes_on f p ps)
+goes_fine c n trace f p ps joined all k = record { told = tt; own = tt; view = every_row pull_key p (PullFact c trace f.epoch f.me) ps all k; sent = asked_sent c trace f p joined k; written = tt }
 
-still : (c : Config) (n : ℕ) (trace : List Line) (f : Frame) (ps : List Pull) → PullsFact c f trace ps → PullsFine c n trace f (quiet ps)
+pub still : (c : Config) (n : ℕ) (trace : List Line) (f : Frame) (ps : List Pull) → PullsFact c f trace ps → PullsFine c n trace f (quiet ps)
 still c n trace f ps all = record { told = tt; own = tt; view = all; sent = tt; written = tt }
 
 -- ---- Notify ----
 
-begins_fine : (c : Config) (n : ℕ) (trace : List Line) (f : Frame) (p : Pull) (ps : List Pull) → PullsFact c f trace ps → PullFact c trace f.epoch f.me p → PullsFine c n trace f (begins_pull f p ps)
-begins_fine c n trace f p ps all k = over (replaces_pull p (pull_of ps p.file))
+begins_fine : (c : Config) (n : ℕ) (trace : List Line) (f : Frame) (own : Option FileCopy) (p : Pull) (ps : List Pull) → has_joined (entries trace) f.me f.epoch ≡ true → PullsFact c f trace ps → PullFact c trace f.epoch f.me (pull_over own p) → PullsFine c n trace f (begins_pull f own p ps)
+begins_fine c n trace f own p ps joined all k = over (replaces_pull own p (pull_of ps p.file))
   where
-    over : (b : Bool) → PullsFine c n trace f (elim b [ true ↦ goes_on f p ps | false ↦ quiet ps ])
-    over true = goes_fine c n trace f p ps all k
+    over : (b : Bool) → PullsFine c n trace f (elim b [ true ↦ goes_on f (pull_over own p) ps | false ↦ quiet ps ])
+    over true = goes_fine c n trace f (pull_over own p) ps joined all k
     over false = still c n trace f ps all
 
--- what a notice begins to pull
-noticed : (c : Config) (trace : List Line) (e : EpochId) (to : ℕ) (file : FileId) (k : Kind) (set : Sites) (size : ℕ) (stamp : Stamp) (vector : List ℕ) (holder : ℕ) → NotifyFact c trace e to file k set size stamp vector holder → PullFact c trace e to (record { file = file; kind = k; set = set; size = size; stamp = stamp; vector = vector; holder = holder; content = [] })
-noticed c trace e to file k set size stamp vector holder t = record {
+-- no page has come
+no_pages : (k : ℕ) → k < pages_of 0 → ⊥
+no_pages k lt = omega (arith, lt)
+
+none_few : (n : ℕ) → pages_of 0 ≤ n
+none_few n = omega arith
+
+none_even : 0 ≡ page_bytes * pages_of 0
+none_even = omega arith
+
+-- the pull that a notice names
+abbrev named : FileId → Kind → Sites → ℕ → Stamp → List ℕ → ℕ → Pull
+named file k set size stamp vector holder = record { file = file; kind = k; set = set; size = size; stamp = stamp; vector = vector; holder = holder; base = None; wanted = None; content = [] }
+
+-- what a notice begins to pull where the site has no copy, and over the copy that it has
+noticed_whole : (c : Config) (trace : List Line) (e : EpochId) (to : ℕ) (file : FileId) (k : Kind) (set : Sites) (size : ℕ) (stamp : Stamp) (vector : List ℕ) (holder : ℕ) → held_version c (entries trace) to file ≡ None → NotifyFact c trace e to file k set size stamp vector holder → PullFact c trace e to (pull_over None (named file k set size stamp vector holder))
+noticed_whole c trace e to file k set size stamp vector holder bare t = record {
   started = t.started;
   known = t.known;
   single = t.single;
@@ -152,15 +202,43 @@ noticed c trace e to file k set size stamp vector holder t = record {
   set_is = t.set_is;
   vector_is = t.vector_is;
   size_is = t.size_is;
-  pages = refl;
-  even = inr (0, refl);
+  rising = all_ascend 0 (pages_of size);
+  inside = subst (λ (m : ℕ). Every (λ (page : ℕ). page < pages_of m) (pages_from 0 (pages_of size))) (sym t.size_is) (all_below 0 (pages_of size) (pages_of size) (omega arith));
+  few = none_few (length (pages_from 0 (pages_of size)));
+  pages = λ i lt. absurd (no_pages i lt);
+  even = inr none_even;
+  based = tt;
+  over = subst (λ (o : Option HeldVersion). PullsOver o (pull_over None (named file k set size stamp vector holder)) t.version) (sym bare) (λ q. ap (λ (m : ℕ). Some (pages_from 0 (pages_of m))) (sym t.size_is));
+  wanted = t.wanted;
+  holds = t.holds;
+}
+
+noticed_over : (c : Config) (trace : List Line) (e : EpochId) (to : ℕ) (file : FileId) (k : Kind) (set : Sites) (size : ℕ) (stamp : Stamp) (vector : List ℕ) (holder : ℕ) (own : FileCopy) (now : HeldVersion) → held_version c (entries trace) to file ≡ Some now → Stands c trace file own.stamp → now.stamp ≡ own.stamp → NotifyFact c trace e to file k set size stamp vector holder → PullFact c trace e to (pull_over (Some own) (named file k set size stamp vector holder))
+noticed_over c trace e to file k set size stamp vector holder own now has stands same t = record {
+  started = t.started;
+  known = t.known;
+  single = t.single;
+  version = t.version;
+  is_version = t.is_version;
+  stamp_is = t.stamp_is;
+  kind_is = t.kind_is;
+  set_is = t.set_is;
+  vector_is = t.vector_is;
+  size_is = t.size_is;
+  rising = refl;
+  inside = tt;
+  few = none_few 0;
+  pages = λ i lt. absurd (no_pages i lt);
+  even = inr none_even;
+  based = record { stands = stands; now = now; has = has; over = inl same };
+  over = subst (λ (o : Option HeldVersion). PullsOver o (pull_over (Some own) (named file k set size stamp vector holder)) t.version) (sym has) (λ q b. inl refl);
   wanted = t.wanted;
   holds = t.holds;
 }
 
 pub notify_fine : (c : Config) (n : ℕ) (trace : List Line) → IsFollowed c trace → StoreRests c trace → (f : Frame) → FrameFact c trace f → (s : Store) → CopiesAreHeld c trace f.me s → (ps : List Pull) → PullsFact c f trace ps → (from : ℕ) (file : FileId) (k : Kind) (set : Sites) (size : ℕ) (stamp : Stamp) (vector : List ℕ) (holder : ℕ) →
-    NotifyFact c trace f.epoch f.me file k set size stamp vector holder → PullsFine c n trace f (on_notify f from (copy_of s file) (record { file = file; kind = k; set = set; size = size; stamp = stamp; vector = vector; holder = holder; content = [] }) ps)
-notify_fine c n trace h rests f frame s copies ps all from file k set size stamp vector holder t = over (copy_of s file) (copy_is c trace h f.me s copies file narrow)
+    NotifyFact c trace f.epoch f.me file k set size stamp vector holder → PullsFine c n trace f (on_notify f from (copy_of s file) (record { file = file; kind = k; set = set; size = size; stamp = stamp; vector = vector; holder = holder; base = None; wanted = None; content = [] }) ps)
+notify_fine c n trace h rests f frame s copies ps all from file k set size stamp vector holder t = over (copy_of s file) (copies.are file narrow) (copy_is c trace h f.me s copies file narrow)
   where
     stands : Stands c trace file stamp
     stands = subst (λ (y : Stamp). Stands c trace file y) t.stamp_is t.is_version.stands
@@ -169,10 +247,20 @@ notify_fine c n trace h rests f frame s copies ps all from file k set size stamp
     narrow = rests.narrow file stamp stands
 
     p : Pull
-    p = record { file = file; kind = k; set = set; size = size; stamp = stamp; vector = vector; holder = holder; content = [] }
+    p = named file k set size stamp vector holder
 
-    fact : PullFact c trace f.epoch f.me p
-    fact = noticed c trace f.epoch f.me file k set size stamp vector holder t
+    joined : has_joined (entries trace) f.me f.epoch ≡ true
+    joined = inside_joined c trace h f.me f.epoch frame.inside
+
+    bare : (o : Option HeldVersion) → None ≡ option_map (copy_for file) o → o ≡ None
+    bare None e = refl
+    bare (Some v) e = absurd (none_some (copy_for file v) e)
+
+    fact : (x : FileCopy) → IsCopy c trace f.me file x → PullFact c trace f.epoch f.me (pull_over (Some x) p)
+    fact x y = noticed_over c trace f.epoch f.me file k set size stamp vector holder x (version_of c (entries trace) file y.stamp) (ap (option_map (version_of c (entries trace) file)) y.holds) (subst (Stands c trace file) (sym at) y.stands) (sym at) t
+      where
+        at : x.stamp ≡ y.stamp
+        at = ap (λ (z : FileCopy). z.stamp) y.same
 
     has : (x : FileCopy) → IsCopy c trace f.me file x → same_stamp x.stamp stamp ≡ true → HasAtLeast c trace f.epoch f.me file stamp
     has x y e = record {
@@ -181,135 +269,14 @@ notify_fine c n trace h rests f frame s copies ps all from file k set size stamp
       above = own_ancestor (history c (entries trace)) file stamp;
     }
 
-    above : (x : FileCopy) (b : Bool) → PullsFine c n trace f (elim b [ true ↦ begins_pull f p ps | false ↦ quiet ps ])
-    above x true = begins_fine c n trace f p ps all fact
-    above x false = still c n trace f ps all
+    above : (x : FileCopy) → IsCopy c trace f.me file x → (b : Bool) → PullsFine c n trace f (elim b [ true ↦ begins_pull f (Some x) p ps | false ↦ quiet ps ])
+    above x y true = begins_fine c n trace f (Some x) p ps joined all (fact x y)
+    above x y false = still c n trace f ps all
 
-    known : (x : FileCopy) → IsCopy c trace f.me file x → (b : Bool) → same_stamp x.stamp stamp ≡ b → PullsFine c n trace f (elim b [ true ↦ sends (packet f from (body.Have file stamp) ∷ []) ps | false ↦ elim (is_below x.vector vector) [ true ↦ begins_pull f p ps | false ↦ quiet ps ] ])
+    known : (x : FileCopy) → IsCopy c trace f.me file x → (b : Bool) → same_stamp x.stamp stamp ≡ b → PullsFine c n trace f (elim b [ true ↦ sends (packet f from (body.Have file stamp) ∷ []) ps | false ↦ elim (is_below x.vector vector) [ true ↦ begins_pull f (Some x) p ps | false ↦ quiet ps ] ])
     known x y true e = record { told = tt; own = tt; view = all; sent = (record { started = t.started; has = has x y e }, tt); written = tt }
-    known x y false e = above x (is_below x.vector vector)
+    known x y false e = above x y (is_below x.vector vector)
 
-    over : (o : Option FileCopy) → ((x : FileCopy) → o ≡ Some x → IsCopy c trace f.me file x) → PullsFine c n trace f (on_notify f from o p ps)
-    over None are = begins_fine c n trace f p ps all fact
-    over (Some x) are = known x (are x refl) (same_stamp x.stamp stamp) refl
-
--- ---- Page ----
-
--- the pull with the page that it waits for
-paged : (c : Config) (trace : List Line) (e : EpochId) (me : ℕ) (p : Pull) (stamp : Stamp) (page : ℕ) (bytes : List ℕ) → PullFact c trace e me p → PageFact c trace p.file stamp page bytes → is_awaited p stamp page bytes ≡ true → PullFact c trace e me (record p { content = p.content ++ bytes })
-paged c trace e me p stamp page bytes k q awaited = record {
-  started = k.started;
-  known = k.known;
-  single = k.single;
-  version = k.version;
-  is_version = k.is_version;
-  stamp_is = k.stamp_is;
-  kind_is = k.kind_is;
-  set_is = k.set_is;
-  vector_is = k.vector_is;
-  size_is = k.size_is;
-  pages = joined ∙ (sym (take_own (length p.content + page_bytes) k.version.content) ∙ ap (λ (xs : List ℕ). take (length xs) k.version.content) (sym joined));
-  even = even_now k.even;
-  wanted = k.wanted;
-  holds = k.holds;
-}
-  where
-    same_version : q.version ≡ k.version
-    same_version = q.is_version.same ∙ (ap (version_of c (entries trace) p.file) (q.stamp_is ∙ (sym (same_stamp_eq p.stamp stamp (and_first (same_stamp p.stamp stamp) _ awaited)) ∙ sym k.stamp_is)) ∙ sym k.is_version.same)
-
-    not_complete : (length p.content == p.size) ≡ false
-    not_complete = over (length p.content == p.size) (and_first (not (is_complete p)) _ (and_second (same_stamp p.stamp stamp) _ awaited))
-      where
-        over : (b : Bool) → not b ≡ true → b ≡ false
-        over true e = absurd (true_false (sym e))
-        over false e = refl
-
-    page_is : page ≡ pages_of (length p.content)
-    page_is = equal page (next_page p) (and_first (page == next_page p) _ (and_second (not (is_complete p)) _ (and_second (same_stamp p.stamp stamp) _ awaited)))
-
-    own_test : (a b : ℕ) → a ≡ b → (a == b) ≡ true
-    own_test a b e = grind (arith, nat_tests)
-
-    whole : (m : ℕ) → length p.content ≡ page_bytes * m → page_bytes * pages_of (length p.content) ≡ length p.content
-    whole m e = ap (λ (z : ℕ). page_bytes * pages_of z) e ∙ (ap (λ (z : ℕ). page_bytes * z) (exact m) ∙ sym e)
-      where
-        exact : (m : ℕ) → pages_of (page_bytes * m) ≡ m
-        exact m = omega arith
-
-    at_page : page_bytes * page ≡ length p.content
-    at_page = ap (λ (z : ℕ). page_bytes * z) page_is ∙ over k.even
-      where
-        over : (length p.content ≡ p.size) ⊎ ((m : ℕ) × (length p.content ≡ page_bytes * m)) → page_bytes * pages_of (length p.content) ≡ length p.content
-        over (inl e) = absurd (true_false (sym (own_test (length p.content) p.size e) ∙ not_complete))
-        over (inr m) = whole m.0 m.1
-
-    bytes_are : bytes ≡ take page_bytes (drop (length p.content) k.version.content)
-    bytes_are = q.bytes_are ∙ (ap (λ (v : HeldVersion). page_of v.content page) same_version ∙ ap (λ (z : ℕ). take page_bytes (drop z k.version.content)) at_page)
-
-    joined : p.content ++ bytes ≡ take (length p.content + page_bytes) k.version.content
-    joined = ap (λ (xs : List ℕ). p.content ++ xs) bytes_are ∙ (ap (λ (xs : List ℕ). xs ++ take page_bytes (drop (length p.content) k.version.content)) k.pages ∙ joined_take (length p.content) page_bytes k.version.content)
-
-    long : length (p.content ++ bytes) ≡ min (length p.content + page_bytes) p.size
-    long = ap length joined ∙ (length-take (length p.content + page_bytes) k.version.content ∙ ap (min (length p.content + page_bytes)) k.size_is)
-
-    even_now : (length p.content ≡ p.size) ⊎ ((m : ℕ) × (length p.content ≡ page_bytes * m)) → (length (p.content ++ bytes) ≡ p.size) ⊎ ((m : ℕ) × (length (p.content ++ bytes) ≡ page_bytes * m))
-    even_now (inl e) = absurd (true_false (sym (own_test (length p.content) p.size e) ∙ not_complete))
-    even_now (inr m) = split (compare (length p.content + page_bytes) p.size)
-      where
-        compare : (a b : ℕ) → (a ≤ b) ⊎ (b ≤ a)
-        compare zero b = inl (least b)
-          where
-            least : (b : ℕ) → 0 ≤ b
-            least b = omega arith
-        compare (suc a) zero = inr (least (suc a))
-          where
-            least : (b : ℕ) → 0 ≤ b
-            least b = omega arith
-        compare (suc a) (suc b) = up (compare a b)
-          where
-            less : (a b : ℕ) → a ≤ b → suc a ≤ suc b
-            less a b l = omega (arith, l)
-
-            up : (a ≤ b) ⊎ (b ≤ a) → (suc a ≤ suc b) ⊎ (suc b ≤ suc a)
-            up (inl l) = inl (less a b l)
-            up (inr l) = inr (less b a l)
-
-        low : (a b : ℕ) → a ≤ b → min a b ≡ a
-        low a b l = omega (arith, l)
-
-        high : (a b : ℕ) → b ≤ a → min a b ≡ b
-        high a b l = omega (arith, l)
-
-        one_more : (z : ℕ) → z ≡ page_bytes * m.0 → z + page_bytes ≡ page_bytes * (m.0 + 1)
-        one_more z e = omega (arith, e)
-
-        split : (length p.content + page_bytes ≤ p.size) ⊎ (p.size ≤ length p.content + page_bytes) → (length (p.content ++ bytes) ≡ p.size) ⊎ ((m : ℕ) × (length (p.content ++ bytes) ≡ page_bytes * m))
-        split (inl l) = inr (m.0 + 1, long ∙ (low (length p.content + page_bytes) p.size l ∙ one_more (length p.content) m.1))
-        split (inr l) = inl (long ∙ high (length p.content + page_bytes) p.size l)
-
-file_of_key : (a b : FileId) → a.ino < inode_span → b.ino < inode_span → file_key a ≡ file_key b → a ≡ b
-file_of_key a b low narrow e = id_eq (groups a.group b.group a.ino b.ino low narrow e) (numbers a.group b.group a.ino b.ino low narrow e)
-  where
-    groups : (g h i j : ℕ) → i < inode_span → j < inode_span → g * inode_span + i ≡ h * inode_span + j → g ≡ h
-    groups g h i j l m k = omega (arith, l, m, k)
-
-    numbers : (g h i j : ℕ) → i < inode_span → j < inode_span → g * inode_span + i ≡ h * inode_span + j → i ≡ j
-    numbers g h i j l m k = omega (arith, l, m, k)
-
-    id_eq : a.group ≡ b.group → a.ino ≡ b.ino → a ≡ b
-    id_eq k l = λ j. record { group = k j; ino = l j }
-
-pub page_fine : (c : Config) (n : ℕ) (trace : List Line) → StoreRests c trace → (f : Frame) (ps : List Pull) → PullsFact c f trace ps → (file : FileId) (stamp : Stamp) (page : ℕ) (bytes : List ℕ) → PageFact c trace file stamp page bytes → PullsFine c n trace f (on_page f file stamp page bytes ps)
-page_fine c n trace rests f ps all file stamp page bytes q = over (pull_of ps file) refl
-  where
-    narrow : file.ino < inode_span
-    narrow = rests.narrow file q.version.stamp q.is_version.stands
-
-    by_test : (p : Pull) → PullFact c trace f.epoch f.me p → p.file ≡ file → (b : Bool) → is_awaited p stamp page bytes ≡ b → PullsFine c n trace f (elim b [ true ↦ goes_on f (record p { content = p.content ++ bytes }) ps | false ↦ quiet ps ])
-    by_test p k same true e = goes_fine c n trace f (record p { content = p.content ++ bytes }) ps all (paged c trace f.epoch f.me p stamp page bytes k (subst (λ (y : FileId). PageFact c trace y stamp page bytes) (sym same) q) e)
-    by_test p k same false e = still c n trace f ps all
-
-    over : (o : Option Pull) → pull_of ps file ≡ o → PullsFine c n trace f (on_page_of f stamp page bytes o ps)
-    over None e = still c n trace f ps all
-    over (Some p) e = (let k : PullFact c trace f.epoch f.me p × (pull_key p ≡ file_key file) = row_found pull_key (file_key file) ps p (PullFact c trace f.epoch f.me) e all in
-        by_test p k.0 (file_of_key p.file file (rests.narrow p.file k.0.version.stamp k.0.is_version.stands) narrow k.1) (is_awaited p stamp page bytes) refl)
+    over : (o : Option FileCopy) → o ≡ option_map (copy_for file) (held_version c (entries trace) f.me file) → ((x : FileCopy) → o ≡ Some x → IsCopy c trace f.me file x) → PullsFine c n trace f (on_notify f from o p ps)
+    over None e are = begins_fine c n trace f None p ps joined all (noticed_whole c trace f.epoch f.me file k set size stamp vector holder (bare (held_version c (entries trace) f.me file) e) t)
+    over (Some x) e are = known x (are x refl) (same_stamp x.stamp stamp) refl

@@ -24,7 +24,7 @@ use Rattle.dir_format.specs.Lookups.{lookup}
 use Rattle.wire_messages.specs.declared.body.Body.TheVariants as body
 use Rattle.wire_messages.specs.declared.body.LookAnswer.TheVariants as looked
 use Rattle.role_steps.specs.Own.{Every}
-use Rattle.role_steps.specs.Storage.{copy_of, look_found, on_look_ss, on_pull, served_content, served_copy, pulled_page}
+use Rattle.role_steps.specs.Storage.{copy_of, delta_of, look_found, on_look_ss, on_pull, on_want, pages_since, served_content, served_copy, pulled_page, steps_of, wanted_delta}
 use Rattle.role_steps.specs.Views.{Frame, Store, Told, Shown, boot_in, packet}
 use Rattle.role_steps.specs.declared.copies.FileCopy.{FileCopy}
 use Rattle.the_run.specs.Worlds.{Line}
@@ -35,6 +35,7 @@ use Rattle.tree_model.specs.Same.{same_served, is_served}
 use Rattle.tree_model.specs.State.{TreeState, has_stamp, kept_of, stamps_of}
 use Rattle.tree_model.specs.Tree.{tree_of}
 use Rattle.tree_laws.specs.Printed.{entries}
+use Rattle.tree_laws.specs.Deltas.{WantFact}
 use Rattle.tree_laws.specs.Doing.{FrameFact, StoreFine, StoreHeld}
 use Rattle.tree_laws.specs.Following.{MayTell, IsFollowed}
 use Rattle.tree_laws.specs.Instances.{Stands}
@@ -178,3 +179,17 @@ pages_sent c trace f from file stamp page (Some x) are = over (are x refl) (same
 
 pub page_sent : (c : Config) (n : ℕ) (trace : List Line) → IsFollowed c trace → StoreRests c trace → (f : Frame) (s : Store) → StoreHeld c f trace s → (from : ℕ) (file : FileId) (stamp : Stamp) (page : ℕ) → Stands c trace file stamp → StoreFine c n trace f s (on_pull f from file stamp page s)
 page_sent c n trace h rests f s held from file stamp page stands = record { told = tt; own = tt; view = held; sent = pages_sent c trace f from file stamp page (copy_of s file) (λ x e. copy_is c trace h f.me s held.copies file (rests.narrow file stamp stands) x e); written = tt }
+
+-- ---- Want ----
+
+-- a want is answered by the pages of the version that it wants
+pub want_sent : (c : Config) (n : ℕ) (trace : List Line) (f : Frame) (s : Store) → StoreHeld c f trace s → (from : ℕ) (file : FileId) (wanted own : Stamp) → WantFact c trace f.epoch from file wanted own → StoreFine c n trace f s (on_want f from file wanted own s)
+want_sent c n trace f s held from file wanted own k = record { told = tt; own = tt; view = held; sent = over (copy_of s file); written = tt }
+  where
+    over : (o : Option FileCopy) → Every (PacketFact c trace) (wanted_delta f from file wanted own s o)
+    over None = tt
+    over (Some x) = at (same_stamp x.stamp wanted)
+      where
+        at : (b : Bool) → Every (PacketFact c trace) (cond b (packet f from (body.Delta file wanted (delta_of (pages_of (length x.content)) (pages_since own wanted (steps_of file s.steps)))) ∷ []) [])
+        at true = (record { wanted_stands = k.wanted_stands; joined = k.joined }, tt)
+        at false = tt

@@ -47,6 +47,10 @@ use Rattle.tree_laws.proofs.CarriedVersions.{joins_stay, maybe_stays}
 use Rattle.tree_laws.proofs.Rows.{followed_rows}
 use Rattle.tree_laws.proofs.Versions.{versions_stay}
 use Rattle.sync_laws.specs.of_order_laws.Joining.{PacksAreOfSites}
+use Rattle.tree_laws.proofs.CarriedSizes.{begun_size_stays}
+use Rattle.tree_laws.specs.Deltas.{StepsFact}
+use Rattle.tree_laws.specs.Packets.{BegunSize}
+use Rattle.store_laws.proofs.Differing.{steps_stay}
 use Rattle.store_laws.specs.Rests.{StoreRests}
 use Rattle.store_laws.proofs.Closes.{closed_sent, lies_with}
 use Rattle.store_laws.proofs.Holding.{held_stands}
@@ -60,6 +64,7 @@ use Rattle.store_laws.proofs.Tabled.{apart_latest, every_latest, latest_has}
 -- what an instance is that is begun, whatever its stage
 pub record IsBegunSo (c : Config) (trace : List Line) (f : Frame) (i : Instance) : Type 0 where
   pub begun : WasBegun trace f.me f.epoch i.inst i.file
+  pub sized : BegunSize c trace f.epoch i.inst i.size
   pub user : i.inst.us ≤ sites_max
   pub vector_is : JoinsParents c trace i.file i.parents i.vector
   pub lies : LiesAs c trace f i i.mode
@@ -72,6 +77,7 @@ pub record OthersHold (c : Config) (trace : List Line) (f : Frame) (i : Instance
   pub others : Every (λ (j : Instance). (instance_key j ≡ instance_key i → ⊥) → InstanceFact c trace f j) s.instances
   pub apart : AreApart instance_key s.instances
   pub has : (j : Serial) (file : FileId) → WasBegun trace f.me f.epoch j file → (y : Instance) × (instance_of s j ≡ Some y)
+  pub steps : StepsFact c trace s.steps
 
 -- it is closed now, owes nothing, and this is what it made and what it is answered
 pub record IsToEnd (c : Config) (trace : List Line) (f : Frame) (i : Instance) (x : Open) (made : Option MadeVersion) (a : CloseAnswer) : Type 0 where
@@ -141,6 +147,7 @@ module _ (c : Config) (n : ℕ) (trace : List Line) (few : PacksAreOfSites c) (h
     fact : InstanceFact c after f closed
     fact = record {
       begun = inr b.begun;
+      sized = begun_size_stays c n (Shuts f.me f.epoch i.inst) trace h may_shut versions f.epoch f.me i.inst i.file i.size b.begun b.sized;
       user = b.user;
       vector_is = joins_stay c trace after versions i.file i.parents i.vector b.vector_is;
       lies = lies_with c after f i i.vector i.parents closed.work i.answered closed.stage i.mode (lies_stay c n (Shuts f.me f.epoch i.inst) trace h may_shut versions f i b.begun i.mode b.lies);
@@ -157,6 +164,7 @@ module _ (c : Config) (n : ℕ) (trace : List Line) (few : PacksAreOfSites c) (h
             (λ j other y. instance_more c n (Shuts f.me f.epoch i.inst) trace few h may_shut stay f j (λ p q r. other (ap serial_key (sym r))) (y other)) kept.apart kept.others fact;
         apart = apart_latest instance_key closed s.instances kept.apart;
         has = has_after;
+        steps = steps_stay c trace after versions s.steps kept.steps;
       };
     }
       where
@@ -171,14 +179,14 @@ module _ (c : Config) (n : ℕ) (trace : List Line) (few : PacksAreOfSites c) (h
 
 -- a store whose instance runs is one whose others are the tree's
 pub others_hold : (c : Config) (trace : List Line) (f : Frame) (i : Instance) (s : Store) → StoreHeld c f trace s → OthersHold c trace f i s
-others_hold c trace f i s kept = record { copies = kept.copies; others = all_more s.instances kept.instances.instances; apart = kept.instances.apart; has = kept.instances.has }
+others_hold c trace f i s kept = record { copies = kept.copies; others = all_more s.instances kept.instances.instances; apart = kept.instances.apart; has = kept.instances.has; steps = kept.instances.steps }
   where
     all_more : (xs : List Instance) → Every (InstanceFact c trace f) xs → Every (λ (j : Instance). (instance_key j ≡ instance_key i → ⊥) → InstanceFact c trace f j) xs
     all_more [] y = tt
     all_more (x ∷ xs) y = ((λ ne. y.0), all_more xs y.1)
 
 pub begun_so : (c : Config) (trace : List Line) (f : Frame) (i : Instance) → InstanceFact c trace f i → IsBegunSo c trace f i
-begun_so c trace f i k = record { begun = k.begun; user = k.user; vector_is = k.vector_is; lies = k.lies; holds = k.holds; answered = k.answered }
+begun_so c trace f i k = record { begun = k.begun; sized = k.sized; user = k.user; vector_is = k.vector_is; lies = k.lies; holds = k.holds; answered = k.answered }
 
 pub made_stamp : (i : Instance) (x : Option FileCopy) (o : Option Stamp) → stamp_made (made_version i x o) ≡ o
 made_stamp i x None = refl

@@ -26,6 +26,8 @@ use Rattle.tree_laws.proofs.CarriedVersions.{joins_stay}
 use Rattle.tree_laws.proofs.Seeing.{owners_stay}
 use Rattle.tree_laws.proofs.Versions.{versions_stay}
 use Rattle.sync_laws.specs.of_order_laws.Joining.{PacksAreOfSites}
+use Rattle.tree_laws.proofs.CarriedSizes.{begun_size_stays}
+use Rattle.store_laws.proofs.Differing.{steps_stay}
 use Rattle.store_laws.specs.Aside.{IsAside, RecordAside}
 use Rattle.store_laws.proofs.Closing.{closes_stay}
 use Rattle.store_laws.proofs.Holding.{copies_stay}
@@ -95,6 +97,7 @@ module _ (c : Config) (n : ℕ) (x : Told) (older : List Line) (few : PacksAreOf
   pub instance_more : (i : Instance) → IsAside c older f i x → InstanceFact c older f i → InstanceFact c (More n x older) f i
   instance_more i aside k = record {
     begun = inr k.begun;
+    sized = begun_size_stays c n x older h may versions f.epoch f.me i.inst i.file i.size k.begun k.sized;
     user = k.user;
     vector_is = joins_stay c older (More n x older) versions i.file i.parents i.vector k.vector_is;
     lies = lies_stay c n x older h may versions f i k.begun i.mode k.lies;
@@ -117,5 +120,6 @@ store_stays c n x older few h may stay f s away unadopted k = record {
     instances = every_both (InstanceFact c older f) (InstanceFact c (More n x older) f) s.instances (λ i fact. instance_more c n x older few h may stay f i (aside_of c older f i fact.begun x away) fact) k.instances.instances;
     apart = k.instances.apart;
     has = has_more n x older f s away k.instances.has;
+    steps = steps_stay c older (More n x older) (versions_stay c n x older h may stay.fresh stay.order) s.steps k.instances.steps;
   };
 }

@@ -13,6 +13,8 @@ use Rattle.tree_model.specs.declared.instance.Instance.{Instance}
 use Rattle.tree_model.specs.Histories.{history}
 use Rattle.tree_model.specs.Tree.{tree_of}
 use Rattle.tree_model.specs.Working.{free_pages as tree_free}
+use Rattle.tree_model.specs.State.{is_named}
+use Rattle.lawful_trace.specs.TreeRows.{granted_group}
 use Rattle.tree_laws.specs.Printed.{entries}
 use Rattle.tree_laws.specs.Doing.{FrameFact, StoreHeld}
 use Rattle.tree_laws.specs.Following.{IsFollowed}
@@ -28,6 +30,9 @@ use Rattle.user_laws.proofs.of_holding_laws.Holding.{sites_hold, stands_on_held}
 use Rattle.user_laws.proofs.of_holding_laws.OneVersionHomes.{home_holds}
 use Rattle.user_laws.proofs.of_holding_laws.Released.{released_shut}
 use Rattle.user_laws.proofs.of_holding_laws.RoomRoom.{room_same}
+use Rattle.work_laws.specs.Working.{Works}
+use Rattle.work_laws.proofs.Working.{trace_works}
+use Rattle.sync_laws.proofs.of_order_laws.Lists.{all_found}
 use Rattle.sync_laws.proofs.Members.{members_name_boots, table_boot}
 use Rattle.store_laws.specs.Rests.{IsAsGranted, StandsOnHeld, StoreRests}
 use Rattle.store_laws.specs.StoragePlain.{PlainRests}
@@ -50,6 +55,7 @@ rests_hold c trace h laws plain = record {
   granted = λ e d request i m f stamp ss k. as_granted c trace e i m f stamp ss (waits_as_granted c trace h (commits_new c trace h laws.once) e d request i m f stamp ss k);
   released = λ e i x k found. released_shut c trace h e i x k found;
   stands = λ e i x found. stands_so c trace e x (stands_on_held c trace h e i x found);
+  works = λ e i x found. all_found (Works (history c (entries trace))) (is_named i) (tree_of c e (granted_group (entries trace) e i) (entries trace)).instances x ((trace_works c trace h laws).1 e (granted_group (entries trace) e i)) found;
   first = λ e i x found make inside. open_make_first c trace laws.packs h e i x found make inside;
 }
 

@@ -1,11 +1,14 @@
 -- Tables with keys: what is found in them, and what they are once a row is put in.
-use Rattle.std.proofs.Common.{◌≡◌, ℕ, ◌<◌, ◌==◌, Bool, true, false, List, [], ◌∷◌, Option, Some, None, refl, sym, ◌∙◌, ap, subst, arith, ◌⊎◌, inl, inr}
+use Rattle.std.proofs.Common.{◌≡◌, ℕ, ◌<◌, ◌+◌, ◌*◌, ◌==◌, Bool, true, false, List, [], ◌∷◌, Option, Some, refl, sym, ◌∙◌, ap, subst, arith, ◌⊎◌, inl, inr}
 use Rattle.std.specs.Prelude.{nat_lt}
 use Rattle.std.proofs.lemmas.Bool.Decides.{nat_tests}
 use Rattle.role_steps.proofs.of_plain_facts.Numbers.{apart_test, equal, equal_self, less}
 use Rattle.role_steps.proofs.of_plain_facts.Options.{none_some, some_same}
 use Rattle.role_steps.proofs.of_plain_facts.Tests.{true_false}
+use Rattle.locus_ids.specs.declared.ids.FileId.{FileId}
+use Rattle.locus_ids.specs.Sizes.{inode_span}
 use Rattle.role_steps.specs.Own.{Every}
+use Rattle.role_steps.specs.Views.{file_key}
 use Rattle.the_run.specs.Kept.{Among}
 use Rattle.role_steps.specs.Tables.{row, with_row, with_latest}
 use Rattle.tree_laws.specs.Stores.{AreApart, Ascends}
@@ -27,6 +30,19 @@ row_among {A} key k (y ∷ ys) x e = at (row_among key k ys x) (key y == k) e
     at : (row key k ys ≡ Some x → Among x ys) → (b : Bool) → ◌≡◌ {A = Option A} (elim b [ true ↦ Some y | false ↦ row key k ys ]) (Some x) → (x ≡ y) ⊎ Among x ys
     at later true f = inl (sym (some_same y x f))
     at later false f = inr (later f)
+
+-- files whose numbers have 16 bits have keys of their own
+pub file_of_key : (a b : FileId) → a.ino < inode_span → b.ino < inode_span → file_key a ≡ file_key b → a ≡ b
+file_of_key a b low narrow e = id_eq (groups a.group b.group a.ino b.ino low narrow e) (numbers a.group b.group a.ino b.ino low narrow e)
+  where
+    groups : (g h i j : ℕ) → i < inode_span → j < inode_span → g * inode_span + i ≡ h * inode_span + j → g ≡ h
+    groups g h i j l m k = omega (arith, l, m, k)
+
+    numbers : (g h i j : ℕ) → i < inode_span → j < inode_span → g * inode_span + i ≡ h * inode_span + j → i ≡ j
+    numbers g h i j l m k = omega (arith, l, m, k)
+
+    id_eq : a.group ≡ b.group → a.ino ≡ b.ino → a ≡ b
+    id_eq k l = λ j. record { group = k j; ino = l j }
 
 -- ---- in the order of coming ----
 
@@ -85,6 +101,17 @@ latest_has key x k xs h = at (key x == k) refl
     at : (b : Bool) → (key x == k) ≡ b → (y : _) × (row key k (with_latest key x xs) ≡ Some y)
     at true t = (x, subst (λ (j : ℕ). row key j (with_latest key x xs) ≡ Some x) (equal (key x) k t) (latest_same key x xs))
     at false t = (h.0, latest_other key x k xs (λ e. true_false (sym (subst (λ (j : ℕ). (key x == j) ≡ true) e (equal_self (key x))) ∙ t)) ∙ h.1)
+
+-- ---- each has a property ----
+
+pub every_row : {A : Type 0} (key : A → ℕ) (x : A) (P : A → Type 0) (xs : List A) → Every P xs → P x → Every P (with_row key x xs)
+every_row key x P [] h p = (p, tt)
+every_row key x P (y ∷ ys) h p = at (every_row key x P ys h.1 p) (nat_lt (key y) (key x)) (key y == key x)
+  where
+    at : Every P (with_row key x ys) → (a b : Bool) → Every P (elim a [ true ↦ y ∷ with_row key x ys | false ↦ elim b [ true ↦ x ∷ ys | false ↦ x ∷ y ∷ ys ] ])
+    at later true b = (h.0, later)
+    at later false true = (p, h.1)
+    at later false false = (p, h)
 
 -- ---- ascending ----
 

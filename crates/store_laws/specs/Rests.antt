@@ -50,6 +50,7 @@ use Rattle.tree_laws.specs.Following.{MayTell}
 use Rattle.tree_laws.specs.Frames.{AllStay}
 use Rattle.tree_laws.specs.Instances.{held_in, instance_now, IsOpenAt, Stands}
 use Rattle.tree_laws.specs.Past.{WasGranted, WasReleased, WasBegun}
+use Rattle.work_laws.specs.Working.{Works}
 
 -- nobody has begun the instance
 abbrev pub IsUnbegun : List Line → EpochId → Serial → Type 0
@@ -89,6 +90,8 @@ pub record StoreRests (c : Config) (trace : List Line) : Type 0 where
   -- what was released isn't open
   pub released : (e : EpochId) (i : Serial) (x : Open) → WasReleased trace e i → instance_now c trace e i ≡ Some x → ⊥
   pub stands : (e : EpochId) (i : Serial) (x : Open) → instance_now c trace e i ≡ Some x → StandsOnHeld c trace e x
+  -- and works over that version
+  pub works : (e : EpochId) (i : Serial) (x : Open) → instance_now c trace e i ≡ Some x → Works (history c (entries trace)) x
   -- while the storage site of a make is in the epoch, what it makes has no version, or its call was the first to commit it
   pub first : (e : EpochId) (i : Serial) (x : Open) → instance_now c trace e i ≡ Some x → x.grant.mode ≡ mode.Make → epoch_of (entries trace) x.grant.ss ≡ Some e →
       ((stamp : Stamp) → Stands c trace x.grant.file stamp → ⊥) ⊎ (first_call c (entries trace) x.grant.file ≡ Some x.grant.call)

@@ -6,19 +6,20 @@ ghost use Rattle.site_packs.specs.Packs.{Stand};
 use crate::checks::given;
 use dir_reconcile::KeptVectors;
 use disk_model::{Disk, ScriptDisk};
+use locus_ids::sizes::PAGE_BYTES;
 use locus_ids::{FileId, ItemList, Kind, Mode, Serial, Sites, Stamp, Stamps};
 use operation_effects::MendingWork;
 use role_shown::{bytes, config, frame, inst, shown, site, stamp, vector};
 use site_disk::SiteDisk;
 use site_frame::SiteFrame;
-use site_packs::{NewVersion, SitePacks};
+use site_packs::{LaidPages, NewVersion, SitePacks};
 use std::alloc::Global;
 use std::process::Abort;
 use storage_site::{LookRequest, Store};
-use store_instances::StoreRequest;
+use store_instances::{HeldRead, StoreRequest};
 use trace_book::{Op, What};
 use version_vector::Vector;
-use wire_messages::Outbox;
+use wire_messages::{Outbox, PageNumbers};
 
 /// The storage site at work. Each call gives what it sends and tells.
 pub struct Storage {
@@ -85,8 +86,14 @@ impl Storage {
         ensures { Stand self.new.packs (moment self.new.disk) }
     {
         let file = FileId { group: 0, ino };
+        let numbers = all_pages(rt, self.alloc, content);
+        let came = LaidPages {
+            size: content.len() as u32,
+            numbers: numbers.as_slice(),
+            bytes: content,
+        };
         self.packs
-            .adopt(&mut self.disk, file, &first_version(), content)
+            .adopt(&mut self.disk, file, &first_version(), &came)
             .expect(rt, "not adopted");
     }
 
@@ -107,6 +114,23 @@ impl Storage {
         self.store
             .on_open_ss(&self.frame, &self.packs, &mut self.disk, asked, &mut out)
             .expect(rt, "a fault");
+        given(rt, shown(self.alloc, &out))
+    }
+
+    /// A read of the first nine bytes, whose asker has them.
+    pub fn reads_held<R: Abort + Eprint>(&mut self, rt: &R, serial: u32, n: u32) -> String
+        ensures packs { self.new.packs ≡ self.old.packs }
+        ensures disk { self.new.disk ≡ self.old.disk }
+    {
+        let mut out = Outbox::new(self.alloc);
+        let read = HeldRead {
+            number: n,
+            at: 0,
+            len: 9,
+        };
+        self.store
+            .on_read_held(&self.frame, &self.packs, inst(2, serial), read, &mut out)
+            .expect(rt, "no memory");
         given(rt, shown(self.alloc, &out))
     }
 
@@ -222,6 +246,23 @@ impl Storage {
         given(rt, shown(self.alloc, &out))
     }
 
+    /// Site 3 asks which pages to pull of a version over its own one.
+    pub fn wanted<R: Abort + Eprint>(
+        &self,
+        rt: &R,
+        ino: u16,
+        version: Stamp,
+        own: Stamp,
+    ) -> String {
+        let mut out = Outbox::new(self.alloc);
+        let file = FileId { group: 0, ino };
+        let from = given(rt, site(3));
+        self.store
+            .on_want(&self.frame, &self.packs, from, file, version, own, &mut out)
+            .expect(rt, "a fault");
+        given(rt, shown(self.alloc, &out))
+    }
+
     pub fn ticks<R: Abort + Eprint>(&self, rt: &R) -> String {
         let mut out = Outbox::new(self.alloc);
         self.store
@@ -271,4 +312,13 @@ pub fn request<R: Abort>(
         vector: vector(0, 0, 1),
         parents,
     }
+}
+
+/// The numbers of all pages of a content.
+fn all_pages<R: Abort>(rt: &R, alloc: Global, content: &[u8]) -> PageNumbers {
+    let mut numbers = PageNumbers::new(alloc);
+    for page in 0..content.len().div_ceil(PAGE_BYTES) {
+        numbers.push(page as u16).expect(rt, "no memory");
+    }
+    numbers
 }

@@ -87,6 +87,38 @@ fn a_commit_raises_the_counter_of_the_site(rt: HostRuntime) {
 }
 
 #[test]
+fn a_read_is_answered_by_the_number_of_its_bytes_where_they_are_held(rt: HostRuntime) {
+    let mut storage = Storage::new(&rt, rt.alloc());
+    storage.adopts(&rt, 2, b"old");
+    storage.opens(&rt, (2, 1), 2, Mode::Read);
+    is_same(
+        &rt,
+        &storage.reads_held(&rt, 1, 1),
+        "2 asheld 1 1 3; act e1.1.1 i2.1 1 read 0 9 ok 6f6c64",
+    );
+    is_same(&rt, &storage.reads_held(&rt, 1, 1), "2 asheld 1 1 3");
+    let read = Op::Read { at: 0, len: 9 };
+    is_same(
+        &rt,
+        &storage.does(&rt, 1, 1, read),
+        "2 opdone 1 1 ok 6f6c64",
+    );
+    is_same(&rt, &storage.reads_held(&rt, 1, 3), "");
+    is_same(&rt, &storage.reads_held(&rt, 4, 1), "");
+}
+
+/// An instance that may write is not of one version: it is answered in full.
+#[test]
+fn a_writer_is_answered_in_full(rt: HostRuntime) {
+    let mut storage = written(&rt, rt.alloc());
+    is_same(
+        &rt,
+        &storage.reads_held(&rt, 1, 1),
+        "2 opdone 1 1 ok 6f6c64; act e1.1.1 i2.1 1 read 0 9 ok 6f6c64",
+    );
+}
+
+#[test]
 fn a_make_takes_the_least_number_that_is_free(rt: HostRuntime) {
     let mut storage = written(&rt, rt.alloc());
     is_same(
@@ -181,6 +213,43 @@ fn looks_and_pulls_are_of_one_version(rt: HostRuntime) {
     is_same(&rt, &storage.pulled(&rt, 2, stamp(3, 1), 2), "");
     is_same(&rt, &storage.pulled(&rt, 2, stamp(1, 1), 0), "");
     is_same(&rt, &storage.pulled(&rt, 9, stamp(3, 1), 0), "");
+}
+
+/// A delta names the pages that were written since, by one commit and by two. Over a version from which no step leads here all pages are
+/// new; a version that isn't the copy is none to ask for.
+#[test]
+fn a_delta_names_the_pages_that_were_written_since(rt: HostRuntime) {
+    let mut storage = Storage::new(&rt, rt.alloc());
+    storage.adopts(&rt, 2, &[7; 2_049]);
+    storage.opens(&rt, (2, 1), 2, Mode::Write);
+    storage.writes(&rt, 1, 1, 0);
+    storage.does(&rt, 1, 2, Op::Commit);
+    storage.writes(&rt, 1, 3, 1_024);
+    storage.does(&rt, 1, 4, Op::Commit);
+    let (first, second, adopted) = (stamp(1, 1), stamp(1, 2), stamp(3, 1));
+    is_same(
+        &rt,
+        &storage.wanted(&rt, 2, second, first),
+        "3 delta 0.2 1.2 1",
+    );
+    is_same(
+        &rt,
+        &storage.wanted(&rt, 2, second, adopted),
+        "3 delta 0.2 1.2 0 1",
+    );
+    is_same(
+        &rt,
+        &storage.wanted(&rt, 2, second, stamp(7, 7)),
+        "3 delta 0.2 1.2 0 1 2",
+    );
+    is_same(&rt, &storage.wanted(&rt, 2, first, adopted), "");
+    is_same(&rt, &storage.wanted(&rt, 9, second, adopted), "");
+    storage.store.leave();
+    is_same(
+        &rt,
+        &storage.wanted(&rt, 2, second, first),
+        "3 delta 0.2 1.2 0 1 2",
+    );
 }
 
 #[test]

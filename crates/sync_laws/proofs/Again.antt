@@ -24,6 +24,6 @@ asked_again c trace f r d mode.Mend k j = k.1
 
 pub again : (c : Config) (trace : List Line) (f : Frame) (group : ℕ) (r : OpenRow) (k : RowFact c trace f.epoch group r) (s : OpenStage) → StageFact c trace f.epoch r k.call s → Every (PacketFact c trace) (repeats_open f r s)
 again c trace f group r k stage.Asked h = (asked_again c trace f r k.call r.mode h k.vector_is, tt)
-again c trace f group r k stage.Granted h = (record { call = k.call; request = r.request; mode = r.mode; file = r.file; stamp = r.stamp; was_granted = h.0.was_granted; number_is = refl; told_is = refl; sees = k.sees }, tt)
+again c trace f group r k stage.Granted h = (record { call = k.call; request = r.request; mode = r.mode; file = r.file; stamp = r.stamp; was_granted = h.0.was_granted; number_is = refl; told_is = refl; sees = k.sees; sized = h.2 }, tt)
 again c trace f group r k (stage.Refused why) h = ((k.call, r.request, r.mode, h), tt)
 again c trace f group r k stage.Ended h = tt

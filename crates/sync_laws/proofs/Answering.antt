@@ -25,7 +25,7 @@ use Rattle.role_steps.specs.declared.synchronizing.SyncTable.{SyncTable}
 use Rattle.tree_laws.specs.of_the_run.Worlds.{Line}
 use Rattle.tree_laws.specs.Doing.{TableFine}
 use Rattle.tree_laws.specs.Following.{MayTell, IsFollowed}
-use Rattle.tree_laws.specs.Packets.{MakesNow, OpenedFact, RefusedFull, file_in}
+use Rattle.tree_laws.specs.Packets.{MakesNow, OpenedFact, RefusedFull, file_in, BegunSize, HasSize}
 use Rattle.tree_laws.specs.Past.{Printed, WasGranted, WasNamed, WasRefused, NamingRecord, GrantRecord, RefusalRecord}
 use Rattle.tree_laws.specs.Tables.{AsItsFile, AskedFact, IsGrantedNow, RowFact, StageFact, TableFact, named_openers, named_row}
 use Rattle.tree_laws.proofs.CarriedOpens.{was_then}
@@ -174,12 +174,12 @@ module _ (c : Config) (n : ℕ) (trace : List Line) (f : Frame) (tab : SyncTable
     abbrev As : FileId → ℕ → OpenRow
     As file size = record r { stage = stage.Granted; file = file; size = size }
 
-    as_granted : IsGrantedNow trace f.epoch r fact.call → AsItsFile c trace r fact.call r.mode → (file : FileId) (size : ℕ) → file ≡ r.file → RowFact c trace f.epoch tab.group (As file size)
-    as_granted k lies file size e = subst (λ (g : FileId). RowFact c trace f.epoch tab.group (As g size)) (sym e) (record {
+    as_granted : IsGrantedNow trace f.epoch r fact.call → AsItsFile c trace r fact.call r.mode → (file : FileId) (size : ℕ) → file ≡ r.file → BegunSize c trace f.epoch inst size → RowFact c trace f.epoch tab.group (As file size)
+    as_granted k lies file size e sized = subst (λ (g : FileId). RowFact c trace f.epoch tab.group (As g size)) (sym e) (record {
       call = fact.call;
       is_call = fact.is_call;
       group_is = fact.group_is;
-      stage = (record { was_granted = k.was_granted; unreleased = k.unreleased }, same_lies r.mode lies);
+      stage = (record { was_granted = k.was_granted; unreleased = k.unreleased }, same_lies r.mode lies, size_is r.mode refl);
       vector_is = fact.vector_is;
       sees = fact.sees;
     })
@@ -191,8 +191,16 @@ module _ (c : Config) (n : ℕ) (trace : List Line) (f : Frame) (tab : SyncTable
         same_lies mode.Resolve a = a
         same_lies mode.Mend a = a
 
-    opened_fine : r.stage ≡ stage.Asked → (ino size : ℕ) → TableFine c n trace f tab.group (grants_row f (granted_row r ino size) tab)
-    opened_fine asked ino size = subst (λ (told : List Told). TableFine c n trace f tab.group (record { view = with_open new tab; sent = grants_user f new; told = told; written = None })) (sym (nothing_told f new r.mode file_mode))
+        -- what is read has the bytes that its storage site found
+        size_is : (m : Mode) → r.mode ≡ m → HasSize c trace r.file m r.stamp size
+        size_is mode.Read is = sized fact.call r.request r.file r.stamp r.ss (subst (λ (m : Mode). WasGranted trace f.epoch fact.call r.request inst m r.file r.stamp r.ss) is (subst (λ (j : Serial). WasGranted trace f.epoch fact.call r.request j r.mode r.file r.stamp r.ss) its k.was_granted))
+        size_is mode.Write is = tt
+        size_is mode.Resolve is = tt
+        size_is mode.Mend is = tt
+        size_is mode.Make is = tt
+
+    opened_fine : r.stage ≡ stage.Asked → (ino size : ℕ) → BegunSize c trace f.epoch inst size → TableFine c n trace f tab.group (grants_row f (granted_row r ino size) tab)
+    opened_fine asked ino size sized = subst (λ (told : List Told). TableFine c n trace f tab.group (record { view = with_open new tab; sent = grants_user f new; told = told; written = None })) (sym (nothing_told f new r.mode file_mode))
         (sends_fine c n trace f tab (grants_user f new) (with_open new tab) refl (changed_table c trace f tab new sv.table now (λ ino some. openers_same (file_in tab.group ino))) (again c trace f tab.group new now stage.Granted now.stage))
       where
         new : OpenRow
@@ -202,7 +210,7 @@ module _ (c : Config) (n : ℕ) (trace : List Line) (f : Frame) (tab : SyncTable
         file_is = file_numbered r.mode r.file ino file_mode
 
         now : RowFact c trace f.epoch tab.group new
-        now = as_granted (asked_granted c trace f.epoch r fact.call r.mode file_mode (subst (StageFact c trace f.epoch r fact.call) asked fact.stage)) (asked_file c trace f.epoch r fact.call r.mode file_mode (subst (StageFact c trace f.epoch r fact.call) asked fact.stage)) (numbered_file r.mode r.file ino) size file_is
+        now = as_granted (asked_granted c trace f.epoch r fact.call r.mode file_mode (subst (StageFact c trace f.epoch r fact.call) asked fact.stage)) (asked_file c trace f.epoch r fact.call r.mode file_mode (subst (StageFact c trace f.epoch r fact.call) asked fact.stage)) (numbered_file r.mode r.file ino) size file_is sized
 
         openers_same : (file : FileId) → named_openers (with_open new tab) file ≡ named_openers tab file
         openers_same file = openers_replaced open_key (is_open_on file) named_row new r tab.opens (ap (λ (k : ℕ). row open_key k tab.opens) key_is ∙ found)
@@ -223,7 +231,7 @@ module _ (c : Config) (n : ℕ) (trace : List Line) (f : Frame) (tab : SyncTable
         over (inr z) = unnamed c trace f.epoch z.call z.request inst z.file (how.Make k.1.set k.1.kind) sv.followed z.asks z.user_is (granted_named trace f.epoch fact.call r.request inst r.mode r.file r.stamp r.ss was)
 
     by_stage_fine : (a : OpenedAs) → OpenedFact c trace f.epoch from inst a → (s : OpenStage) → r.stage ≡ s → TableFine c n trace f tab.group (by_stage f r a s tab)
-    by_stage_fine (opened.Open ino size) k stage.Asked e = opened_fine e ino size
+    by_stage_fine (opened.Open ino size) k stage.Asked e = opened_fine e ino size k.3
     by_stage_fine (opened.No why) k stage.Asked e = absurd (refused_never e why k)
     by_stage_fine a k stage.Granted e = sends_fine c n trace f tab [] tab refl sv.table tt
     by_stage_fine a k (stage.Refused why) e = sends_fine c n trace f tab [] tab refl sv.table tt

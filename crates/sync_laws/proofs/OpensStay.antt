@@ -38,6 +38,7 @@ use Rattle.tree_laws.specs.Printed.{entries}
 use Rattle.tree_laws.specs.Tables.{AsItsFile, IsGrantedNow, MakeAsked, AskedFact, StageFact, RowFact}
 use Rattle.tree_laws.proofs.CarriedLooks.{More, call_of_stays}
 use Rattle.tree_laws.proofs.CarriedOpens.{was_then, named_of, asked_in}
+use Rattle.tree_laws.proofs.CarriedSizes.{size_stays}
 use Rattle.tree_laws.proofs.CarriedVersions.{joins_stay, sees_stay, plain_stays}
 use Rattle.tree_laws.proofs.Kinship.{started_stays}
 use Rattle.tree_laws.proofs.Making.{members_told}
@@ -170,7 +171,7 @@ module _ (c : Config) (n : ℕ) (x : Told) (older : List Line) (h : IsFollowed c
 
   stage_stays : (r : OpenRow) (d : CallId) (w : (w : Waiting) × (call_named (entries older) d ≡ Some w)) (s : OpenStage) → (Printed (NamesHere f.epoch group r.inst) older x → ⊥) → IsUnended r → r.file.group ≡ group → StageFact c older f.epoch r d s → StageFact c (More n x older) f.epoch r d s
   stage_stays r d named stage.Asked unnamed_now unended is k = asked_stays r d r.mode unnamed_now unended is k
-  stage_stays r d named stage.Granted unnamed_now unended is k = (granted_stays r d unended k.0, file_stays r d named r.mode k.1)
+  stage_stays r d named stage.Granted unnamed_now unended is k = (granted_stays r d unended k.0, file_stays r d named r.mode k.1, size_stays c older (More n x older) v r.file r.mode r.stamp r.size k.2)
   stage_stays r d named (stage.Refused why) unnamed_now unended is k = inr k
   stage_stays r d named stage.Ended unnamed_now unended is k = (inr k.0, inr k.1)
 

@@ -247,7 +247,7 @@ fn an_open_is_settled_in_its_row(rt: HostRuntime) {
             given(&rt, asked(alloc, &frame, 1, Opening::Write)),
         ),
     );
-    holds(&rt, opens.closing(inst(3, 1)) == Closing::Unknown);
+    holds(&rt, matches!(opens.closing(inst(3, 1)), Closing::Unknown));
     given(
         &rt,
         settled(&mut opens, 1, Settling::Grant { ino: 2, size: 3 }),
@@ -262,7 +262,7 @@ fn an_open_is_settled_in_its_row(rt: HostRuntime) {
         matches!(opens.closing(inst(3, 1)), Closing::Again { .. }),
     );
     holds(&rt, !opens.is_open(FILE));
-    holds(&rt, opens.closing(inst(3, 2)) == Closing::Unknown);
+    holds(&rt, matches!(opens.closing(inst(3, 2)), Closing::Unknown));
 }
 
 /// What an open sends and tells as it is asked, granted and repeated.
@@ -289,6 +289,6 @@ fn an_open_tells_how_far_it_is(rt: HostRuntime) {
         shown(alloc, &out),
         "1 openss 3.1 w 0.2 1.1; 3 opendone 1 noinode; refuse e1.1.1 c3.1.1 1 i3.1 w 0.2 noinode",
     );
-    holds(&rt, entry.closing() == Closing::Unknown);
+    holds(&rt, matches!(entry.closing(), Closing::Unknown));
     holds(&rt, entry.open_now(4).is_some());
 }

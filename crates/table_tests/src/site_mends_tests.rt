@@ -11,7 +11,7 @@ use locus_ids::{Bytes, FileId, Kind, Refusal, Stamps};
 use site_disk::SiteDisk;
 use site_frame::SiteFrame;
 use site_mends::{MendFault, start_mends};
-use site_packs::{NewVersion, SitePacks};
+use site_packs::{LaidPages, NewVersion, SitePacks};
 use site_tables::start_tables;
 use std::alloc::Global;
 use std::process::Abort;
@@ -83,8 +83,13 @@ impl Mending {
             stamp: copy.stamp,
             vector: copy.vector,
         };
+        let came = LaidPages {
+            size: content.len() as u32,
+            numbers: first_page(content.as_slice()),
+            bytes: content.as_slice(),
+        };
         self.packs
-            .adopt(&mut self.disk, file, &version, content.as_slice())
+            .adopt(&mut self.disk, file, &version, &came)
             .expect(rt, "not adopted");
     }
 
@@ -217,4 +222,9 @@ fn nothing_is_mended_of_what_is_not_here(rt: HostRuntime) {
     site.hears(&rt, 3, 0, &[copy(0, Kind::File, 3, 0, 0)]);
     let started = site.starts(&mut Outbox::new(alloc));
     holds(&rt, started == Err(MendFault::Unfit));
+}
+
+/// The number of the one page of a short content, if it has one.
+fn first_page(content: &[u8]) -> &'static [u16] {
+    if content.is_empty() { &[] } else { &[0] }
 }

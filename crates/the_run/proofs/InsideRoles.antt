@@ -13,7 +13,6 @@ use Rattle.role_steps.specs.of_trace_book.declared.operation.Op.{Op}
 use Rattle.role_steps.specs.of_trace_book.declared.operation.Op.TheVariants as op
 use Rattle.role_steps.specs.of_trace_book.declared.operation.Outcome.{Outcome as Result}
 use Rattle.role_steps.specs.of_trace_book.declared.operation.Outcome.TheVariants as result
-use Rattle.role_steps.specs.of_call_rules.Descriptors.{beginning}
 use Rattle.role_steps.specs.of_call_rules.declared.answer.Answer.{Answer}
 use Rattle.role_steps.specs.of_call_rules.declared.want.Want.{Want}
 use Rattle.role_steps.specs.of_call_rules.declared.want.Want.TheVariants as want
@@ -31,12 +30,12 @@ use Rattle.role_steps.specs.Tables.{first_that}
 use Rattle.role_steps.specs.Views.{Frame, Store, Users, quiet, sends, and_then, packet}
 use Rattle.role_steps.specs.Versions.{is_below}
 use Rattle.role_steps.specs.Looks.{LookRequest}
-use Rattle.role_steps.specs.Storage.{StoreRequest, copy_of, instance_of, is_open, opened_packets, own_ino, opens, opens_made, on_open_ss_of, on_open_ss, is_spent, commits, next_stamp, next_vector, shuts, shuts_again, closes_owing, closes, on_close_at, on_close_of, on_close, ends_at, on_closed_ok_of, on_closed_ok, on_look_ss, has_page, pulled_page, on_pull, closed_again, store_repeats}
-use Rattle.role_steps.specs.Operations.{acts, acts_committed, commits_owing, last_committed, commit_op, executes_effect, executes, op_again, by_number, on_op_at, on_op_of, on_op}
+use Rattle.role_steps.specs.Storage.{StoreRequest, copy_of, instance_of, is_open, opened_packets, own_ino, opens, opens_made, on_open_ss_of, on_open_ss, is_spent, commits, next_stamp, next_vector, shuts, shuts_again, closes_owing, closes, on_close_at, on_close_of, on_close, ends_at, on_closed_ok_of, on_closed_ok, on_look_ss, has_page, pulled_page, on_pull, wanted_delta, on_want, closed_again, store_repeats}
+use Rattle.role_steps.specs.Operations.{acts, acts_committed, commits_owing, last_committed, commit_op, executes_effect, executes, op_again, by_number, on_op_at, on_op_of, on_op, on_read_held}
 use Rattle.role_steps.specs.OperationEffects.{Mending, effect_of}
-use Rattle.role_steps.specs.Pulling.{pull_of, pull_packets, is_complete, goes_on as pulls_on, begins_pull, replaces_pull, on_notify, is_awaited, on_page_of, on_page, pull_repeats}
-use Rattle.role_steps.specs.Requests.{descriptors_of, request_packets, asks_op_of, asks_close_of, user_instance, users_repeats}
-use Rattle.role_steps.specs.Using.{accepted, frees, with_brought, content_answer, asks_want, next_want, goes_on, on_call, takes_answer, with_answer, takes_open, on_open_done_of, on_open_done, on_op_done_of, on_op_done, on_close_done_of, on_close_done, looks_again, takes_look, on_look_done_of, on_look_done, asks_open_of, asks_op_number, asks_take, own_call}
+use Rattle.role_steps.specs.Pulling.{pull_of, pull_packets, is_complete, next_asked, goes_on as pulls_on, pull_over, begins_pull, replaces_pull, on_notify, pages_in, is_delta, on_delta_of, on_delta, is_awaited, on_page_of, on_page, pull_repeats}
+use Rattle.role_steps.specs.Requests.{request_packets, operation_body, asks_op_of, asks_close_of, user_instance, users_repeats}
+use Rattle.role_steps.specs.Using.{with_brought, content_answer, asks_want, next_want, goes_on, on_call, counted_call, accepted_call, takes_answer, takes_copied, with_answer, takes_open, on_open_done_of, on_open_done, on_op_done_of, on_as_held_of, on_op_done, on_as_held, on_close_done_of, on_close_done, looks_again, takes_look, on_look_done_of, on_look_done, asks_open_of, asks_op_number, asks_held_number, asks_take}
 use Rattle.role_steps.specs.Using as using
 use Rattle.role_steps.specs.declared.copies.FileCopy.{FileCopy}
 use Rattle.role_steps.specs.declared.instances.Instance.{Instance}
@@ -47,8 +46,9 @@ use Rattle.role_steps.specs.declared.users.Asking.{Asking}
 use Rattle.role_steps.specs.declared.users.Asking.TheVariants as asking
 use Rattle.role_steps.specs.declared.users.WaitingCall.{WaitingCall}
 use Rattle.role_steps.specs.declared.users.UserInstance.{UserInstance}
+use Rattle.role_steps.proofs.HeldReads.{held_read_so}
 use Rattle.role_steps.proofs.Sending.{every_cond, every_flat_map}
-use Rattle.the_run.specs.Joins.{Unclaimed, Still}
+use Rattle.the_run.specs.Joins.{NoClaim, NoJoin, NoWrite, Unclaimed, Still}
 use Rattle.the_run.proofs.InsideSync.{sync_plain}
 
 -- ---- opens ----
@@ -133,6 +133,13 @@ pulled_page_plain f from file stamp page (Some x) = every_cond Unclaimed (has_pa
 pub on_pull_still : (f : Frame) (from : ℕ) (file : FileId) (stamp : Stamp) (page : ℕ) (s : Store) → Still (on_pull f from file stamp page s)
 on_pull_still f from file stamp page s = (pulled_page_plain f from file stamp page (copy_of s file), tt, tt)
 
+wanted_delta_plain : (f : Frame) (from : ℕ) (file : FileId) (wanted own : Stamp) (s : Store) (o : Option FileCopy) → Every Unclaimed (wanted_delta f from file wanted own s o)
+wanted_delta_plain f from file wanted own s None = tt
+wanted_delta_plain f from file wanted own s (Some x) = every_cond Unclaimed (same_stamp x.stamp wanted) _ [] (tt, tt) tt
+
+pub on_want_still : (f : Frame) (from : ℕ) (file : FileId) (wanted own : Stamp) (s : Store) → Still (on_want f from file wanted own s)
+on_want_still f from file wanted own s = (wanted_delta_plain f from file wanted own s (copy_of s file), tt, tt)
+
 closed_again_plain : (f : Frame) (i : Instance) (g : Stage) → Every Unclaimed (closed_again f i g)
 closed_again_plain f i stage.Running = tt
 closed_again_plain f i (stage.Closing made a) = sync_plain f i.file.group _ tt
@@ -212,22 +219,39 @@ on_op_of_still f m (Some i) n o seen s = on_op_at_still f m i i.stage n o seen s
 pub on_op_still : (f : Frame) (m : Mending) (inst : Serial) (n : ℕ) (o : Op) (seen : List ℕ) (s : Store) → Still (on_op f m inst n o seen s)
 on_op_still f m inst n o seen s = on_op_of_still f m (instance_of s inst) n o seen s
 
+pub on_read_held_still : (f : Frame) (inst : Serial) (n at len : ℕ) (s : Store) → Still (on_read_held f inst n at len s)
+on_read_held_still f inst n at len s =
+    held_read_so Unclaimed NoJoin NoWrite f (record { full = λ to serial n r. tt; held = λ to serial n len. tt; told = λ i n o r. tt; unwritten = tt }) inst n at len s
+
 -- ---- pulls ----
 
-pull_plain : (f : Frame) (p : Pull) → Every Unclaimed (pull_packets f p)
-pull_plain f p = every_cond Unclaimed (is_complete p) [] _ tt (tt, tt)
+asked_plain : (p : Pull) (base : Option Stamp) (wanted : Option (List ℕ)) → NoClaim (next_asked p base wanted)
+asked_plain p (Some own) None = tt
+asked_plain p (Some own) (Some pages) = tt
+asked_plain p None wanted = tt
 
-begins_pull_still : (f : Frame) (p : Pull) (ps : List Pull) → Still (begins_pull f p ps)
-begins_pull_still f p ps =
-    elim (replaces_pull p (pull_of ps p.file)) as (λ b. Still (elim b [ true ↦ pulls_on f p ps | false ↦ quiet ps ])) [ true ↦ (pull_plain f p, tt, tt) | false ↦ (tt, tt, tt) ]
+pull_plain : (f : Frame) (p : Pull) → Every Unclaimed (pull_packets f p)
+pull_plain f p = every_cond Unclaimed (is_complete p) [] _ tt (asked_plain p p.base p.wanted, tt)
+
+begins_pull_still : (f : Frame) (own : Option FileCopy) (p : Pull) (ps : List Pull) → Still (begins_pull f own p ps)
+begins_pull_still f own p ps =
+    elim (replaces_pull own p (pull_of ps p.file)) as (λ b. Still (elim b [ true ↦ pulls_on f (pull_over own p) ps | false ↦ quiet ps ])) [ true ↦ (pull_plain f (pull_over own p), tt, tt) | false ↦ (tt, tt, tt) ]
 
 pub on_notify_still : (f : Frame) (from : ℕ) (o : Option FileCopy) (p : Pull) (ps : List Pull) → Still (on_notify f from o p ps)
-on_notify_still f from None p ps = begins_pull_still f p ps
+on_notify_still f from None p ps = begins_pull_still f None p ps
 on_notify_still f from (Some own) p ps =
-    elim (same_stamp own.stamp p.stamp) as (λ b. Still (elim b [ true ↦ sends (packet f from (body.Have p.file p.stamp) ∷ []) ps | false ↦ elim (is_below own.vector p.vector) [ true ↦ begins_pull f p ps | false ↦ quiet ps ] ])) [
+    elim (same_stamp own.stamp p.stamp) as (λ b. Still (elim b [ true ↦ sends (packet f from (body.Have p.file p.stamp) ∷ []) ps | false ↦ elim (is_below own.vector p.vector) [ true ↦ begins_pull f (Some own) p ps | false ↦ quiet ps ] ])) [
       | true ↦ ((tt, tt), tt, tt)
-      | false ↦ elim (is_below own.vector p.vector) as (λ b. Still (elim b [ true ↦ begins_pull f p ps | false ↦ quiet ps ])) [ true ↦ begins_pull_still f p ps | false ↦ (tt, tt, tt) ]
+      | false ↦ elim (is_below own.vector p.vector) as (λ b. Still (elim b [ true ↦ begins_pull f (Some own) p ps | false ↦ quiet ps ])) [ true ↦ begins_pull_still f (Some own) p ps | false ↦ (tt, tt, tt) ]
     ]
+
+on_delta_of_still : (f : Frame) (own : ℕ) (stamp : Stamp) (pages : List ℕ) (o : Option Pull) (ps : List Pull) → Still (on_delta_of f own stamp pages o ps)
+on_delta_of_still f own stamp pages None ps = (tt, tt, tt)
+on_delta_of_still f own stamp pages (Some p) ps =
+    elim (is_delta own p stamp pages) as (λ b. Still (elim b [ true ↦ pulls_on f (record p { wanted = Some pages }) ps | false ↦ quiet ps ])) [ true ↦ (pull_plain f (record p { wanted = Some pages }), tt, tt) | false ↦ (tt, tt, tt) ]
+
+pub on_delta_still : (f : Frame) (own : Option FileCopy) (file : FileId) (stamp : Stamp) (pages : List ℕ) (ps : List Pull) → Still (on_delta f own file stamp pages ps)
+on_delta_still f own file stamp pages ps = on_delta_of_still f (pages_in own) stamp pages (pull_of ps file) ps
 
 on_page_of_still : (f : Frame) (stamp : Stamp) (page : ℕ) (bytes : List ℕ) (o : Option Pull) (ps : List Pull) → Still (on_page_of f stamp page bytes o ps)
 on_page_of_still f stamp page bytes None ps = (tt, tt, tt)
@@ -242,10 +266,14 @@ pull_repeats_plain f ps = every_flat_map Unclaimed (pull_packets f) ps (pull_pla
 
 -- ---- the using site ----
 
+operation_plain : (copied : Option (List ℕ)) (serial n : ℕ) (o : Op) (seen : List ℕ) → NoClaim (operation_body copied serial n o seen)
+operation_plain (Some bytes) serial n (op.Read at len) seen = tt
+operation_plain copied serial n o seen = tt
+
 request_plain : (f : Frame) (w : WaitingCall) (a : Asking) → Every Unclaimed (request_packets f w a)
 request_plain f w (asking.Look file what take) = sync_plain f file.group _ tt
 request_plain f w (asking.Open serial file how) = sync_plain f file.group _ tt
-request_plain f w (asking.Op serial ss number o seen) = (tt, tt)
+request_plain f w (asking.Op serial ss number o seen) = (operation_plain w.copied serial number o seen, tt)
 request_plain f w (asking.Close serial ss) = (tt, tt)
 
 pub users_repeats_plain : (f : Frame) (u : Users) → Every Unclaimed (users_repeats f u)
@@ -253,7 +281,7 @@ users_repeats_plain f u = every_flat_map Unclaimed (λ (w : WaitingCall). reques
 
 asks_op_still : (f : Frame) (w : WaitingCall) (o : Op) (i : Option UserInstance) (u : Users) → Still (asks_op_of f w o i u)
 asks_op_still f w o None u = (tt, tt, tt)
-asks_op_still f w o (Some i) u = ((tt, tt), tt, tt)
+asks_op_still f w o (Some i) u = ((operation_plain w.copied _ _ o _, tt), tt, tt)
 
 asks_close_still : (f : Frame) (w : WaitingCall) (i : Option UserInstance) (u : Users) → Still (asks_close_of f w i u)
 asks_close_still f w None u = (tt, tt, tt)
@@ -274,8 +302,8 @@ goes_on_still f w u = asks_want_still f w (next_want f w u) u
 
 pub on_call_still : (f : Frame) (now : Option EpochId) (process : ℕ) (words : Call) (u : Users) → Still (on_call f now process words u)
 on_call_still f now process words u =
-    let w : WaitingCall = accepted process (u.calls + 1) words (beginning (descriptors_of u process) now (own_call f.me f.boot (u.calls + 1)) words) in
-    let e : Still (goes_on f w (frees process words (record u { calls = u.calls + 1 }))) = goes_on_still f w (frees process words (record u { calls = u.calls + 1 })) in
+    let w : WaitingCall = accepted_call f now process words u in
+    let e : Still (goes_on f w (counted_call f now process words u)) = goes_on_still f w (counted_call f now process words u) in
     (e.0, (tt, e.1), e.2)
 
 takes_answer_still : (f : Frame) (w : WaitingCall) (a : Answer) (u : Users) → Still (takes_answer f w a u)
@@ -294,10 +322,21 @@ on_open_done_still f kept serial a u = on_open_done_of_still f kept serial a (fi
 
 on_op_done_of_still : (f : Frame) (r : Result) (o : Option WaitingCall) (u : Users) → Still (on_op_done_of f r o u)
 on_op_done_of_still f r None u = (tt, tt, tt)
-on_op_done_of_still f r (Some w) u = takes_answer_still f w _ u
+on_op_done_of_still f r (Some w) u = takes_answer_still f w _ _
 
 pub on_op_done_still : (f : Frame) (serial n : ℕ) (r : Result) (u : Users) → Still (on_op_done f serial n r u)
 on_op_done_still f serial n r u = on_op_done_of_still f r (first_that (asks_op_number serial n r) u.waiting) u
+
+takes_copied_still : (f : Frame) (w : WaitingCall) (copied : Option (List ℕ)) (u : Users) → Still (takes_copied f w copied u)
+takes_copied_still f w None u = (tt, tt, tt)
+takes_copied_still f w (Some bytes) u = takes_answer_still f w _ u
+
+on_as_held_of_still : (f : Frame) (o : Option WaitingCall) (u : Users) → Still (on_as_held_of f o u)
+on_as_held_of_still f None u = (tt, tt, tt)
+on_as_held_of_still f (Some w) u = takes_copied_still f w w.copied u
+
+pub on_as_held_still : (f : Frame) (serial n : ℕ) (u : Users) → Still (on_as_held f serial n u)
+on_as_held_still f serial n u = on_as_held_of_still f (first_that (asks_held_number serial n) u.waiting) u
 
 on_close_done_of_still : (f : Frame) (serial : ℕ) (a : CloseAnswer) (o : Option WaitingCall) (u : Users) → Still (on_close_done_of f serial a o u)
 on_close_done_of_still f serial a None u = (tt, tt, tt)

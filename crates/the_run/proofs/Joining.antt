@@ -84,7 +84,9 @@ fact_weaker J L f id (body.OpenSs inst file mode set kind base vector parents) h
 fact_weaker J L f id (body.Opened inst answer) h = tt
 fact_weaker J L f id (body.OpenDone serial answer) h = tt
 fact_weaker J L f id (body.Op serial n o seen) h = tt
+fact_weaker J L f id (body.ReadHeld serial n at len) h = tt
 fact_weaker J L f id (body.OpDone serial n result) h = tt
+fact_weaker J L f id (body.AsHeld serial n len) h = tt
 fact_weaker J L f id (body.Close serial) h = tt
 fact_weaker J L f id (body.Closed inst made) h = tt
 fact_weaker J L f id (body.ClosedOk inst) h = tt
@@ -94,7 +96,9 @@ fact_weaker J L f id (body.LookSs us call process request take file what serve) 
 fact_weaker J L f id (body.LookDone call request take answer) h = tt
 fact_weaker J L f id (body.Notify file kind set size stamp vector holder) h = tt
 fact_weaker J L f id (body.Pull file stamp page) h = tt
+fact_weaker J L f id (body.Want file wanted own) h = tt
 fact_weaker J L f id (body.Page file stamp page bytes) h = tt
+fact_weaker J L f id (body.Delta file wanted pages) h = tt
 fact_weaker J L f id (body.Have file stamp) h = tt
 
 pub packets_weaker : (J L : Knowledge) → Leads J L → (ps : List Packet) → Every (PacketFact J) ps → Every (PacketFact L) ps

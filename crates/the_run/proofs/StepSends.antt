@@ -21,8 +21,8 @@ use Rattle.role_steps.specs.declared.synchronizing.SyncTable.{SyncTable}
 use Rattle.role_steps.specs.Own.{Every, IsOwn, Sends}
 use Rattle.role_steps.proofs.Sending.{OfFrame, AllSent, every_append, every_flat_map}
 use Rattle.role_steps.proofs.SyncSends.{sync_repeats_sent, on_opened_sent, on_open_sent, on_look_sent, on_report_sent, on_closed_sent}
-use Rattle.role_steps.proofs.StoreSends.{on_open_ss_sent, on_close_sent, on_closed_ok_sent, on_look_ss_sent, on_pull_sent, store_repeats_sent, on_op_sent, on_notify_sent, on_page_sent, pull_repeats_sent}
-use Rattle.role_steps.proofs.UserSends.{users_repeats_sent, on_call_sent, on_open_done_sent, on_op_done_sent, on_close_done_sent, on_look_done_sent}
+use Rattle.role_steps.proofs.StoreSends.{on_open_ss_sent, on_close_sent, on_closed_ok_sent, on_look_ss_sent, on_pull_sent, on_want_sent, store_repeats_sent, on_op_sent, on_read_held_sent, on_notify_sent, on_delta_sent, on_page_sent, pull_repeats_sent}
+use Rattle.role_steps.proofs.UserSends.{users_repeats_sent, on_call_sent, on_open_done_sent, on_op_done_sent, on_as_held_sent, on_close_done_sent, on_look_done_sent}
 use Rattle.role_steps.proofs.SiteSends.{frame_own, and_then_sends, quiet_sends, leaves_sends, starts_merge_sends, starts_part_sends, on_poll_sends, on_promise_of_sends, on_refuse_of_sends, on_install_sends, on_joined_sends, passes_over_sends, poll_repeats_sent, install_repeats_sent, all_reports_sent, adopts_sends, starts_mends_sends}
 use Rattle.the_run.specs.Steps.{from_user, group_of, is_before, in_order, at_table_of, is_opened_in, takes_inside, is_dropped, takes_framed, takes, adopts_of, tries_at, adopts_in, starts_mends_of, ends_event, whole, repeats_inside, repeats_of, repeats, ticks_after, call_frame, takes_call, step}
 
@@ -53,7 +53,9 @@ takes_inside_sends me boot f h from (body.OpenSs inst file mode set kind base ve
 takes_inside_sends me boot f h from (body.Opened inst answer) v b = at_table_sends me boot (on_opened f inst answer) (first_that (is_opened_in inst) v.tables) v (on_opened_sent (IsOwn me boot) f h inst answer) b
 takes_inside_sends me boot f h from (body.OpenDone serial answer) v b = record { view = b; sent = on_open_done_sent (IsOwn me boot) f h _ serial answer v.users }
 takes_inside_sends me boot f h from (body.Op serial n o seen) v b = record { view = b; sent = on_op_sent (IsOwn me boot) f h (mending v (group_of (instance_of v.store (from_user from serial)))) (from_user from serial) n o seen v.store }
+takes_inside_sends me boot f h from (body.ReadHeld serial n at len) v b = record { view = b; sent = on_read_held_sent (IsOwn me boot) f h (from_user from serial) n at len v.store }
 takes_inside_sends me boot f h from (body.OpDone serial n result) v b = record { view = b; sent = on_op_done_sent (IsOwn me boot) f h serial n result v.users }
+takes_inside_sends me boot f h from (body.AsHeld serial n len) v b = record { view = b; sent = on_as_held_sent (IsOwn me boot) f h serial n v.users }
 takes_inside_sends me boot f h from (body.Close serial) v b = record { view = b; sent = on_close_sent (IsOwn me boot) f h _ v.store }
 takes_inside_sends me boot f h from (body.Closed inst made) v b = at_table_sends me boot (on_closed f from inst made) (first_that (is_opened_in inst) v.tables) v (on_closed_sent (IsOwn me boot) f h from inst made) b
 takes_inside_sends me boot f h from (body.ClosedOk inst) v b = record { view = b; sent = on_closed_ok_sent (IsOwn me boot) f h inst v.store }
@@ -61,9 +63,11 @@ takes_inside_sends me boot f h from (body.CloseDone serial answer) v b = record 
 takes_inside_sends me boot f h from (body.Look call process request take file what) v b = at_table_sends me boot _ (row table_group file.group v.tables) v (on_look_sent (IsOwn me boot) f h from (record { call = call; process = process; request = request; take = take; file = file; what = what })) b
 takes_inside_sends me boot f h from (body.LookSs us call process request take file what serve) v b = record { view = b; sent = on_look_ss_sent (IsOwn me boot) f h us (record { call = call; process = process; request = request; take = take; file = file; what = what }) serve v.store }
 takes_inside_sends me boot f h from (body.LookDone call request take answer) v b = record { view = b; sent = on_look_done_sent (IsOwn me boot) f h call request take answer v.users }
-takes_inside_sends me boot f h from (body.Notify file kind set size stamp vector holder) v b = record { view = b; sent = on_notify_sent (IsOwn me boot) f h from (copy_of v.store file) (record { file = file; kind = kind; set = set; size = size; stamp = stamp; vector = vector; holder = holder; content = [] }) v.pulls }
+takes_inside_sends me boot f h from (body.Notify file kind set size stamp vector holder) v b = record { view = b; sent = on_notify_sent (IsOwn me boot) f h from (copy_of v.store file) (record { file = file; kind = kind; set = set; size = size; stamp = stamp; vector = vector; holder = holder; base = None; wanted = None; content = [] }) v.pulls }
 takes_inside_sends me boot f h from (body.Pull file stamp page) v b = record { view = b; sent = on_pull_sent (IsOwn me boot) f h from file stamp page v.store }
 takes_inside_sends me boot f h from (body.Page file stamp page bytes) v b = record { view = b; sent = on_page_sent (IsOwn me boot) f h file stamp page bytes v.pulls }
+takes_inside_sends me boot f h from (body.Want file wanted own) v b = record { view = b; sent = on_want_sent (IsOwn me boot) f h from file wanted own v.store }
+takes_inside_sends me boot f h from (body.Delta file wanted pages) v b = record { view = b; sent = on_delta_sent (IsOwn me boot) f h (copy_of v.store file) file wanted pages v.pulls }
 takes_inside_sends me boot f h from (body.Have file stamp) v b = at_table_sends me boot (on_have from file stamp) (row table_group file.group v.tables) v (λ t. tt) b
 takes_inside_sends me boot f h from body.Poll v b = quiet_sends me boot v b
 takes_inside_sends me boot f h from (body.Promise reach) v b = quiet_sends me boot v b
@@ -92,6 +96,7 @@ adopts_of_sends c me boot (Some e) v b = adopts_sends me boot (frame_in c me v.b
 tries_sends : (c : Config) (me boot : ℕ) (x : Body) (v : SiteView) → v.boot ≡ boot → Sends me boot (tries_at c me x v)
 tries_sends c me boot (body.Notify file kind set size stamp vector holder) v b = adopts_of_sends c me boot v.epoch v b
 tries_sends c me boot (body.Page file stamp page bytes) v b = adopts_of_sends c me boot v.epoch v b
+tries_sends c me boot (body.Delta file wanted pages) v b = adopts_of_sends c me boot v.epoch v b
 tries_sends c me boot _ v b = quiet_sends me boot v b
 
 mends_of_sends : (c : Config) (me boot : ℕ) (e : Option InEpoch) (v : SiteView) → v.boot ≡ boot → Sends me boot (starts_mends_of c me e v)

@@ -18,11 +18,11 @@ use Rattle.role_steps.specs.Tables.{row, without_row, first_that, sorted}
 use Rattle.role_steps.specs.Views.{Frame, Store, Users, SiteView, Outcome, Event, Calls, Receives, Ticks, Parts, Merges, GivesUp, quiet, and_then, first_written, within, boot_in}
 use Rattle.role_steps.specs.Opens.{on_opened}
 use Rattle.role_steps.specs.Reports.{on_report, on_open, on_look, on_closed, on_have, sync_repeats}
-use Rattle.role_steps.specs.Storage.{copy_of, instance_of, on_open_ss, on_close, on_closed_ok, on_look_ss, on_pull, store_repeats}
-use Rattle.role_steps.specs.Operations.{on_op}
-use Rattle.role_steps.specs.Pulling.{on_notify, on_page, pull_repeats}
+use Rattle.role_steps.specs.Storage.{copy_of, instance_of, on_open_ss, on_close, on_closed_ok, on_look_ss, on_pull, on_want, store_repeats}
+use Rattle.role_steps.specs.Operations.{on_op, on_read_held}
+use Rattle.role_steps.specs.Pulling.{on_notify, on_page, on_delta, pull_repeats}
 use Rattle.role_steps.specs.Requests.{users_repeats}
-use Rattle.role_steps.specs.Using.{on_call, on_open_done, on_op_done, on_close_done, on_look_done}
+use Rattle.role_steps.specs.Using.{on_call, on_open_done, on_op_done, on_as_held, on_close_done, on_look_done}
 use Rattle.role_steps.specs.Epochs.{frame_in, with_users, no_members, leaves, starts_merge, starts_part, on_poll, on_promise, on_refuse, on_install, on_joined, passes_over, poll_repeats, install_repeats, all_reports}
 use Rattle.role_steps.specs.Adoption.{table_group, with_table, with_store, adopts}
 use Rattle.role_steps.specs.Mends.{mending, kept_stamps, starts_mends}
@@ -99,6 +99,8 @@ takes_inside f from (body.OpenDone serial answer) v = at_users (on_open_done f (
 takes_inside f from (body.Op serial n o seen) v =
     at_store (on_op f (mending v (group_of (instance_of v.store (from_user from serial)))) (from_user from serial) n o seen) v
 takes_inside f from (body.OpDone serial n result) v = at_users (on_op_done f serial n result) v
+takes_inside f from (body.ReadHeld serial n at len) v = at_store (on_read_held f (from_user from serial) n at len) v
+takes_inside f from (body.AsHeld serial n len) v = at_users (on_as_held f serial n) v
 takes_inside f from (body.Close serial) v = at_store (on_close f (from_user from serial)) v
 takes_inside f from (body.Closed inst made) v = at_table_with (on_closed f from inst made) inst v
 takes_inside f from (body.ClosedOk inst) v = at_store (on_closed_ok f inst) v
@@ -109,10 +111,12 @@ takes_inside f from (body.LookSs us call process request take file what serve) v
     at_store (on_look_ss f us (record { call = call; process = process; request = request; take = take; file = file; what = what }) serve) v
 takes_inside f from (body.LookDone call request take answer) v = at_users (on_look_done f call request take answer) v
 takes_inside f from (body.Notify file kind set size stamp vector holder) v =
-    at_pulls (on_notify f from (copy_of v.store file) (record { file = file; kind = kind; set = set; size = size; stamp = stamp; vector = vector; holder = holder; content = [] })) v
+    at_pulls (on_notify f from (copy_of v.store file) (record { file = file; kind = kind; set = set; size = size; stamp = stamp; vector = vector; holder = holder; base = None; wanted = None; content = [] })) v
 takes_inside f from (body.Pull file stamp page) v = at_store (on_pull f from file stamp page) v
 takes_inside f from (body.Page file stamp page bytes) v = at_pulls (on_page f file stamp page bytes) v
 takes_inside f from (body.Have file stamp) v = at_table (on_have from file stamp) file.group v
+takes_inside f from (body.Want file wanted own) v = at_store (on_want f from file wanted own) v
+takes_inside f from (body.Delta file wanted pages) v = at_pulls (on_delta f (copy_of v.store file) file wanted pages) v
 takes_inside f from _ v = quiet v
 
 -- ---- the frame of a packet ----
@@ -151,10 +155,11 @@ adopts_of c me (Some e) v = adopts (frame_in c me v.boot e) v
 abbrev pub adopts_in : Config → ℕ → SiteView → Outcome SiteView
 adopts_in c me v = adopts_of c me v.epoch v
 
--- an adoption is tried at each Notify and each Page
+-- an adoption is tried at each Notify, each Page and each Delta
 abbrev pub tries_at : Config → ℕ → Body → SiteView → Outcome SiteView
 tries_at c me (body.Notify file kind set size stamp vector holder) v = adopts_in c me v
 tries_at c me (body.Page file stamp page bytes) v = adopts_in c me v
+tries_at c me (body.Delta file wanted pages) v = adopts_in c me v
 tries_at c me _ v = quiet v
 
 -- ---- the end of an event ----
@@ -198,7 +203,7 @@ repeats_of c me None v = in_order (poll_repeats me v v.round)
 repeats_of c me (Some e) v = in_order (poll_repeats me v v.round ++ install_repeats me v e) ++ repeats_inside (frame_in c me v.boot e) e v
 
 -- What a site sends again, class by class: Polls and Installs, Reports, the current request of each waiting call, each
--- Closed, each Pull, and Notifies. Requests go by process, all others in their order.
+-- Closed, each Want and Pull, and Notifies. Requests go by process, all others in their order.
 abbrev pub repeats : Config → ℕ → SiteView → List Packet
 repeats c me v = repeats_of c me v.epoch v
 

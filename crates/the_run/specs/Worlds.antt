@@ -259,8 +259,8 @@ fresh boot copies = record {
   installs = [];
   reports = [];
   tables = [];
-  store = record { copies = copies; instances = [] };
-  users = record { calls = 0; serials = 0; waiting = []; instances = []; descriptors = []; hopeless = [] };
+  store = record { copies = copies; instances = []; steps = [] };
+  users = record { calls = 0; serials = 0; waiting = []; instances = []; descriptors = []; hopeless = []; cache = [] };
   pulls = [];
 }
 

@@ -255,6 +255,8 @@ packet_kind_text packet.Notify = codes "notify"
 packet_kind_text packet.Pull = codes "pull"
 packet_kind_text packet.Page = codes "page"
 packet_kind_text packet.Have = codes "have"
+packet_kind_text packet.Want = codes "want"
+packet_kind_text packet.Delta = codes "delta"
 
 abbrev pub record_text : Record → List ℕ
 record_text (Up site boot) = codes "up " ++ number site ++ gap ++ number boot

@@ -25,4 +25,6 @@ pub enum PacketKind {
     Pull,
     Page,
     Have,
+    Want,
+    Delta,
 }

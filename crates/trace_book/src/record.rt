@@ -8,7 +8,7 @@ use locus_ids::{
 pub type BroughtList = ItemList<Brought>;
 
 /// Why a site stopped.
-#[derive(Clone, Copy, PartialEq, Eq)]
+#[derive(Clone, Copy)]
 pub enum StopCause {
     /// By a line.
     Asked,

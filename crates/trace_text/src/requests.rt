@@ -164,5 +164,7 @@ fn packet_kind_word(kind: PacketKind) -> &'static [u8]
         PacketKind::Pull => b"pull",
         PacketKind::Page => b"page",
         PacketKind::Have => b"have",
+        PacketKind::Want => b"want",
+        PacketKind::Delta => b"delta",
     }
 }

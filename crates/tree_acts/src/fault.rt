@@ -5,7 +5,7 @@ use operation_effects::EffectFault;
 use thiserror::Error;
 
 /// Why nothing is told of an act.
-#[derive(Clone, Copy, Debug, PartialEq, Eq, Error)]
+#[derive(Clone, Copy, Debug, Error)]
 pub enum ActFault {
     /// No lawful trace has it: the working content is longer than that of a file may be, or the kept versions of a directory
     /// to be mended can't be joined.

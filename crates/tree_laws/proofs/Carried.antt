@@ -38,6 +38,7 @@ use Rattle.tree_laws.proofs.CarriedActs.{op_told}
 use Rattle.tree_laws.proofs.CarriedCloses.{close_stays, ends_stay}
 use Rattle.tree_laws.proofs.CarriedLooks.{More, call_of_stays, look_stays}
 use Rattle.tree_laws.proofs.CarriedOpens.{open_stays}
+use Rattle.tree_laws.proofs.CarriedSizes.{begun_size_stays, size_stays}
 use Rattle.tree_laws.proofs.Kinship.{started_stays}
 use Rattle.tree_laws.proofs.Making.{makes_stay}
 use Rattle.tree_laws.proofs.Owing.{commits_owe}
@@ -79,11 +80,11 @@ module _ (c : Config) (n : ℕ) (x : Told) (older : List Line) (h : IsFollowed c
   open_ss_stays e ss i f mode.Mend set k base vector parents o = plain_stays c n x older versions e ss i f mode.Mend set k base vector parents o
 
   opened_stays : (e : EpochId) (ss : ℕ) (i : Serial) (a : OpenedAs) → OpenedFact c older e ss i a → OpenedFact c (More n x older) e ss i a
-  opened_stays e ss i (opened.Open ino size) o = (o.0, inr o.1, o.2)
+  opened_stays e ss i (opened.Open ino size) o = (o.0, inr o.1, o.2, begun_size_stays c n x older h may versions e ss i o.0 size o.1 o.3)
   opened_stays e ss i (opened.No why) o = (o.0, (makes_stay c n x older h may versions).none e ss i o.1)
 
   open_done_stays : (e : EpochId) (us serial : ℕ) (a : Granted) → OpenDoneFact c older e us serial a → OpenDoneFact c (More n x older) e us serial a
-  open_done_stays e us serial (granted.Open ss ino size stamp vector) o = record { call = o.call; request = o.request; mode = o.mode; file = o.file; stamp = o.stamp; was_granted = inr o.was_granted; number_is = o.number_is; told_is = o.told_is; sees = sees_stay c older (More n x older) versions o.file o.mode o.stamp vector o.sees }
+  open_done_stays e us serial (granted.Open ss ino size stamp vector) o = record { call = o.call; request = o.request; mode = o.mode; file = o.file; stamp = o.stamp; was_granted = inr o.was_granted; number_is = o.number_is; told_is = o.told_is; sees = sees_stay c older (More n x older) versions o.file o.mode o.stamp vector o.sees; sized = size_stays c older (More n x older) versions o.file o.mode o.stamp size o.sized }
   open_done_stays e us serial (granted.No why) o = (o.0, o.1, o.2, inr o.3)
 
   op_stays : (e : EpochId) (ss : ℕ) (i : Serial) (k : ℕ) (o : Op) (seen : List ℕ) → OpFact c older e ss i k o seen → OpFact c (More n x older) e ss i k o seen
@@ -104,7 +105,9 @@ module _ (c : Config) (n : ℕ) (x : Told) (older : List Line) (h : IsFollowed c
   body_stays p (body.Opened inst a) k = opened_stays p.epoch p.from inst a k
   body_stays p (body.OpenDone serial a) k = open_done_stays p.epoch p.to serial a k
   body_stays p (body.Op serial number o seen) k = op_stays p.epoch p.to _ number o seen k
+  body_stays p (body.ReadHeld serial number at len) k = op_stays p.epoch p.to _ number _ _ k
   body_stays p (body.OpDone serial number result) k = (k.0, inr k.1)
+  body_stays p (body.AsHeld serial number len) k = (k.0, k.1, (k.2.0, inr k.2.1))
   body_stays p (body.Close serial) k = close_stays c n x older h may owners p.epoch p.to _ k
   body_stays p (body.Closed inst made) k = closed_stays p.epoch p.from inst made k
   body_stays p (body.ClosedOk inst) k = inr k
@@ -114,7 +117,9 @@ module _ (c : Config) (n : ℕ) (x : Told) (older : List Line) (h : IsFollowed c
   body_stays p (body.LookDone call request times a) k = look_done_stays p.epoch p.to p.to_boot call request times a k
   body_stays p (body.Notify file kind set size stamp vector holder) k = notify_stays c n x older versions p.epoch p.to file kind set size stamp vector holder k
   body_stays p (body.Pull file stamp page) k = versions.stands file stamp k
+  body_stays p (body.Want file wanted own) k = record { wanted_stands = versions.stands file wanted k.wanted_stands; own_stands = versions.stands file own k.own_stands; joined = joined_stays n x older p.from p.epoch k.joined }
   body_stays p (body.Page file stamp page bytes) k = page_stays c older (More n x older) versions file stamp page bytes k
+  body_stays p (body.Delta file wanted pages) k = record { wanted_stands = versions.stands file wanted k.wanted_stands; joined = joined_stays n x older p.to p.epoch k.joined }
   body_stays p (body.Have file stamp) k = record { started = started_stays c n x older p.epoch file.group k.started; has = versions.have p.epoch p.from file stamp k.has }
   body_stays p _ k = tt
 

@@ -8,6 +8,7 @@ pub mod Opened
 pub mod Kinship
 pub mod CarriedLooks
 pub mod CarriedOpens
+pub mod CarriedSizes
 pub mod Grants
 pub mod CarriedActs
 pub mod CarriedCloses
@@ -44,6 +45,7 @@ pub mod Awaiting
 pub mod OfOwn
 pub mod Stepping
 pub mod Mending
+pub use Rattle.cache_laws.proofs as of_cache_laws
 pub use Rattle.lawful_trace.proofs as of_lawful_trace
 pub use Rattle.the_run.proofs as of_the_run
 pub use Rattle.the_run.proofs.of_plain_facts as of_plain_facts

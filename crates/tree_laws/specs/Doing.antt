@@ -1,6 +1,6 @@
 -- The shape of a role's step: what an event tells comes as it may, line after line; what the role then has and what it sends is
 -- so by the trace after all that it told; and whose line is which.
-use Rattle.std.specs.Prelude.{ℕ, ◌≡◌, true, List, [], ◌∷◌, length, Option, None, Some}
+use Rattle.std.specs.Prelude.{ℕ, ◌≡◌, true, List, [], ◌∷◌, length, filter, Option, None, Some}
 use Rattle.locus_ids.specs.declared.config.Config.{Config}
 use Rattle.locus_ids.specs.declared.ids.EpochId.{EpochId}
 use Rattle.locus_ids.specs.declared.ids.FileId.{FileId}
@@ -8,7 +8,7 @@ use Rattle.trace_book.specs.declared.record.Record.{Record}
 use Rattle.trace_book.specs.declared.record.Record.TheVariants as says
 use Rattle.the_run.specs.of_wire_messages.declared.packet.Packet.{Packet}
 use Rattle.the_run.specs.of_role_steps.Own.{Every}
-use Rattle.the_run.specs.of_role_steps.Storage.{with_copy}
+use Rattle.the_run.specs.of_role_steps.Storage.{with_version}
 use Rattle.the_run.specs.of_role_steps.Views.{Frame, Store, Users, Told, Shown, Promises, Takes, LooksAgain, Begins, Shuts, Reserves, DiskWrite, Outcome, boot_in}
 use Rattle.the_run.specs.of_role_steps.declared.pulls.Pull.{Pull}
 use Rattle.the_run.specs.of_role_steps.declared.synchronizing.SyncTable.{SyncTable}
@@ -16,8 +16,8 @@ use Rattle.the_run.specs.Worlds.{Line, told_onto}
 use Rattle.lawful_trace.specs.of_tree_model.Epochs.{boot_of, epoch_of, is_up, members_of}
 use Rattle.lawful_trace.specs.of_tree_model.Folds.{Trace}
 use Rattle.lawful_trace.specs.of_tree_model.Files.{committing}
-use Rattle.lawful_trace.specs.of_tree_model.of_file_content.Pages.{pages_of}
-use Rattle.lawful_trace.specs.Disks.{pages_held, pages_now, writing_adoption, writing_commit}
+use Rattle.lawful_trace.specs.of_tree_model.of_file_content.Pages.{pages_of, pages_from, has_page}
+use Rattle.lawful_trace.specs.Disks.{pages_held, pages_now, writing_commit}
 use Rattle.tree_laws.specs.Printed.{entries}
 use Rattle.tree_laws.specs.Past.{WasBegun}
 use Rattle.tree_laws.specs.Following.{MayTell}
@@ -138,11 +138,12 @@ IsWriteOf me (says.Commit file site stamp parents content) = site ≡ me
 IsWriteOf me (says.Adopt file site stamp) = site ≡ me
 IsWriteOf me _ = ⊥
 
--- the pages that the record writes on the disk of its site, by the records before it
-abbrev pub pages_written : Config → Trace → Record → List ℕ
-pages_written c before (says.Commit file site stamp parents content) = (writing_commit c before file site).pages
-pages_written c before (says.Adopt file site stamp) = (writing_adoption c before file site stamp).pages
-pages_written c before _ = []
+-- These are the pages that the record writes on the disk of its site, by the records before it: a commit writes those that its
+-- instance changed, an adoption some of those that its version has, ascending.
+abbrev pub AreWritten : Config → Trace → Record → List ℕ → Type 0
+AreWritten c before (says.Commit file site stamp parents content) pages = pages ≡ (writing_commit c before file site).pages
+AreWritten c before (says.Adopt file site stamp) pages = pages ≡ filter (has_page pages) (pages_from 0 (pages_held c before file (Some stamp)))
+AreWritten c before _ pages = Unit {0}
 
 -- how many pages the version of the record has, by the records before it
 abbrev pub pages_told : Config → Trace → Record → ℕ
@@ -155,8 +156,8 @@ pages_told c before _ = 0
 pub record WriteFact (c : Config) (n : ℕ) (trace : List Line) (me : ℕ) (s : Store) (d : DiskWrite) : Type 0 where
   pub own : IsWriteOf me d.says
   pub may : MayTell c trace (Shown d.says)
-  pub held : CopiesAreHeld c (record { number = n; told = Shown d.says } ∷ trace) me (with_copy d.copy s)
-  pub pages : d.pages ≡ pages_written c (entries trace) d.says
+  pub held : CopiesAreHeld c (record { number = n; told = Shown d.says } ∷ trace) me (with_version d.copy d.pages s)
+  pub pages : AreWritten c (entries trace) d.says d.pages
   pub now : pages_of (length d.copy.content) ≡ pages_told c (entries trace) d.says
 
 -- ---- an outcome ----

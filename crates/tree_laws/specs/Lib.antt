@@ -4,6 +4,7 @@ pub mod Serials
 pub mod Past
 pub mod Instances
 pub mod Following
+pub mod Deltas
 pub mod Packets
 pub mod Users
 pub mod Stores
@@ -12,6 +13,7 @@ pub mod Frames
 pub mod Processes
 pub mod Holding
 pub mod Doing
+pub use Rattle.cache_laws.specs as of_cache_laws
 pub use Rattle.lawful_trace.specs as of_lawful_trace
 pub use Rattle.the_run.specs as of_the_run
 pub use Rattle.the_run.specs.of_role_steps as of_role_steps

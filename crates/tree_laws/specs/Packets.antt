@@ -24,6 +24,7 @@ use Rattle.lawful_trace.specs.of_tree_model.of_file_content.Pages.{page_of}
 use Rattle.trace_book.specs.declared.operation.Op.{Op}
 use Rattle.trace_book.specs.declared.operation.Op.TheVariants as op
 use Rattle.trace_book.specs.declared.operation.Outcome.{Outcome}
+use Rattle.trace_book.specs.declared.operation.Outcome.TheVariants as outcome
 use Rattle.trace_book.specs.declared.operation.Served.{Served}
 use Rattle.trace_book.specs.declared.operation.Served.TheVariants as served
 use Rattle.trace_book.specs.declared.operation.What.{What}
@@ -44,6 +45,7 @@ use Rattle.the_run.specs.of_wire_messages.declared.body.Opening.{Opening}
 use Rattle.the_run.specs.of_wire_messages.declared.body.Opening.TheVariants as how
 use Rattle.the_run.specs.of_wire_messages.declared.body.ReportedCopy.{ReportedCopy}
 use Rattle.the_run.specs.of_wire_messages.declared.packet.Packet.{Packet}
+use Rattle.the_run.specs.of_role_steps.of_dir_format.Entries.{nothing_seen}
 use Rattle.the_run.specs.of_role_steps.Opens.{stamp_or_none}
 use Rattle.the_run.specs.of_role_steps.Own.{Every}
 use Rattle.the_run.specs.of_role_steps.Reports.{stamp_made}
@@ -66,6 +68,7 @@ use Rattle.tree_laws.specs.Printed.{entries}
 use Rattle.tree_laws.specs.Calls.{tries, Asks, request_number}
 use Rattle.tree_laws.specs.Past.{WasLooked, WasGranted, WasRefused, WasNamedIn, WasDone, WasReleasedWith, WasReleased, WasBegun, WasShut}
 use Rattle.tree_laws.specs.Instances.{held_in, instance_now, IsOpenAt, AsksOpen, Stands, IsVersion, IsKnown, HasAtLeast, IsStarted, IsFull}
+use Rattle.tree_laws.specs.Deltas.{WantFact, AnswerFact}
 
 -- ---- reports ----
 
@@ -223,9 +226,18 @@ pub record NoNumber (c : Config) (trace : List Line) (e : EpochId) (ss : ℕ) (i
   pub unbegun : (site : ℕ) (f : FileId) → WasBegun trace site e i f → ⊥
   pub make : RefusedFull c trace e ss i group ⊎ MakesNow c trace e ss i group set kind
 
--- the storage site has begun it, on a file of this number; or it has no number for it
+-- what is opened to read is a version of so many bytes
+abbrev pub HasSize : Config → List Line → FileId → Mode → Option Stamp → ℕ → Type 0
+HasSize c trace f mode.Read stamp size = (s : Stamp) × (stamp ≡ Some s) × Stands c trace f s × (length (content_of (history c (entries trace)) f s) ≡ size)
+HasSize c trace f _ stamp size = Unit {0}
+
+-- so it is where the instance was granted to read
+abbrev pub BegunSize : Config → List Line → EpochId → Serial → ℕ → Type 0
+BegunSize c trace e i size = (call : CallId) (request : ℕ) (f : FileId) (stamp : Option Stamp) (site : ℕ) → WasGranted trace e call request i mode.Read f stamp site → HasSize c trace f mode.Read stamp size
+
+-- the storage site has begun it, on a file of this number, and found so many bytes; or it has no number for it
 abbrev pub OpenedFact : Config → List Line → EpochId → ℕ → Serial → OpenedAs → Type 0
-OpenedFact c trace e ss i (opened.Open ino size) = (f : FileId) × WasBegun trace ss e i f × (f.ino ≡ ino)
+OpenedFact c trace e ss i (opened.Open ino size) = (f : FileId) × WasBegun trace ss e i f × (f.ino ≡ ino) × BegunSize c trace e i size
 OpenedFact c trace e ss i (opened.No why) = (why ≡ refusal.NoInode) × NoNumber c trace e ss i
 
 -- the version on which a file is opened, as its user sees it
@@ -233,7 +245,7 @@ abbrev pub SeesVersion : Config → List Line → FileId → Mode → Option Sta
 SeesVersion c trace f mode.Write (Some stamp) vector = Stands c trace f stamp × (vector ≡ vector_of (history c (entries trace)) f stamp)
 SeesVersion c trace f _ stamp vector = Unit {0}
 
-pub record GrantedFact (c : Config) (trace : List Line) (e : EpochId) (us serial ss ino : ℕ) (told : Stamp) (vector : List ℕ) : Type 0 where
+pub record GrantedFact (c : Config) (trace : List Line) (e : EpochId) (us serial ss ino size : ℕ) (told : Stamp) (vector : List ℕ) : Type 0 where
   pub call : CallId
   pub request : ℕ
   pub mode : Mode
@@ -243,9 +255,10 @@ pub record GrantedFact (c : Config) (trace : List Line) (e : EpochId) (us serial
   pub number_is : file.ino ≡ ino
   pub told_is : told ≡ stamp_or_none stamp
   pub sees : SeesVersion c trace file mode stamp vector
+  pub sized : HasSize c trace file mode stamp size
 
 abbrev pub OpenDoneFact : Config → List Line → EpochId → ℕ → ℕ → Granted → Type 0
-OpenDoneFact c trace e us serial (granted.Open ss ino size stamp vector) = GrantedFact c trace e us serial ss ino stamp vector
+OpenDoneFact c trace e us serial (granted.Open ss ino size stamp vector) = GrantedFact c trace e us serial ss ino size stamp vector
 OpenDoneFact c trace e us serial (granted.No why) = (call : CallId) × (request : ℕ) × (m : Mode) × WasRefused trace e call request (serial_of us serial) m why
 
 -- ---- operations ----
@@ -283,6 +296,10 @@ OpFact c trace e ss i n o seen = ((result : Outcome) × WasDone trace e i n o re
 
 abbrev pub OpDoneFact : List Line → EpochId → Serial → ℕ → Outcome → Type 0
 OpDoneFact trace e i n result = (o : Op) × WasDone trace e i n o result
+
+-- a read was done that gave so many bytes
+abbrev pub HeldFact : List Line → EpochId → Serial → ℕ → ℕ → Type 0
+HeldFact trace e i n len = (bytes : List ℕ) × (length bytes ≡ len) × OpDoneFact trace e i n (outcome.Data bytes)
 
 -- ---- closes ----
 
@@ -362,7 +379,9 @@ BodyFact c trace p (body.OpenSs inst file m set kind base vector parents) = Open
 BodyFact c trace p (body.Opened inst a) = OpenedFact c trace p.epoch p.from inst a
 BodyFact c trace p (body.OpenDone serial a) = OpenDoneFact c trace p.epoch p.to serial a
 BodyFact c trace p (body.Op serial n o seen) = OpFact c trace p.epoch p.to (serial_of p.from serial) n o seen
+BodyFact c trace p (body.ReadHeld serial n at len) = OpFact c trace p.epoch p.to (serial_of p.from serial) n (op.Read at len) nothing_seen
 BodyFact c trace p (body.OpDone serial n result) = OpDoneFact trace p.epoch (serial_of p.to serial) n result
+BodyFact c trace p (body.AsHeld serial n len) = HeldFact trace p.epoch (serial_of p.to serial) n len
 BodyFact c trace p (body.Close serial) = CloseFact c trace p.epoch p.to (serial_of p.from serial)
 BodyFact c trace p (body.Closed inst made) = ClosedFact c trace p.epoch p.from inst made
 BodyFact c trace p (body.ClosedOk inst) = WasReleased trace p.epoch inst
@@ -372,7 +391,9 @@ BodyFact c trace p (body.LookSs us call process request times file w serve) = Se
 BodyFact c trace p (body.LookDone call request times a) = LookDoneFact c trace p.epoch p.to p.to_boot call request times a
 BodyFact c trace p (body.Notify file kind set size stamp vector holder) = NotifyFact c trace p.epoch p.to file kind set size stamp vector holder
 BodyFact c trace p (body.Pull file stamp page) = Stands c trace file stamp
+BodyFact c trace p (body.Want file wanted own) = WantFact c trace p.epoch p.from file wanted own
 BodyFact c trace p (body.Page file stamp page bytes) = PageFact c trace file stamp page bytes
+BodyFact c trace p (body.Delta file wanted pages) = AnswerFact c trace p.epoch p.to file wanted
 BodyFact c trace p (body.Have file stamp) = HaveFact c trace p.epoch p.from file stamp
 BodyFact c trace p _ = Unit {0}
 

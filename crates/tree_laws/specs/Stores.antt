@@ -1,5 +1,5 @@
 -- What a storage site has, by the trace alone: copies as held, instances as the one tree has them, pulls of what is known.
-use Rattle.std.specs.Prelude.{ℕ, ◌≡◌, ◌⊎◌, ◌*◌, ◌≤◌, ◌<◌, true, false, List, [], ◌∷◌, length, take, Option, None, Some}
+use Rattle.std.specs.Prelude.{ℕ, ◌≡◌, ◌⊎◌, ◌*◌, ◌≤◌, ◌<◌, true, false, List, [], ◌∷◌, length, slice_index, Option, None, Some}
 use Rattle.std.specs.Option.{option_map}
 use Rattle.locus_ids.specs.Sites.{has}
 use Rattle.locus_ids.specs.declared.config.Config.{Config}
@@ -15,8 +15,10 @@ use Rattle.trace_book.specs.declared.operation.Op.{Op}
 use Rattle.trace_book.specs.declared.operation.Outcome.{Outcome}
 use Rattle.the_run.specs.of_wire_messages.declared.body.CloseAnswer.{CloseAnswer}
 use Rattle.the_run.specs.of_wire_messages.declared.body.MadeVersion.{MadeVersion}
+use Rattle.lawful_trace.specs.of_tree_model.of_file_content.Pages.{page_of, pages_of}
 use Rattle.lawful_trace.specs.of_tree_model.of_file_effects.Works.{begun}
 use Rattle.the_run.specs.of_role_steps.Own.{Every}
+use Rattle.the_run.specs.of_role_steps.Pulling.{ascend_from, pages_got, wanted_pages}
 use Rattle.the_run.specs.of_role_steps.Reports.{stamp_made}
 use Rattle.the_run.specs.of_role_steps.Storage.{copy_key, copy_of, instance_key, instance_of}
 use Rattle.the_run.specs.of_role_steps.Using.{close_answer}
@@ -38,7 +40,8 @@ use Rattle.lawful_trace.specs.Progress.{close_answer as answer_of_close}
 use Rattle.tree_laws.specs.Printed.{entries}
 use Rattle.tree_laws.specs.Past.{WasGranted, WasNamed, WasDone, WasReleasedWith, WasBegun, WasReserved, WasShut}
 use Rattle.tree_laws.specs.Instances.{IsOpenAt, HasAtLeast, Stands, IsVersion, IsKnown, IsStarted}
-use Rattle.tree_laws.specs.Packets.{JoinsParents, MakesNow, MaybeMade, EndsNow}
+use Rattle.tree_laws.specs.Packets.{BegunSize, JoinsParents, MakesNow, MaybeMade, EndsNow}
+use Rattle.tree_laws.specs.Deltas.{BaseFact, PullsOver, StepsFact}
 
 -- ---- copies ----
 
@@ -140,6 +143,7 @@ HoldsMade c trace f i _ = Unit {0}
 
 pub record InstanceFact (c : Config) (trace : List Line) (f : Frame) (i : Instance) : Type 0 where
   pub begun : WasBegun trace f.me f.epoch i.inst i.file
+  pub sized : BegunSize c trace f.epoch i.inst i.size
   pub user : i.inst.us ≤ sites_max
   pub vector_is : JoinsParents c trace i.file i.parents i.vector
   pub lies : LiesAs c trace f i i.mode
@@ -152,10 +156,12 @@ pub record StoreFact (c : Config) (trace : List Line) (f : Frame) (s : Store) : 
   pub apart : AreApart instance_key s.instances
   -- each instance that the site has begun in the epoch is there
   pub has : (i : Serial) (file : FileId) → WasBegun trace f.me f.epoch i file → (x : Instance) × (instance_of s i ≡ Some x)
+  -- what it remembers of the versions that it wrote
+  pub steps : StepsFact c trace s.steps
 
 -- ---- pulls ----
 
--- a known version is pulled, of a file of this site of which one version is kept, and its first pages have come, or all
+-- a known version is pulled, of a file of this site of which one version is kept; the first of the pages to pull have come, or all
 pub record PullFact (c : Config) (trace : List Line) (e : EpochId) (me : ℕ) (p : Pull) : Type 0 where
   pub started : IsStarted c trace e p.file.group
   pub known : IsKnown c trace e p.file p.stamp
@@ -167,7 +173,12 @@ pub record PullFact (c : Config) (trace : List Line) (e : EpochId) (me : ℕ) (p
   pub set_is : version.set ≡ p.set
   pub vector_is : version.vector ≡ p.vector
   pub size_is : length version.content ≡ p.size
-  pub pages : p.content ≡ take (length p.content) version.content
-  pub even : (length p.content ≡ p.size) ⊎ ((k : ℕ) × (length p.content ≡ page_bytes * k))
+  pub rising : ascend_from 0 (wanted_pages p) ≡ true
+  pub inside : Every (λ (page : ℕ). page < pages_of (length version.content)) (wanted_pages p)
+  pub few : pages_got p ≤ length (wanted_pages p)
+  pub pages : (k : ℕ) → k < pages_got p → page_of p.content k ≡ page_of version.content (slice_index (wanted_pages p) k)
+  pub even : (pages_got p ≡ length (wanted_pages p)) ⊎ (length p.content ≡ page_bytes * pages_got p)
+  pub based : BaseFact c trace (held_version c (entries trace) me p.file) p p.base
+  pub over : PullsOver (held_version c (entries trace) me p.file) p version
   pub wanted : has p.set me ≡ true
   pub holds : HasAtLeast c trace e p.holder p.file p.stamp

@@ -50,7 +50,7 @@ use Rattle.tree_laws.specs.Printed.{entries}
 use Rattle.tree_laws.specs.Calls.{tries}
 use Rattle.tree_laws.specs.Past.{WasNamedIn, WasGranted, WasRefused, WasReleased}
 use Rattle.tree_laws.specs.Instances.{held_in, IsOpenAt, IsVersion, HasAtLeast, Stands}
-use Rattle.tree_laws.specs.Packets.{file_in, IsCallOf, PacketFact, JoinsParents, MakesNow, PlainOpenSs, SeesVersion}
+use Rattle.tree_laws.specs.Packets.{file_in, HasSize, IsCallOf, PacketFact, JoinsParents, MakesNow, PlainOpenSs, SeesVersion}
 use Rattle.tree_laws.specs.Stores.{AreApart, Ascends}
 
 -- ---- versions ----
@@ -183,7 +183,7 @@ AsItsFile c trace r d m = (s : Stamp) × Stands c trace r.file s × (r.set ≡ s
 -- how far the open is: asked of its storage site, granted, refused or over
 abbrev pub StageFact : Config → List Line → EpochId → OpenRow → CallId → OpenStage → Type 0
 StageFact c trace e r d stage.Asked = AskedFact c trace e r d r.mode
-StageFact c trace e r d stage.Granted = IsGrantedNow trace e r d × AsItsFile c trace r d r.mode
+StageFact c trace e r d stage.Granted = IsGrantedNow trace e r d × AsItsFile c trace r d r.mode × HasSize c trace r.file r.mode r.stamp r.size
 StageFact c trace e r d (stage.Refused why) = WasRefused trace e d r.request r.inst r.mode why
 StageFact c trace e r d stage.Ended = WasGranted trace e d r.request r.inst r.mode r.file r.stamp r.ss × WasReleased trace e r.inst
 

@@ -1,19 +1,23 @@
 -- What a using site has, by the trace alone: its waiting calls as far as their processes have taken answers, and the packet of
 -- each current request with its fact; its instances; its descriptors.
-use Rattle.std.specs.Prelude.{ℕ, ◌≡◌, ◌⊎◌, ◌+◌, ◌==◌, ◌<◌, not, cond, List, [], ◌∷◌, length, map, filter, Option, None, Some}
+use Rattle.std.specs.Prelude.{ℕ, ◌≡◌, ◌⊎◌, ◌+◌, ◌==◌, ◌<◌, not, cond, List, [], ◌∷◌, length, map, filter, take, drop, Option, None, Some}
 use Rattle.std.specs.List.{find, list_any}
 use Rattle.std.specs.Option.{is_some}
 use Rattle.locus_ids.specs.declared.config.Config.{Config}
 use Rattle.locus_ids.specs.declared.ids.CallId.{CallId}
 use Rattle.locus_ids.specs.declared.ids.FileId.{FileId}
 use Rattle.locus_ids.specs.declared.ids.Mode.{Mode}
+use Rattle.locus_ids.specs.declared.ids.Mode.TheVariants as mode
 use Rattle.locus_ids.specs.declared.ids.Stamp.{Stamp}
 use Rattle.locus_ids.specs.Sizes.{descriptor_span}
-use Rattle.commit_graph.specs.Versions.{content_of, same_file}
+use Rattle.commit_graph.specs.Versions.{content_of, is_in, same_file}
 use Rattle.trace_book.specs.declared.call.Call.{Call}
 use Rattle.trace_book.specs.declared.call.Call.TheVariants as call
+use Rattle.trace_book.specs.declared.descriptor.Beginning.{Beginning}
+use Rattle.trace_book.specs.declared.descriptor.Beginning.TheVariants as begins
 use Rattle.trace_book.specs.declared.record.Record.{Record}
 use Rattle.trace_book.specs.declared.record.Record.TheVariants as says
+use Rattle.cache_laws.specs.Right.{AreRight}
 use Rattle.call_rules.specs.declared.answer.Answer.{Answer}
 use Rattle.call_rules.specs.declared.answer.Answer.TheVariants as answer
 use Rattle.call_rules.specs.declared.want.Want.{Want}
@@ -24,6 +28,7 @@ use Rattle.the_run.specs.of_role_steps.Views.{Users, Frame, Told, Shown, Takes}
 use Rattle.the_run.specs.of_role_steps.declared.users.Asking.{Asking}
 use Rattle.the_run.specs.of_role_steps.declared.users.Asking.TheVariants as asking
 use Rattle.the_run.specs.of_role_steps.declared.users.UserInstance.{UserInstance}
+use Rattle.the_run.specs.of_role_steps.declared.users.VersionRead.{VersionRead}
 use Rattle.the_run.specs.of_role_steps.declared.users.WaitingCall.{WaitingCall}
 use Rattle.the_run.specs.Kept.{Among}
 use Rattle.the_run.specs.Worlds.{Line}
@@ -79,6 +84,23 @@ abbrev pub BringsFor : Config → List Line → CallId → Call → List (List �
 BringsFor c trace d (call.Mend file) contents = Brings c trace file (taken_whole (log trace d)) contents
 BringsFor c trace d _ contents = contents ≡ []
 
+-- A read of an instance that was granted to read: these are the bytes that the version has there on which it was granted.
+pub record CopiesBytes (c : Config) (trace : List Line) (f : Frame) (serial at len : ℕ) (bytes : List ℕ) : Type 0 where
+  pub call : CallId
+  pub request : ℕ
+  pub file : FileId
+  pub stamp : Stamp
+  pub ss : ℕ
+  pub was_granted : WasGranted trace f.epoch call request (serial_of f.me serial) mode.Read file (Some stamp) ss
+  pub stands : Stands c trace file stamp
+  pub bytes_are : bytes ≡ take len (drop at (content_of (history c (entries trace)) file stamp))
+
+-- a call that has bytes in memory reads them by a descriptor that is held
+abbrev pub CopiedFact : Config → List Line → Frame → Call → Beginning → Option (List ℕ) → Type 0
+CopiedFact c trace f words b None = Unit {0}
+CopiedFact c trace f (call.Read fd at len) (begins.Uses e inst) (Some bytes) = CopiesBytes c trace f inst.serial at len bytes
+CopiedFact c trace f words b (Some bytes) = ⊥
+
 -- a waiting call is as the trace has it
 pub record WaitingFact (c : Config) (trace : List Line) (f : Frame) (w : WaitingCall) : Type 0 where
   pub caller : Waiting
@@ -94,8 +116,21 @@ pub record WaitingFact (c : Config) (trace : List Line) (f : Frame) (w : Waiting
   pub answered : IsAnswered c trace (own_call f.me f.boot w.call) wanted
   pub sent : Every (PacketFact c trace) (request_packets f w w.asking)
   pub brings : BringsFor c trace (own_call f.me f.boot w.call) w.words w.brought
+  pub copied : CopiedFact c trace f w.words w.begins w.copied
 
 -- ---- instances and descriptors ----
+
+-- the version that an instance reads is the one on which it was granted to read, with all its bytes
+pub record ReadsVersion (c : Config) (trace : List Line) (m : Mode) (f : FileId) (stamp : Option Stamp) (r : VersionRead) : Type 0 where
+  pub mode_is : m ≡ mode.Read
+  pub file_is : f ≡ r.file
+  pub stamp_is : stamp ≡ Some r.stamp
+  pub stands : Stands c trace r.file r.stamp
+  pub size_is : length (content_of (history c (entries trace)) r.file r.stamp) ≡ r.size
+
+abbrev pub ReadsFact : Config → List Line → Mode → FileId → Option Stamp → Option VersionRead → Type 0
+ReadsFact c trace m f stamp None = Unit {0}
+ReadsFact c trace m f stamp (Some r) = ReadsVersion c trace m f stamp r
 
 -- an instance of the site was granted so, and its operations are counted
 pub record UserInstanceFact (c : Config) (trace : List Line) (f : Frame) (i : UserInstance) : Type 0 where
@@ -106,6 +141,7 @@ pub record UserInstanceFact (c : Config) (trace : List Line) (f : Frame) (i : Us
   pub stamp : Option Stamp
   pub was_granted : WasGranted trace f.epoch call request (serial_of f.me i.serial) mode file stamp i.ss
   pub sees : SeesVersion c trace file mode stamp i.vector
+  pub reads : ReadsFact c trace mode file stamp i.reads
   pub ops : i.ops ≡ ops_asked c trace (serial_of f.me i.serial)
 
 abbrev pub without_closed : Want → List ℕ → List ℕ
@@ -149,6 +185,10 @@ pub record InsideUsers (c : Config) (trace : List Line) (f : Frame) (u : Users) 
   -- of the groups that it synchronizes it knows which mends were refused for good
   pub hopeless : (file : FileId) → sync_site c file.group (members_of (entries trace) f.epoch) ≡ Some f.me → list_any (same_file file) u.hopeless ≡ has_lost_mend (entries trace) f.epoch file
 
+-- which list is the content of a version of a file that stands
+abbrev pub contents_in : Config → List Line → FileId → Stamp → Option (List ℕ)
+contents_in c trace f stamp = cond (is_in (history c (entries trace)) f stamp) (Some (content_of (history c (entries trace)) f stamp)) None
+
 -- in and out of epochs
 pub record UsersFact (c : Config) (trace : List Line) (me boot : ℕ) (u : Users) : Type 0 where
   pub boot_is : boot ≡ boot_of (entries trace) me
@@ -157,3 +197,5 @@ pub record UsersFact (c : Config) (trace : List Line) (me boot : ℕ) (u : Users
   -- the table's key tells process and number apart up to the greatest number that a line can name
   pub descriptors : (process fd : ℕ) → fd < descriptor_span → descriptors_of u process fd ≡ descriptor (entries trace) me process fd
   pub ascends : Ascends descriptor_key u.descriptors
+  -- the pages in memory are those of versions that stand
+  pub cache : AreRight (contents_in c trace) u.cache

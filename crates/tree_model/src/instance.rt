@@ -2,7 +2,7 @@ use file_effects::Work;
 use locus_ids::{CallId, FileId, Mode, Serial};
 
 /// What a grant fixes of an instance.
-#[derive(Clone, Copy, PartialEq, Eq)]
+#[derive(Clone, Copy)]
 pub struct Granted {
     pub inst: Serial,
     /// The call that opened it, and its process.

@@ -23,7 +23,7 @@ use Rattle.locus_ids.specs.Sizes.{descriptor_span}
 use Rattle.role_steps.specs.Own.{Every}
 use Rattle.role_steps.specs.Requests.{descriptor_in, descriptor_key, descriptors_of, fd_key, waiting_key, waiting_of}
 use Rattle.role_steps.specs.Tables.{row, without_row}
-use Rattle.role_steps.specs.Using.{accept_record, accepted, frees, goes_on, on_call}
+use Rattle.role_steps.specs.Using.{accept_record, accepted_call, copied_part, counted_call, counted_users, frees, goes_on, on_call, part_read}
 use Rattle.role_steps.specs.Views.{Frame, LooksAgain, Shown, Takes, Told, Users}
 use Rattle.role_steps.specs.declared.users.DescriptorRow.{DescriptorRow}
 use Rattle.role_steps.specs.declared.users.WaitingCall.{WaitingCall}
@@ -50,6 +50,7 @@ use Rattle.tree_laws.proofs.Names.{same_call_eq, same_call_own}
 use Rattle.holding_laws.proofs.of_order_laws.ProcessOneDescriptor.{unclosed}
 use Rattle.user_laws.specs.Rests.{Follows, Staying}
 use Rattle.user_laws.specs.Turning.{it, CallTurns, InstanceTurns, IsNumbered, Others, Turning}
+use Rattle.user_laws.proofs.Caching.{copied_so, copied_stays, used_right}
 use Rattle.user_laws.proofs.Beside.{TurnsOne, instance_turns, waiting_same}
 use Rattle.user_laws.proofs.Going.{goes_fine}
 use Rattle.user_laws.proofs.Replying.{free_is}
@@ -156,7 +157,11 @@ accepts_in_time c t s process id _ h = tt
 module _ (c : Config) (n : ℕ) (t : List Line) (f : Frame) (process : ℕ) (words : Call) (u : Users) (h : IsFollowed c t) (frame : FrameFact c t f) (k : UsersInside c f t u) (row_is : CallRow c (entries t) f.me process (own_call f.me f.boot (u.calls + 1)) words) (low : IsNumbered words)
     (apart : Every (λ (v : WaitingCall). waiting_key v ≡ waiting_of process words → ⊥) u.waiting) where
   abbrev w : WaitingCall
-  w = accepted process (u.calls + 1) words (beginning (descriptors_of u process) (Some f.epoch) (own_call f.me f.boot (u.calls + 1)) words)
+  w = accepted_call f (Some f.epoch) process words u
+
+  -- where it begins, by what the site has
+  abbrev start : Beginning
+  start = beginning (descriptors_of u process) (Some f.epoch) (own_call f.me f.boot (u.calls + 1)) words
 
   abbrev x : Told
   x = accept_record f.me f.boot process (u.calls + 1) words
@@ -230,6 +235,7 @@ module _ (c : Config) (n : ℕ) (t : List Line) (f : Frame) (process : ℕ) (wor
     tries_are = untried c t h d fresh;
     serial_is = ap (λ (b : Bool). cond b (opens_asked c newer f.me) (serial_asked c t d)) (same_call_own d);
     brings = brings words;
+    copied = copied_stays c n x t (λ g s q. q) (λ g s q. refl) f words start (copied_part (part_read u words start) u.cache) (copied_so c t f u k.inside.instances k.always.cache words start);
   }
     where
       own : (p q b : Bool) → p ≡ true → q ≡ true → b ≡ true → (p && q && b) ≡ true
@@ -245,7 +251,7 @@ module _ (c : Config) (n : ℕ) (t : List Line) (f : Frame) (process : ℕ) (wor
   -- ---- the rest ----
 
   abbrev counted : Users
-  counted = record u { calls = u.calls + 1; descriptors = freed process words u.descriptors }
+  counted = record (counted_users f (Some f.epoch) process words u) { descriptors = freed process words u.descriptors }
 
   away : (v : WaitingCall) → WaitingFact c t f v → d ≡ it f v → ⊥
   away v l e = fresh (subst (IsNamed (entries t)) (sym e) (l.caller, l.named))
@@ -258,6 +264,7 @@ module _ (c : Config) (n : ℕ) (t : List Line) (f : Frame) (process : ℕ) (wor
       descriptors = λ user fd lt. freed_same process words u.descriptors low k.always.ascends user fd lt (descriptor (entries t) f.me user fd) (k.always.descriptors user fd lt)
           ∙ sym (ap (λ (b : Bool). cond (b && (process == user)) (closed_by words fd (descriptor (entries t) f.me user fd)) (descriptor (entries t) f.me user fd)) (equal_self f.me));
       listed = freed_ascends process words u.descriptors k.always.ascends;
+      cache = used_right c t (part_read u words start) u.cache k.always.cache;
       waits = every_both (WaitingFact c t f) (λ (v : WaitingCall). (waiting_key v ≡ waiting_key w → ⊥) → WaitingFact c newer f v) u.waiting (λ v l ne. waiting_same c n x t f d h may stay one v (away v l) l) k.inside.calls;
       ascends = k.inside.ascends;
       numbered = k.inside.numbered;
@@ -292,12 +299,12 @@ module _ (c : Config) (n : ℕ) (t : List Line) (f : Frame) (process : ℕ) (wor
   pub call_fine : Staying c n t (on_call f (Some f.epoch) process words u).told → UsersFine c n t f (on_call f (Some f.epoch) process words u)
   call_fine s = record { told = (may, rest.told); own = (refl, rest.own); view = rest.view; sent = rest.sent; written = rest.written }
     where
-      after : frees process words (record u { calls = u.calls + 1 }) ≡ counted
-      after = frees_is process words (record u { calls = u.calls + 1 })
+      after : counted_call f (Some f.epoch) process words u ≡ counted
+      after = frees_is process words (counted_users f (Some f.epoch) process words u)
 
-      next : Follows c t newer x × Staying c n newer (goes_on f w (frees process words (record u { calls = u.calls + 1 }))).told
+      next : Follows c t newer x × Staying c n newer (goes_on f w (counted_call f (Some f.epoch) process words u)).told
       next = s may
 
-      rest : UsersFine c n newer f (goes_on f w (frees process words (record u { calls = u.calls + 1 })))
+      rest : UsersFine c n newer f (goes_on f w (counted_call f (Some f.epoch) process words u))
       rest = subst (λ (v : Users). UsersFine c n newer f (goes_on f w v)) (sym after)
           (goes_fine c n newer f w counted again frame_so (turning next.0.stay) next.0.requests next.0.replies (subst (λ (v : Users). Staying c n newer (goes_on f w v).told) after next.1))

@@ -40,6 +40,7 @@ use Rattle.tree_laws.proofs.Names.{same_call_own}
 use Rattle.tree_laws.proofs.Stepping.{answered_stays}
 use Rattle.tree_laws.proofs.Versions.{versions_stay}
 use Rattle.user_laws.specs.Turning.{it}
+use Rattle.user_laws.proofs.Caching.{copied_stays, reads_stay}
 use Rattle.user_laws.proofs.Leaving.{one_number}
 use Rattle.user_laws.proofs.Staying.{With, tries_stay}
 use Rattle.user_laws.proofs.Tabled.{among_kept, among_with, ascends_with, every_among, every_with, one_row}
@@ -108,6 +109,7 @@ module _ (c : Config) (n : ℕ) (t : List Line) (f : Frame) (w : WaitingCall) (u
     answered = answered_stays c n x t (it f v) l.wanted h may (l.caller, l.named) away l.answered;
     sent = every_both (PacketFact c t) (PacketFact c newer) (request_packets f v v.asking) (λ p sent. packet_stays c n x t h may stay p sent) l.sent;
     brings = brought_same (it f v) v.words v.brought l.brings;
+    copied = copied_stays c n x t versions.stands versions.contents f v.words v.begins v.copied l.copied;
   }
     where
       away : d ≡ it f v → ⊥
@@ -147,17 +149,18 @@ module _ (c : Config) (n : ℕ) (t : List Line) (f : Frame) (w : WaitingCall) (u
     answered = inl asks_it;
     sent = sent;
     brings = brought_same d w.words w.brought fact.brings;
+    copied = copied_stays c n x t versions.stands versions.contents f w.words w.begins w.copied fact.copied;
   }
 
   instance_same : (i : UserInstance) → UserInstanceFact c t f i → UserInstanceFact c newer f i
-  instance_same i p = record { call = p.call; request = p.request; mode = p.mode; file = p.file; stamp = p.stamp; was_granted = inr p.was_granted; sees = sees_stay c t newer versions p.file p.mode p.stamp i.vector p.sees; ops = p.ops }
+  instance_same i p = record { call = p.call; request = p.request; mode = p.mode; file = p.file; stamp = p.stamp; was_granted = inr p.was_granted; sees = sees_stay c t newer versions p.file p.mode p.stamp i.vector p.sees; reads = reads_stay c t newer versions p.mode p.file p.stamp i.reads p.reads; ops = p.ops }
 
   pub again_fine : UsersFine c n t f (looks_again f w (asking.Look file asked times) u)
   again_fine = record {
     told = (may, tt);
     own = (refl, tt);
     view = record {
-      always = record { boot_is = k.always.boot_is; calls = k.always.calls; serials = k.always.serials; descriptors = k.always.descriptors; ascends = k.always.ascends };
+      always = record { boot_is = k.always.boot_is; calls = k.always.calls; serials = k.always.serials; descriptors = k.always.descriptors; ascends = k.always.ascends; cache = k.always.cache };
       inside = record {
         calls = every_with waiting_key (record w { asking = asking.Look file asked (times + 1) }) (WaitingFact c t f) (WaitingFact c newer f) u.waiting (λ v apart l. waiting_same v apart l) k.inside.ascends k.inside.calls own;
         ascends = ascends_with waiting_key (record w { asking = asking.Look file asked (times + 1) }) u.waiting k.inside.ascends;

@@ -40,6 +40,7 @@ use Rattle.tree_laws.proofs.Waiting.{found_among}
 use Rattle.holding_laws.proofs.of_order_laws.ProcessHad.{IsHere, holders_one}
 use Rattle.holding_laws.proofs.of_order_laws.ProcessOperations.{op_is}
 use Rattle.user_laws.specs.Turning.{it, InstanceTurns}
+use Rattle.user_laws.proofs.Caching.{copied_stays, reads_stay}
 use Rattle.user_laws.proofs.Staying.{With, log_stays, tries_stay}
 
 -- the call turns by the line: what that leaves as it was
@@ -115,6 +116,7 @@ module _ (c : Config) (n : ℕ) (x : Told) (t : List Line) (f : Frame) (d : Call
     answered = answered_stays c n x t (it f v) l.wanted h may (l.caller, l.named) (one.unturned (it f v) away) l.answered;
     sent = every_both (PacketFact c t) (PacketFact c newer) (request_packets f v v.asking) (λ p fact. packet_stays c n x t h may stay p fact) l.sent;
     brings = one.brings (it f v) v.words v.brought away l.brings;
+    copied = copied_stays c n x t versions.stands versions.contents f v.words v.begins v.copied l.copied;
   }
 
   -- ---- an instance ----
@@ -128,5 +130,6 @@ module _ (c : Config) (n : ℕ) (x : Told) (t : List Line) (f : Frame) (d : Call
     stamp = p.stamp;
     was_granted = inr p.was_granted;
     sees = sees_stay c t newer versions p.file p.mode p.stamp i.vector p.sees;
+    reads = reads_stay c t newer versions p.mode p.file p.stamp i.reads p.reads;
     ops = ap (λ (m : ℕ). cond (is_op_on (serial_of f.me i.serial) (asked_now c newer d)) (m + 1) m) p.ops ∙ sym (one.ops (serial_of f.me i.serial) ∙ ap (λ (b : Bool). cond (b && is_op_on (serial_of f.me i.serial) (asked_now c newer d)) (ops_asked c t (serial_of f.me i.serial) + 1) (ops_asked c t (serial_of f.me i.serial))) (equal_self f.me));
   }

@@ -25,11 +25,13 @@ use Rattle.lawful_trace.specs.Lawful.{MayCome}
 use Rattle.lawful_trace.specs.Tables.{closed_by, opened_by, descriptor}
 use Rattle.tree_laws.specs.Printed.{entries, onto_entries}
 use Rattle.tree_laws.specs.Following.{MayTell, IsFollowed}
+use Rattle.tree_laws.specs.Frames.{IsFresh}
 use Rattle.tree_laws.specs.Serials.{opens_asked}
 use Rattle.tree_laws.specs.Users.{UsersFact}
 use Rattle.tree_laws.proofs.Boots.{every_filter, every_passes, found_every}
 use Rattle.tree_laws.specs.Doing.{IsOfUsers, IsOfSite}
 use Rattle.user_laws.specs.Booting.{no_users}
+use Rattle.user_laws.proofs.Caching.{cache_told}
 use Rattle.user_laws.proofs.Staying.{boots_stay, calls_stay, opens_stay, descriptors_stay}
 
 abbrev More : ℕ → Record → Trace → Trace
@@ -138,7 +140,7 @@ all_down c (x ∷ older) h s down = down_told c x.number x.told older h.0 (all_d
 -- ---- a site that has just booted ----
 
 pub first_users : (c : Config) (me : ℕ) → UsersFact c [] me 1 no_users
-first_users c me = record { boot_is = refl; calls = refl; serials = refl; descriptors = λ process fd lt. refl; ascends = tt }
+first_users c me = record { boot_is = refl; calls = refl; serials = refl; descriptors = λ process fd lt. refl; ascends = tt; cache = tt }
 
 pub booted_users : (c : Config) (n me boot : ℕ) (older : List Line) → IsFollowed c older → MayTell c older (Shown (says.Up me boot)) → UsersFact c (record { number = n; told = Shown (says.Up me boot) } ∷ older) me boot no_users
 booted_users c n me boot older h may = record {
@@ -147,14 +149,16 @@ booted_users c n me boot older h may = record {
   serials = sym (ap (λ (b : Bool). cond b 0 (opens_asked c older me)) (equal_self me));
   descriptors = λ process fd lt. sym ((all_down c older h me may.row.stopped).descriptors process fd);
   ascends = tt;
+  cache = tt;
 }
 
 -- what a site in no epoch counts stays when somebody else tells a line
-pub outside_stays : (c : Config) (n : ℕ) (x : Told) (older : List Line) (me boot : ℕ) (u : Users) → (IsOfUsers me x → ⊥) → (IsOfSite me x → ⊥) → UsersFact c older me boot u → UsersFact c (record { number = n; told = x } ∷ older) me boot u
-outside_stays c n x older me boot u away calm k = record {
+pub outside_stays : (c : Config) (n : ℕ) (x : Told) (older : List Line) (me boot : ℕ) (u : Users) → IsFresh c older x → (IsOfUsers me x → ⊥) → (IsOfSite me x → ⊥) → UsersFact c older me boot u → UsersFact c (record { number = n; told = x } ∷ older) me boot u
+outside_stays c n x older me boot u fresh away calm k = record {
   boot_is = k.boot_is ∙ sym (boots_stay n me x older calm);
   calls = k.calls ∙ sym (calls_stay n me x older away calm);
   serials = k.serials ∙ sym (opens_stay c n me x older away calm);
   descriptors = λ process fd lt. k.descriptors process fd lt ∙ sym (descriptors_stay n me process fd x older away calm);
   ascends = k.ascends;
+  cache = cache_told c n x older fresh u.cache k.cache;
 }

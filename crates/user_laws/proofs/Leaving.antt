@@ -79,7 +79,7 @@ all_own f (w ∷ ws) = (refl, all_own f ws)
 -- ---- what stays ----
 
 answered_stays : (c : Config) (n : ℕ) (t : List Line) (f : Frame) (w : WaitingCall) (u : Users) → UsersFact c t f.me f.boot u → UsersFact c (With n (reply_record f.me f.boot w (reply.No (refusal.Changed f.epoch))) t) f.me f.boot u
-answered_stays c n t f w u k = record { boot_is = k.boot_is; calls = k.calls; serials = k.serials; descriptors = λ process fd lt. k.descriptors process fd lt ∙ sym (either ((f.me == f.me) && (w.process == process)) (descriptor (entries t) f.me process fd)); ascends = k.ascends }
+answered_stays c n t f w u k = record { boot_is = k.boot_is; calls = k.calls; serials = k.serials; descriptors = λ process fd lt. k.descriptors process fd lt ∙ sym (either ((f.me == f.me) && (w.process == process)) (descriptor (entries t) f.me process fd)); ascends = k.ascends; cache = k.cache }
   where
     either : {A : Type 0} (b : Bool) (old : A) → cond b old old ≡ old
     either true old = refl
@@ -116,7 +116,7 @@ pub users_leave_fine : (c : Config) (n : ℕ) (older : List Line) (f : Frame) (u
 users_leave_fine c n older f u k = record {
   told = all_told c n (With n (Shown (says.Leave f.me f.epoch)) older) f u.waiting (ap (λ (b : Bool). cond b None (epoch_of (entries older) f.me)) (equal_self f.me)) (all_apart c older f u.waiting k.inside.ascends k.inside.calls) (all_left c n older f u.waiting k.inside.calls);
   own = all_own f u.waiting;
-  always = all_answered c n (With n (Shown (says.Leave f.me f.epoch)) older) f u.waiting (record u { waiting = []; instances = []; hopeless = [] }) (record { boot_is = k.always.boot_is; calls = k.always.calls; serials = k.always.serials; descriptors = k.always.descriptors; ascends = k.always.ascends });
+  always = all_answered c n (With n (Shown (says.Leave f.me f.epoch)) older) f u.waiting (record u { waiting = []; instances = []; hopeless = [] }) (record { boot_is = k.always.boot_is; calls = k.always.calls; serials = k.always.serials; descriptors = k.always.descriptors; ascends = k.always.ascends; cache = k.always.cache });
   sent = refl;
   none_waits = idle_waits c n older f u k.inside;
   has_none = idle_has c n older f u;

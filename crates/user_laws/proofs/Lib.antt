@@ -1,5 +1,6 @@
 pub mod Tabled
 pub mod Staying
+pub mod Caching
 pub mod Views
 pub mod Idle
 pub mod Leaving
@@ -15,10 +16,12 @@ pub mod Looked
 pub mod Again
 pub mod OnLook
 pub mod OnOp
+pub mod OnHeld
 pub mod OnClose
 pub mod OpenOnce
 pub mod OpenGrants
 pub mod OpenAsked
+pub mod OpenRead
 pub mod OnOpen
 pub mod Accepting
 pub use Rattle.holding_laws.proofs as of_holding_laws

@@ -11,7 +11,7 @@ use Rattle.trace_book.specs.declared.operation.Outcome.TheVariants as result
 use Rattle.call_rules.specs.declared.want.Want.{Want}
 use Rattle.call_rules.specs.declared.want.Want.TheVariants as want
 use Rattle.role_steps.specs.Tables.{first_that}
-use Rattle.role_steps.specs.Using.{answers_op, asks_op_number, on_op_done, on_op_done_of, op_answer, takes_answer}
+use Rattle.role_steps.specs.Using.{answers_op, asks_op_number, keeps_brought, on_op_done, on_op_done_of, op_answer, takes_answer}
 use Rattle.role_steps.specs.Views.{Users, Frame}
 use Rattle.role_steps.specs.declared.users.Asking.{Asking}
 use Rattle.role_steps.specs.declared.users.Asking.TheVariants as asking
@@ -23,10 +23,12 @@ use Rattle.tree_laws.specs.Calls.{Waits, script}
 use Rattle.tree_laws.specs.Doing.{FrameFact, UsersFine, UsersInside}
 use Rattle.tree_laws.specs.Following.{IsFollowed}
 use Rattle.tree_laws.specs.Packets.{OpDoneFact, serial_of}
+use Rattle.tree_laws.specs.Past.{WasDone}
 use Rattle.tree_laws.specs.Serials.{asked_now, ops_asked}
 use Rattle.tree_laws.specs.Users.{had, had_by, AskingIs, WaitingFact}
-use Rattle.user_laws.specs.Rests.{ActRests, Staying}
+use Rattle.user_laws.specs.Rests.{ActRests, ReadRests, Staying}
 use Rattle.user_laws.specs.Turning.{it}
+use Rattle.user_laws.proofs.Caching.{Keeps, keeps_so, with_pages}
 use Rattle.user_laws.proofs.OnLook.{NoContent, takes_plain}
 use Rattle.user_laws.proofs.Taking.{call_here}
 use Rattle.user_laws.proofs.Tabled.{every_among, first_found}
@@ -55,7 +57,7 @@ is_asked w serial n r test = over w.asking refl test
     over (asking.Close s ss) e z = absurd (true_false (sym z))
 
 -- by the trace
-op_asked : (c : Config) (t : List Line) (me : ℕ) (d : CallId) (y : Want) (serial ss n : ℕ) (o : Op) (seen : List ℕ) → AskingIs c t me d y (asking.Op serial ss n o seen) → (y ≡ want.Do (serial_of me serial) o) × (n ≡ ops_asked c t (serial_of me serial))
+pub op_asked : (c : Config) (t : List Line) (me : ℕ) (d : CallId) (y : Want) (serial ss n : ℕ) (o : Op) (seen : List ℕ) → AskingIs c t me d y (asking.Op serial ss n o seen) → (y ≡ want.Do (serial_of me serial) o) × (n ≡ ops_asked c t (serial_of me serial))
 op_asked c t me d (want.Do inst p) serial ss n o seen z = (ap (λ (x : Op). want.Do inst x) (sym z.1) ∙ ap (λ (i : Serial). want.Do i o) (sym z.0), z.2 ∙ ap (ops_asked c t) (sym z.0))
 op_asked c t me d _ serial ss n o seen z = absurd z
 
@@ -74,11 +76,12 @@ keeps i o (result.Found ino kind) old = refl
 keeps i o (result.Data bytes) old = refl
 keeps i o (result.Committed stamp) old = refl
 
-pub op_done_fine : (c : Config) (n : ℕ) (t : List Line) (f : Frame) (u : Users) (serial number : ℕ) (r : Result) → IsFollowed c t → FrameFact c t f → UsersInside c f t u → ActRests c t → OpDoneFact t f.epoch (serial_of f.me serial) number r → Staying c n t (on_op_done f serial number r u).told → UsersFine c n t f (on_op_done f serial number r u)
-op_done_fine c n t f u serial number r h frame k acts l staying = over (first_that (asks_op_number serial number r) u.waiting) refl staying
+pub op_done_fine : (c : Config) (n : ℕ) (t : List Line) (f : Frame) (u : Users) (serial number : ℕ) (r : Result) → IsFollowed c t → FrameFact c t f → UsersInside c f t u → ActRests c t → ReadRests c t → OpDoneFact t f.epoch (serial_of f.me serial) number r → Staying c n t (on_op_done f serial number r u).told → UsersFine c n t f (on_op_done f serial number r u)
+op_done_fine c n t f u serial number r h frame k acts reads l staying = over (first_that (asks_op_number serial number r) u.waiting) refl staying
   where
-    take : (w : WaitingCall) → Among w u.waiting → IsAsked w serial number → Staying c n t (takes_answer f w (op_answer r) u).told → UsersFine c n t f (takes_answer f w (op_answer r) u)
-    take w among z s = takes_plain c n t f u h frame k w (op_answer r) (no_content r) among waits (ap (λ (v : Want). had_by v (op_answer r) (had c t f.me)) wants ∙ keeps (serial_of f.me serial) z.operation r (had c t f.me)) s
+    take : (w : WaitingCall) → Among w u.waiting → IsAsked w serial number → Staying c n t (takes_answer f w (op_answer r) (keeps_brought w.asking r u)).told → UsersFine c n t f (takes_answer f w (op_answer r) (keeps_brought w.asking r u))
+    take w among z = subst (λ (v : Users). Staying c n t (takes_answer f w (op_answer r) v).told → UsersFine c n t f (takes_answer f w (op_answer r) v)) (sym kept.same)
+        (takes_plain c n t f (record u { cache = kept.pages }) h frame (with_pages c t f u k kept.pages kept.right) w (op_answer r) (no_content r) among waits (ap (λ (v : Want). had_by v (op_answer r) (had c t f.me)) wants ∙ keeps (serial_of f.me serial) z.operation r (had c t f.me)))
       where
         fact : WaitingFact c t f w
         fact = every_among (WaitingFact c t f) w u.waiting among k.inside.calls
@@ -91,6 +94,12 @@ op_done_fine c n t f u serial number r h frame k acts l staying = over (first_th
 
         waits : Waits c t (it f w) (op_answer r)
         waits = acts.done f.epoch (it f w) (serial_of f.me serial) z.operation number r (call_here c t f w frame fact) wants by_trace.1 l
+
+        done : WasDone t f.epoch (serial_of f.me serial) number z.operation r
+        done = subst (λ (o : Op). WasDone t f.epoch (serial_of f.me serial) number o r) (acts.same f.epoch (it f w) (serial_of f.me serial) z.operation l.0 number r (call_here c t f w frame fact) wants by_trace.1 l.1) l.1
+
+        kept : Keeps c t f u k reads serial z.place number z.seen (keeps_brought w.asking r u)
+        kept = subst (λ (a : Asking). Keeps c t f u k reads serial z.place number z.seen (keeps_brought a r u)) (sym z.asking_is) (keeps_so c t f u k reads serial z.place number z.seen z.operation r done)
 
     over : (o : Option WaitingCall) → first_that (asks_op_number serial number r) u.waiting ≡ o → Staying c n t (on_op_done_of f r o u).told → UsersFine c n t f (on_op_done_of f r o u)
     over None e s = record { told = tt; own = tt; view = k; sent = tt; written = tt }

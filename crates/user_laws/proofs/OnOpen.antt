@@ -27,7 +27,7 @@ use Rattle.wire_messages.specs.declared.body.Opening.{Opening}
 use Rattle.wire_messages.specs.declared.body.Opening.TheVariants as how
 use Rattle.role_steps.specs.Requests.{instance_serial, with_user_instance}
 use Rattle.role_steps.specs.Tables.{first_that, row, with_row}
-use Rattle.role_steps.specs.Using.{asked_answer, asks_open_of, goes_on, kept_for, mended_file, on_open_done, on_open_done_of, opened_answer, takes_answer, takes_open, takes_record, with_answer}
+use Rattle.role_steps.specs.Using.{asked_answer, asks_open_of, goes_on, kept_for, mended_file, on_open_done, on_open_done_of, opened_answer, takes_answer, takes_open, takes_record, with_answer, version_read}
 use Rattle.role_steps.specs.Views.{Frame, Shown, Told, Users}
 use Rattle.role_steps.specs.declared.users.Asking.{Asking}
 use Rattle.role_steps.specs.declared.users.Asking.TheVariants as asking
@@ -50,7 +50,7 @@ use Rattle.tree_laws.specs.Instances.{IsOpening, IsStarted}
 use Rattle.tree_laws.specs.Packets.{GrantedFact, OpenDoneFact, serial_of}
 use Rattle.tree_laws.specs.Past.{GrantRecord, Printed, RefusalRecord, Was, WasGranted, WasRefused}
 use Rattle.tree_laws.specs.Serials.{asked_now, is_open_want, ops_asked, serial_asked}
-use Rattle.tree_laws.specs.Users.{had, had_by, without_closed, AskingIs, UserInstanceFact, WaitingFact}
+use Rattle.tree_laws.specs.Users.{had, had_by, without_closed, AskingIs, ReadsFact, UserInstanceFact, WaitingFact}
 use Rattle.tree_laws.proofs.Mending.{mends_at_sync}
 use Rattle.holding_laws.proofs.of_order_laws.ProcessCurrentOpens.{granted_waits, refused_waits}
 use Rattle.user_laws.specs.Rests.{Follows, IsKeptBy, OpenRests, Staying}
@@ -59,6 +59,7 @@ use Rattle.user_laws.proofs.Going.{goes_fine}
 use Rattle.user_laws.proofs.OnLook.{NoContent, brings_kept, takes_plain}
 use Rattle.user_laws.proofs.OpenGrants.{Fits, GrantedSo, granted_so}
 use Rattle.user_laws.proofs.OpenAsked.{granted_asked, told_so}
+use Rattle.user_laws.proofs.OpenRead.{noted_so}
 use Rattle.user_laws.proofs.OpenOnce.{AnsweredRecord, WasOpenAnswered, open_once}
 use Rattle.user_laws.proofs.Staying.{With}
 use Rattle.user_laws.proofs.Taking.{again, call_here, call_turns, frame_so, instance_turns, may_take, others_turn, serials_turn}
@@ -184,7 +185,7 @@ module _ (c : Config) (n : ℕ) (t : List Line) (f : Frame) (u : Users) (kept : 
 
   -- ---- granted ----
 
-  module _ (ss ino : ℕ) (stamp : Stamp) (vector : List ℕ) (l : GrantedFact c t f.epoch f.me serial ss ino stamp vector) where
+  module _ (ss ino size : ℕ) (stamp : Stamp) (vector : List ℕ) (l : GrantedFact c t f.epoch f.me serial ss ino size stamp vector) where
     is : (l.call ≡ d) × (request_number t d ≡ l.request)
     is = one l.call l.request (granted_answered t f.epoch l.call l.request i l.mode l.file l.stamp ss l.was_granted)
 
@@ -224,7 +225,7 @@ module _ (c : Config) (n : ℕ) (t : List Line) (f : Frame) (u : Users) (kept : 
     waits = waits_for w.words refl (subst (λ (y : Call). Fits y l.mode l.file) words_are so.fits)
 
     abbrev new : UserInstance
-    new = record { serial = serial; ss = ss; vector = vector; ops = 0 }
+    new = record { serial = serial; ss = ss; vector = vector; ops = 0; reads = version_read size stamp w.asking }
 
     opened : Staying c n t (takes_answer f w given (with_user_instance new u)).told → UsersFine c n t f (takes_answer f w given (with_user_instance new u))
     opened s = record { told = (may_take c t f w given fact waits, rest.told); own = (refl, rest.own); view = rest.view; sent = rest.sent; written = rest.written }
@@ -248,8 +249,11 @@ module _ (c : Config) (n : ℕ) (t : List Line) (f : Frame) (u : Users) (kept : 
         ops_are : 0 ≡ ops_asked c t i
         ops_are = sym (ap (λ (m : ℕ). ops_asked c t (serial_of f.me m)) by_trace.1 ∙ rests.unasked f.epoch d (call_here c t f w frame fact) opens)
 
+        reads_are : ReadsFact c t l.mode l.file l.stamp (version_read size stamp w.asking)
+        reads_are = subst (λ (a : Asking). ReadsFact c t l.mode l.file l.stamp (version_read size stamp a)) (sym z.asking_is) (noted_so c t l.mode l.file z.file l.stamp size serial stamp fact.wanted l.told_is l.sized asked z.how opening)
+
         own : InstanceTurns c (With n (takes_record f w given) t) f d new
-        own = instance_turns c n t f w u given h frame k among waits stay new (record { call = l.call; request = l.request; mode = l.mode; file = l.file; stamp = l.stamp; was_granted = l.was_granted; sees = l.sees; ops = ops_are })
+        own = instance_turns c n t f w u given h frame k among waits stay new (record { call = l.call; request = l.request; mode = l.mode; file = l.file; stamp = l.stamp; was_granted = l.was_granted; sees = l.sees; reads = reads_are; ops = ops_are })
 
         turning : Turning c (With n (takes_record f w given) t) f (with_answer w given) (with_user_instance new u)
         turning = record {
@@ -263,7 +267,7 @@ module _ (c : Config) (n : ℕ) (t : List Line) (f : Frame) (u : Users) (kept : 
         rest = goes_fine c n (With n (takes_record f w given) t) f (with_answer w given) (with_user_instance new u) (again c n t f w u given h frame k among waits stay) (frame_so c n t f w u given h frame k among waits stay) turning next.0.requests next.0.replies next.1
 
   takes_fine : (a : Granted) → OpenDoneFact c t f.epoch f.me serial a → Staying c n t (takes_open f kept serial w a u).told → UsersFine c n t f (takes_open f kept serial w a u)
-  takes_fine (granted.Open ss ino size stamp vector) l s = opened ss ino stamp vector l s
+  takes_fine (granted.Open ss ino size stamp vector) l s = opened ss ino size stamp vector l s
   takes_fine (granted.No why) l s = refused why l s
 
 pub open_done_fine : (c : Config) (n : ℕ) (t : List Line) (f : Frame) (u : Users) (kept : FileId → List Stamp) (serial : ℕ) (a : Granted) → IsFollowed c t → FrameFact c t f → UsersInside c f t u → OpenRests c t → IsKeptBy c t f kept → OpenDoneFact c t f.epoch f.me serial a → Staying c n t (on_open_done f kept serial a u).told → UsersFine c n t f (on_open_done f kept serial a u)

@@ -57,6 +57,7 @@ use Rattle.tree_laws.proofs.Names.{same_call_eq, same_call_own, same_epoch_own}
 use Rattle.tree_laws.proofs.Stepping.{answered_stays}
 use Rattle.tree_laws.proofs.Versions.{versions_stay}
 use Rattle.user_laws.specs.Turning.{it, Counted}
+use Rattle.user_laws.proofs.Caching.{copied_stays, reads_stay}
 use Rattle.user_laws.proofs.Staying.{With, find_kept, find_before}
 use Rattle.user_laws.proofs.Tabled.{every_without, ascends_without, ascends_with, among_without}
 
@@ -132,6 +133,7 @@ module _ (c : Config) (n : ℕ) (t : List Line) (f : Frame) (w : WaitingCall) (u
     answered = answered_stays c n x t (it f v) l.wanted h may (l.caller, l.named) (λ z. z) l.answered;
     sent = every_both (PacketFact c t) (PacketFact c newer) (request_packets f v v.asking) (λ p fact. packet_stays c n x t h may stay p fact) l.sent;
     brings = brought_same (it f v) v.words v.brought l.brings;
+    copied = copied_stays c n x t versions.stands versions.contents f v.words v.begins v.copied l.copied;
   }
     where
       other : (b : Bool) → same_call l.caller.call d ≡ b → not (same_call l.caller.call d) ≡ true
@@ -143,7 +145,7 @@ module _ (c : Config) (n : ℕ) (t : List Line) (f : Frame) (w : WaitingCall) (u
   apart_call v apart l e = apart (ap (λ (y : Waiting). waiting_of y.process y.words) (sym l.caller_is ∙ (some_same l.caller k.call.caller (sym l.named ∙ (ap (call_named (entries t)) e ∙ k.call.named)) ∙ k.call.caller_is)))
 
   instance_same : (i : UserInstance) → UserInstanceFact c t f i → UserInstanceFact c newer f i
-  instance_same i p = record { call = p.call; request = p.request; mode = p.mode; file = p.file; stamp = p.stamp; was_granted = inr p.was_granted; sees = sees_stay c t newer versions p.file p.mode p.stamp i.vector p.sees; ops = p.ops }
+  instance_same i p = record { call = p.call; request = p.request; mode = p.mode; file = p.file; stamp = p.stamp; was_granted = inr p.was_granted; sees = sees_stay c t newer versions p.file p.mode p.stamp i.vector p.sees; reads = reads_stay c t newer versions p.mode p.file p.stamp i.reads p.reads; ops = p.ops }
 
   -- ---- who waits still ----
 
@@ -171,7 +173,7 @@ module _ (c : Config) (n : ℕ) (t : List Line) (f : Frame) (w : WaitingCall) (u
       ((file : FileId) → sync_site c file.group (members_of (entries t) f.epoch) ≡ Some f.me → list_any (same_file file) fs ≡ has_lost_mend (entries newer) f.epoch file) →
       UsersInside c f newer (record u { waiting = without_row waiting_key (waiting_key w) u.waiting; descriptors = ds; hopeless = fs })
   whole ds fs up described lost = record {
-    always = record { boot_is = k.others.boot_is; calls = k.others.calls; serials = k.serials; descriptors = described; ascends = up };
+    always = record { boot_is = k.others.boot_is; calls = k.others.calls; serials = k.serials; descriptors = described; ascends = up; cache = k.others.cache };
     inside = record {
       calls = every_without waiting_key (waiting_key w) (λ (v : WaitingCall). (waiting_key v ≡ waiting_key w → ⊥) → WaitingFact c t f v) (WaitingFact c newer f) u.waiting (λ v apart fact. waiting_same v (apart_call v apart (fact apart)) (fact apart)) k.others.ascends k.others.waits;
       ascends = ascends_without waiting_key (waiting_key w) u.waiting k.others.ascends;

@@ -13,6 +13,7 @@ use Rattle.trace_book.specs.Same.{same_serial}
 use Rattle.trace_book.specs.declared.operation.Op.{Op}
 use Rattle.trace_book.specs.declared.operation.Op.TheVariants as op
 use Rattle.trace_book.specs.declared.operation.What.{What}
+use Rattle.call_rules.specs.declared.answer.Answer.{Answer}
 use Rattle.call_rules.specs.declared.want.Want.{Want}
 use Rattle.call_rules.specs.declared.want.Want.TheVariants as want
 use Rattle.wire_messages.specs.declared.body.Body.{Body}
@@ -20,7 +21,7 @@ use Rattle.wire_messages.specs.declared.body.Body.TheVariants as body
 use Rattle.wire_messages.specs.declared.body.Opening.{Opening}
 use Rattle.wire_messages.specs.declared.body.Opening.TheVariants as how
 use Rattle.role_steps.specs.Own.{Every}
-use Rattle.role_steps.specs.Requests.{waiting_key, instance_serial, user_instance, with_user_instance, made_for, opening_of, request_packets, next_request, asks, asks_look, asks_open, asks_make, asks_op, asks_op_of, asks_close, asks_close_of, seen_by}
+use Rattle.role_steps.specs.Requests.{waiting_key, instance_serial, user_instance, with_user_instance, made_for, opening_of, operation_body, request_packets, next_request, asks, asks_look, asks_open, asks_make, asks_op, asks_op_of, asks_close, asks_close_of, seen_by}
 use Rattle.role_steps.specs.Tables.{row, with_row}
 use Rattle.role_steps.specs.Using.{next_want, asks_want, goes_on}
 use Rattle.role_steps.specs.Views.{Users, Frame, packet, to_some, sync_site}
@@ -96,6 +97,7 @@ module _ (c : Config) (n : ℕ) (t : List Line) (f : Frame) (h : IsFollowed c t)
     answered = inl (asks_it w v k asked request);
     sent = sent;
     brings = k.brings;
+    copied = k.copied;
   }
 
   asks_fine : (w : WaitingCall) (u : Users) (a : Asking) (v : Want) → Counted c t f w u → asked_now c t (it f w) ≡ v → is_request v ≡ true → AskingIs c t f.me (it f w) v a → Every (PacketFact c t) (request_packets f (next_request w a) a) → UsersFine c n t f (asks f (next_request w a) u)
@@ -103,7 +105,7 @@ module _ (c : Config) (n : ℕ) (t : List Line) (f : Frame) (h : IsFollowed c t)
     told = tt;
     own = tt;
     view = record {
-      always = record { boot_is = k.others.boot_is; calls = k.others.calls; serials = k.serials; descriptors = k.others.descriptors; ascends = k.others.listed };
+      always = record { boot_is = k.others.boot_is; calls = k.others.calls; serials = k.serials; descriptors = k.others.descriptors; ascends = k.others.listed; cache = k.others.cache };
       inside = record {
         calls = every_with waiting_key (next_request w a) (λ (v : WaitingCall). (waiting_key v ≡ waiting_key w → ⊥) → WaitingFact c t f v) (WaitingFact c t f) u.waiting (λ v apart fact. fact apart) k.others.ascends k.others.waits (waits_so w a v k.call asked request is sent);
         ascends = ascends_with waiting_key (next_request w a) u.waiting k.others.ascends;
@@ -133,7 +135,7 @@ module _ (c : Config) (n : ℕ) (t : List Line) (f : Frame) (h : IsFollowed c t)
   }
     where
       instance_same : (i : UserInstance) → InstanceTurns c t f (it f w) i → UserInstanceFact c t f i
-      instance_same i p = record { call = p.call; request = p.request; mode = p.mode; file = p.file; stamp = p.stamp; was_granted = p.was_granted; sees = p.sees; ops = sym (ap (λ (b : Bool). cond b (i.ops + 1) i.ops) (ap (is_op_on (serial_of f.me i.serial)) asked ∙ no_op (serial_of f.me i.serial))) ∙ p.ops }
+      instance_same i p = record { call = p.call; request = p.request; mode = p.mode; file = p.file; stamp = p.stamp; was_granted = p.was_granted; sees = p.sees; reads = p.reads; ops = sym (ap (λ (b : Bool). cond b (i.ops + 1) i.ops) (ap (is_op_on (serial_of f.me i.serial)) asked ∙ no_op (serial_of f.me i.serial))) ∙ p.ops }
 
   -- ---- looks ----
 
@@ -154,13 +156,13 @@ module _ (c : Config) (n : ℕ) (t : List Line) (f : Frame) (h : IsFollowed c t)
   one_open : (w : WaitingCall) (u : Users) (v : Want) → Turning c t f w u → asked_now c t (it f w) ≡ v → is_open_want v ≡ true → ((i : Serial) → is_op_on i v ≡ false) → Counted c t f w (record u { serials = u.serials + 1 })
   one_open w u v k asked opens no_op = record {
     call = k.call;
-    others = record { boot_is = k.others.boot_is; calls = k.others.calls; descriptors = k.others.descriptors; listed = k.others.listed; waits = k.others.waits; ascends = k.others.ascends; numbered = k.others.numbered; has = k.others.has; all = k.others.all; hopeless = k.others.hopeless };
+    others = record { boot_is = k.others.boot_is; calls = k.others.calls; descriptors = k.others.descriptors; listed = k.others.listed; cache = k.others.cache; waits = k.others.waits; ascends = k.others.ascends; numbered = k.others.numbered; has = k.others.has; all = k.others.all; hopeless = k.others.hopeless };
     serials = sym (ap (λ (b : Bool). cond b (u.serials + 1) u.serials) (ap is_open_want asked ∙ opens)) ∙ k.serials;
     instances = every_both (InstanceTurns c t f (it f w)) (UserInstanceFact c t f) u.instances (λ i p. instance_same i p) k.instances;
   }
     where
       instance_same : (i : UserInstance) → InstanceTurns c t f (it f w) i → UserInstanceFact c t f i
-      instance_same i p = record { call = p.call; request = p.request; mode = p.mode; file = p.file; stamp = p.stamp; was_granted = p.was_granted; sees = p.sees; ops = sym (ap (λ (b : Bool). cond b (i.ops + 1) i.ops) (ap (is_op_on (serial_of f.me i.serial)) asked ∙ no_op (serial_of f.me i.serial))) ∙ p.ops }
+      instance_same i p = record { call = p.call; request = p.request; mode = p.mode; file = p.file; stamp = p.stamp; was_granted = p.was_granted; sees = p.sees; reads = p.reads; ops = sym (ap (λ (b : Bool). cond b (i.ops + 1) i.ops) (ap (is_op_on (serial_of f.me i.serial)) asked ∙ no_op (serial_of f.me i.serial))) ∙ p.ops }
 
   pub open_fine : (w : WaitingCall) (u : Users) (file : FileId) (m : Opening) (v : Want) → Turning c t f w u → asked_now c t (it f w) ≡ v → is_request v ≡ true → is_open_want v ≡ true → ((i : Serial) → is_op_on i v ≡ false) → IsOpening c v file m → (u.serials + 1 ≡ serial_asked c t (it f w) → AskingIs c t f.me (it f w) v (asking.Open (u.serials + 1) file m)) →
       UsersFine c n t f (asks_open f w file m u)
@@ -265,7 +267,7 @@ module _ (c : Config) (n : ℕ) (t : List Line) (f : Frame) (h : IsFollowed c t)
   one_op : (w : WaitingCall) (u : Users) (inst : Serial) (o : Op) (i : UserInstance) → Turning c t f w u → asked_now c t (it f w) ≡ want.Do inst o → Among i u.instances → serial_of f.me i.serial ≡ inst → user_instance u i.serial ≡ Some i → Counted c t f w (with_user_instance (record i { ops = i.ops + 1 }) u)
   one_op w u inst o i k asked among same found = record {
     call = k.call;
-    others = record { boot_is = k.others.boot_is; calls = k.others.calls; descriptors = k.others.descriptors; listed = k.others.listed; waits = k.others.waits; ascends = k.others.ascends; numbered = ascends_with instance_serial more u.instances k.others.numbered; has = λ serial. over serial (i.serial == serial) refl ∙ k.others.has serial; all = k.others.all; hopeless = k.others.hopeless };
+    others = record { boot_is = k.others.boot_is; calls = k.others.calls; descriptors = k.others.descriptors; listed = k.others.listed; cache = k.others.cache; waits = k.others.waits; ascends = k.others.ascends; numbered = ascends_with instance_serial more u.instances k.others.numbered; has = λ serial. over serial (i.serial == serial) refl ∙ k.others.has serial; all = k.others.all; hopeless = k.others.hopeless };
     serials = sym (ap (λ (b : Bool). cond b (u.serials + 1) u.serials) (ap is_open_want asked)) ∙ k.serials;
     instances = every_with instance_serial more (InstanceTurns c t f (it f w)) (UserInstanceFact c t f) u.instances other k.others.numbered k.instances own;
   }
@@ -285,18 +287,24 @@ module _ (c : Config) (n : ℕ) (t : List Line) (f : Frame) (h : IsFollowed c t)
       differs j ne false e = e
 
       other : (j : UserInstance) → (j.serial ≡ i.serial → ⊥) → InstanceTurns c t f (it f w) j → UserInstanceFact c t f j
-      other j ne p = record { call = p.call; request = p.request; mode = p.mode; file = p.file; stamp = p.stamp; was_granted = p.was_granted; sees = p.sees; ops = sym (ap (λ (b : Bool). cond b (j.ops + 1) j.ops) (counts j ∙ differs j ne (same_serial inst (serial_of f.me j.serial)) refl)) ∙ p.ops }
+      other j ne p = record { call = p.call; request = p.request; mode = p.mode; file = p.file; stamp = p.stamp; was_granted = p.was_granted; sees = p.sees; reads = p.reads; ops = sym (ap (λ (b : Bool). cond b (j.ops + 1) j.ops) (counts j ∙ differs j ne (same_serial inst (serial_of f.me j.serial)) refl)) ∙ p.ops }
 
       fact : InstanceTurns c t f (it f w) i
       fact = every_among (InstanceTurns c t f (it f w)) i u.instances among k.instances
 
       own : UserInstanceFact c t f more
-      own = record { call = fact.call; request = fact.request; mode = fact.mode; file = fact.file; stamp = fact.stamp; was_granted = fact.was_granted; sees = fact.sees; ops = sym (ap (λ (b : Bool). cond b (i.ops + 1) i.ops) (counts i ∙ (ap (same_serial inst) same ∙ same_serial_own inst))) ∙ fact.ops }
+      own = record { call = fact.call; request = fact.request; mode = fact.mode; file = fact.file; stamp = fact.stamp; was_granted = fact.was_granted; sees = fact.sees; reads = fact.reads; ops = sym (ap (λ (b : Bool). cond b (i.ops + 1) i.ops) (counts i ∙ (ap (same_serial inst) same ∙ same_serial_own inst))) ∙ fact.ops }
+
+  -- the request is the operation, also where the bytes of a read are at the site
+  op_sent : (copied : Option (List ℕ)) (ss serial m : ℕ) (o : Op) (u : Users) (answers : List Answer) → OpFact c t f.epoch ss (serial_of f.me serial) m o (seen_by u answers o) → PacketFact c t (packet f ss (operation_body copied serial m o (seen_by u answers o)))
+  op_sent None ss serial m o u answers fact = fact
+  op_sent (Some bytes) ss serial m (op.Read at len) u answers fact = fact
+  op_sent (Some bytes) ss serial m o u answers fact = fact
 
   do_fine : (rests : RequestRests c t) (w : WaitingCall) (u : Users) (inst : Serial) (o : Op) → Turning c t f w u → asked_now c t (it f w) ≡ want.Do inst o → UsersFine c n t f (asks_op f w inst o u)
   do_fine rests w u inst o k asked = subst (λ (p : Option UserInstance). UsersFine c n t f (asks_op_of f w o p u)) (sym z.found)
       (asks_fine w (with_user_instance (record z.has { ops = z.has.ops + 1 }) u) (asking.Op z.has.serial z.has.ss (z.has.ops + 1) o (seen_by u w.answers o)) (want.Do inst o) counted asked refl (z.serial_is, refl, number)
-      (subst (λ (j : Serial). OpFact c t f.epoch z.has.ss j (z.has.ops + 1) o (seen_by u w.answers o)) (sym z.serial_is) acts, tt))
+      (op_sent w.copied z.has.ss z.has.serial (z.has.ops + 1) o u w.answers (subst (λ (j : Serial). OpFact c t f.epoch z.has.ss j (z.has.ops + 1) o (seen_by u w.answers o)) (sym z.serial_is) acts), tt))
     where
       asks_so : Asks c t (it f w) (want.Do inst o)
       asks_so = asks_it w (want.Do inst o) k.call asked refl

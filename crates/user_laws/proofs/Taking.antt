@@ -34,6 +34,7 @@ use Rattle.tree_laws.proofs.Names.{same_call_own}
 use Rattle.tree_laws.proofs.Waiting.{found_among}
 use Rattle.user_laws.specs.Rests.{IsCallHere}
 use Rattle.user_laws.specs.Turning.{it, CallTurns, Others, InstanceTurns, Turning}
+use Rattle.user_laws.proofs.Caching.{copied_stays}
 use Rattle.user_laws.proofs.Beside.{TurnsOne, waiting_same, instance_turns as each_turns}
 use Rattle.user_laws.proofs.Leaving.{one_number}
 use Rattle.user_laws.proofs.Staying.{With, other_call, log_stays}
@@ -114,6 +115,7 @@ module _ (c : Config) (n : ℕ) (t : List Line) (f : Frame) (w : WaitingCall) (u
     tries_are = ap (λ (b : Bool). cond b 1 (tries t d)) (same_call_own d);
     serial_is = ap (λ (b : Bool). cond b (opens_asked c newer f.me) (serial_asked c t d)) (same_call_own d);
     brings = brings;
+    copied = copied_stays c n x t (λ g s q. q) (λ g s q. refl) f w.words w.begins w.copied fact.copied;
   }
 
   -- ---- the rest ----
@@ -124,6 +126,7 @@ module _ (c : Config) (n : ℕ) (t : List Line) (f : Frame) (w : WaitingCall) (u
     calls = k.always.calls;
     descriptors = k.always.descriptors;
     listed = k.always.ascends;
+    cache = k.always.cache;
     waits = every_both (WaitingFact c t f) (λ (v : WaitingCall). (waiting_key v ≡ waiting_key w → ⊥) → WaitingFact c newer f v) u.waiting (λ v l apart. waiting_same c n x t f d h may stay one v (turn_of v l apart) l) k.inside.calls;
     ascends = k.inside.ascends;
     numbered = up;

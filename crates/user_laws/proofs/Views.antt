@@ -56,6 +56,7 @@ use Rattle.tree_laws.proofs.Scripts.{named_stays, begun_stays, script_stays}
 use Rattle.tree_laws.proofs.Stepping.{answered_stays}
 use Rattle.tree_laws.proofs.Versions.{versions_stay}
 use Rattle.tree_laws.proofs.Waiting.{accepted}
+use Rattle.user_laws.proofs.Caching.{cache_told, copied_stays, reads_stay}
 use Rattle.user_laws.proofs.Staying.{With, boots_stay, calls_stay, opens_stay, ops_stay, had_stays, descriptors_stay, unturned, log_stays, tries_stay, serial_stays, waits_still, waited_before}
 
 -- ---- mends that were refused for good ----
@@ -161,6 +162,7 @@ module _ (c : Config) (n : ℕ) (x : Told) (older : List Line) (f : Frame) (h : 
     answered = answered_stays c n x older d k.wanted h may (k.caller, k.named) turn k.answered;
     sent = every_both (PacketFact c older) (PacketFact c (With n x older)) (request_packets f w w.asking) (λ p fact. packet_stays c n x older h may stay p fact) k.sent;
     brings = brought_stays d w.words w.brought refl k.brings;
+    copied = copied_stays c n x older versions.stands versions.contents f w.words w.begins w.copied k.copied;
   }
     where
       d : CallId
@@ -178,6 +180,7 @@ module _ (c : Config) (n : ℕ) (x : Told) (older : List Line) (f : Frame) (h : 
     stamp = k.stamp;
     was_granted = inr k.was_granted;
     sees = sees_stay c older (With n x older) versions k.file k.mode k.stamp i.vector k.sees;
+    reads = reads_stay c older (With n x older) versions k.mode k.file k.stamp i.reads k.reads;
     ops = k.ops ∙ sym (ops_stay c n f.me x older (serial_of f.me i.serial) refl away calm);
   }
 
@@ -210,6 +213,7 @@ module _ (c : Config) (n : ℕ) (x : Told) (older : List Line) (f : Frame) (h : 
     serials = k.serials ∙ sym (opens_stay c n f.me x older away calm);
     descriptors = λ process fd lt. k.descriptors process fd lt ∙ sym (descriptors_stay n f.me process fd x older away calm);
     ascends = k.ascends;
+    cache = cache_told c n x older stay.fresh u.cache k.cache;
   }
 
 -- what the using site of a site has stays when somebody else tells a line

@@ -1,5 +1,5 @@
 -- What the steps of a using site take of other laws of followed traces.
-use Rattle.std.specs.Prelude.{ℕ, ◌≡◌, ◌<◌, true, List, [], ◌∷◌, ◌++◌, Option, None, Some}
+use Rattle.std.specs.Prelude.{ℕ, ◌≡◌, ◌<◌, true, List, [], ◌∷◌, ◌++◌, take, drop, Option, None, Some}
 use Rattle.std.specs.List.{find}
 use Rattle.locus_ids.specs.declared.config.Config.{Config}
 use Rattle.locus_ids.specs.declared.ids.CallId.{CallId}
@@ -10,11 +10,13 @@ use Rattle.locus_ids.specs.declared.ids.Serial.{Serial}
 use Rattle.locus_ids.specs.declared.ids.Stamp.{Stamp}
 use Rattle.locus_ids.specs.declared.refusal.Refusal.TheVariants as refusal
 use Rattle.locus_ids.specs.Sizes.{descriptor_span}
+use Rattle.commit_graph.specs.Versions.{content_of}
 use Rattle.trace_book.specs.declared.descriptor.Beginning.TheVariants as begins
 use Rattle.trace_book.specs.declared.descriptor.Descriptor.{Descriptor}
 use Rattle.trace_book.specs.declared.descriptor.OneVersion.{OneVersion}
 use Rattle.trace_book.specs.declared.operation.Op.{Op}
 use Rattle.trace_book.specs.declared.operation.Outcome.{Outcome as Result}
+use Rattle.trace_book.specs.declared.operation.Outcome.TheVariants as result
 use Rattle.trace_book.specs.declared.operation.Op.TheVariants as op
 use Rattle.trace_book.specs.declared.operation.Served.TheVariants as served
 use Rattle.trace_book.specs.declared.operation.What.{What}
@@ -34,6 +36,7 @@ use Rattle.role_steps.specs.declared.users.WaitingCall.{WaitingCall}
 use Rattle.tree_laws.specs.of_the_run.Worlds.{Line}
 use Rattle.tree_model.specs.Calls.{call_named, opening_of, version_of, waiting}
 use Rattle.tree_model.specs.Epochs.{epoch_of, members_of}
+use Rattle.tree_model.specs.Histories.{history}
 use Rattle.tree_model.specs.Packs.{sync_site}
 use Rattle.tree_model.specs.Tree.{kept_in}
 use Rattle.tree_model.specs.declared.accepted.Waiting.{Waiting}
@@ -48,7 +51,7 @@ use Rattle.tree_laws.specs.Holding.{has_instances}
 use Rattle.tree_laws.specs.Processes.{IsMend}
 use Rattle.tree_laws.specs.Packets.{CloseDoneFact, OpDoneFact, SeesTarget, serial_of}
 use Rattle.tree_laws.specs.Instances.{IsStarted, Stands}
-use Rattle.tree_laws.specs.Past.{WasGranted, WasLooked}
+use Rattle.tree_laws.specs.Past.{WasDone, WasGranted, WasLooked}
 use Rattle.tree_laws.specs.Serials.{asked_now, is_open_want, ops_asked, serial_asked}
 use Rattle.tree_laws.specs.Users.{taken_whole}
 use Rattle.user_laws.specs.Turning.{it, Turning}
@@ -157,6 +160,13 @@ pub record IsCallHere (trace : List Line) (e : EpochId) (d : CallId) : Type 0 wh
 pub record ActRests (c : Config) (trace : List Line) : Type 0 where
   -- an operation that was done under the number that a call asks it now has its answer waiting for the call
   pub done : (e : EpochId) (d : CallId) (i : Serial) (o : Op) (n : ℕ) (r : Result) → IsCallHere trace e d → asked_now c trace d ≡ want.Do i o → n ≡ ops_asked c trace i → OpDoneFact trace e i n r → Waits c trace d (op_answer r)
+  -- and it is the one that the call asks
+  pub same : (e : EpochId) (d : CallId) (i : Serial) (o p : Op) (n : ℕ) (r : Result) → IsCallHere trace e d → asked_now c trace d ≡ want.Do i o → n ≡ ops_asked c trace i → WasDone trace e i n p r → p ≡ o
+
+-- of a read of an instance that was opened to read
+pub record ReadRests (c : Config) (trace : List Line) : Type 0 where
+  -- it gave the bytes that the version has there on which the instance was granted
+  pub gave : (e : EpochId) (i : Serial) (n at len : ℕ) (bytes : List ℕ) (d : CallId) (request : ℕ) (file : FileId) (stamp : Stamp) (ss : ℕ) → WasDone trace e i n (op.Read at len) (result.Data bytes) → WasGranted trace e d request i mode.Read file (Some stamp) ss → bytes ≡ take len (drop at (content_of (history c (entries trace)) file stamp))
 
 -- of an instance that was released
 pub record CloseRests (c : Config) (trace : List Line) : Type 0 where

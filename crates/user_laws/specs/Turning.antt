@@ -17,6 +17,7 @@ use Rattle.role_steps.specs.Requests.{waiting_key, instance_serial, descriptor_k
 use Rattle.role_steps.specs.Views.{Users, Frame}
 use Rattle.role_steps.specs.declared.users.UserInstance.{UserInstance}
 use Rattle.role_steps.specs.declared.users.WaitingCall.{WaitingCall}
+use Rattle.tree_laws.specs.of_cache_laws.Right.{AreRight}
 use Rattle.tree_laws.specs.of_the_run.Kept.{Among}
 use Rattle.tree_laws.specs.of_the_run.Worlds.{Line}
 use Rattle.tree_model.specs.declared.accepted.Waiting.{Waiting}
@@ -32,7 +33,7 @@ use Rattle.tree_laws.specs.Packets.{SeesVersion, serial_of}
 use Rattle.tree_laws.specs.Past.{WasGranted}
 use Rattle.tree_laws.specs.Serials.{asked_now, is_open_want, is_op_on, opens_asked, ops_asked, serial_asked}
 use Rattle.tree_laws.specs.Stores.{Ascends}
-use Rattle.tree_laws.specs.Users.{own_call, had, BringsFor, WaitingFact, UserInstanceFact}
+use Rattle.tree_laws.specs.Users.{contents_in, own_call, had, BringsFor, CopiedFact, ReadsFact, WaitingFact, UserInstanceFact}
 
 -- the call that turns
 abbrev pub it : Frame → WaitingCall → CallId
@@ -51,6 +52,7 @@ pub record CallTurns (c : Config) (trace : List Line) (f : Frame) (w : WaitingCa
   pub tries_are : tries trace (it f w) ≡ 1
   pub serial_is : serial_asked c trace (it f w) ≡ opens_asked c trace f.me
   pub brings : BringsFor c trace (it f w) w.words w.brought
+  pub copied : CopiedFact c trace f w.words w.begins w.copied
 
 -- what the site has beside what its next request counts
 pub record Others (c : Config) (trace : List Line) (f : Frame) (w : WaitingCall) (u : Users) : Type 0 where
@@ -58,6 +60,7 @@ pub record Others (c : Config) (trace : List Line) (f : Frame) (w : WaitingCall)
   pub calls : u.calls ≡ calls_accepted (entries trace) f.me
   pub descriptors : (process fd : ℕ) → fd < descriptor_span → descriptors_of u process fd ≡ descriptor (entries trace) f.me process fd
   pub listed : Ascends descriptor_key u.descriptors
+  pub cache : AreRight (contents_in c trace) u.cache
   pub waits : Every (λ (v : WaitingCall). (waiting_key v ≡ waiting_key w → ⊥) → WaitingFact c trace f v) u.waiting
   pub ascends : Ascends waiting_key u.waiting
   pub numbered : Ascends instance_serial u.instances
@@ -74,6 +77,7 @@ pub record InstanceTurns (c : Config) (trace : List Line) (f : Frame) (d : CallI
   pub stamp : Option Stamp
   pub was_granted : WasGranted trace f.epoch call request (serial_of f.me i.serial) mode file stamp i.ss
   pub sees : SeesVersion c trace file mode stamp i.vector
+  pub reads : ReadsFact c trace mode file stamp i.reads
   pub ops : cond (is_op_on (serial_of f.me i.serial) (asked_now c trace d)) (i.ops + 1) i.ops ≡ ops_asked c trace (serial_of f.me i.serial)
 
 -- before what comes next is counted

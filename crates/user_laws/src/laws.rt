@@ -17,7 +17,7 @@ ghost use Rattle.wire_messages.specs.declared.body.Granted.{Granted};
 ghost use Rattle.wire_messages.specs.declared.body.LookAnswer.{LookAnswer};
 ghost use Rattle.role_steps.specs.Own.{Every};
 ghost use Rattle.role_steps.specs.Requests.{users_repeats, waiting_key, waiting_of};
-ghost use Rattle.role_steps.specs.Using.{goes_on, next_want, on_call, on_close_done, on_look_done, on_op_done, on_open_done, reply_record, takes_record, with_answer};
+ghost use Rattle.role_steps.specs.Using.{goes_on, next_want, on_as_held, on_call, on_close_done, on_look_done, on_op_done, on_open_done, reply_record, takes_record, with_answer};
 ghost use Rattle.role_steps.specs.Views.{Frame, Shown, Told, Users};
 ghost use Rattle.role_steps.specs.declared.users.WaitingCall.{WaitingCall};
 ghost use Rattle.tree_laws.specs.of_the_run.Kept.{Among};
@@ -29,13 +29,13 @@ ghost use Rattle.lawful_trace.specs.CallRows.{CallRow};
 ghost use Rattle.lawful_trace.specs.Progress.{look_answer};
 ghost use Rattle.tree_laws.specs.Doing.{FrameFact, IsOfSite, IsOfUsers, UsersFine, UsersInside};
 ghost use Rattle.tree_laws.specs.Following.{IsFollowed, MayTell};
-ghost use Rattle.tree_laws.specs.Frames.{AllStay};
-ghost use Rattle.tree_laws.specs.Packets.{CloseDoneFact, LookDoneFact, OpDoneFact, OpenDoneFact, PacketFact, serial_of};
+ghost use Rattle.tree_laws.specs.Frames.{AllStay, IsFresh};
+ghost use Rattle.tree_laws.specs.Packets.{CloseDoneFact, HeldFact, LookDoneFact, OpDoneFact, OpenDoneFact, PacketFact, serial_of};
 ghost use Rattle.tree_laws.specs.Serials.{asked_now};
 ghost use Rattle.tree_laws.specs.Users.{had, had_by, own_call, BringsFor, UsersFact};
 ghost use Rattle.user_laws.specs.Booting.{no_users};
 ghost use Rattle.user_laws.specs.Leaving.{LeavesFine};
-ghost use Rattle.user_laws.specs.Rests.{ActRests, CloseRests, IsKeptBy, LookRests, LooksStand, OpenRests, ReplyRests, RequestRests, Staying, Steady};
+ghost use Rattle.user_laws.specs.Rests.{ActRests, CloseRests, IsKeptBy, LookRests, LooksStand, OpenRests, ReadRests, ReplyRests, RequestRests, Staying, Steady};
 ghost use Rattle.user_laws.specs.Turning.{it, IsNumbered, Turning};
 
 /// Where each told line comes as it may, what the using site of a site in an epoch has stays when somebody else tells a line,
@@ -64,7 +64,7 @@ pub fn users_begin_so()
 
 /// What a using site counts, and its descriptors, stay when somebody else tells a line, also where its site is in no epoch.
 pub fn counts_stay_outside()
-    ensures { (c : Config) (n : ℕ) (x : Told) (older : List Line) (me boot : ℕ) (u : Users) → (IsOfUsers me x → ⊥) → (IsOfSite me x → ⊥) → UsersFact c older me boot u → UsersFact c (record { number = n; told = x } ∷ older) me boot u }
+    ensures { (c : Config) (n : ℕ) (x : Told) (older : List Line) (me boot : ℕ) (u : Users) → IsFresh c older x → (IsOfUsers me x → ⊥) → (IsOfSite me x → ⊥) → UsersFact c older me boot u → UsersFact c (record { number = n; told = x } ∷ older) me boot u }
 {}
 
 /// A call that has just been accepted or has just taken an answer asks its next request as it may: its packet carries its fact,
@@ -109,10 +109,17 @@ pub fn looks_are_taken()
 {}
 
 /// The result of an operation comes to its using site: the process takes it and goes on as it may, and what the site has then is so by the
-/// trace; where no call asks it nothing is done. (That the answer waits where the operation was done is a premise.)
+/// trace; where no call asks it nothing is done. (That the answer waits where the operation was done is a premise, and what a read gave.)
 pub fn results_are_taken()
-    ensures { (c : Config) (n : ℕ) (trace : List Line) (f : Frame) (u : Users) (serial number : ℕ) (r : Result) → IsFollowed c trace → FrameFact c trace f → UsersInside c f trace u → ActRests c trace →
+    ensures { (c : Config) (n : ℕ) (trace : List Line) (f : Frame) (u : Users) (serial number : ℕ) (r : Result) → IsFollowed c trace → FrameFact c trace f → UsersInside c f trace u → ActRests c trace → ReadRests c trace →
         OpDoneFact trace f.epoch (serial_of f.me serial) number r → Staying c n trace (on_op_done f serial number r u).told → UsersFine c n trace f (on_op_done f serial number r u) }
+{}
+
+/// A read is answered whose bytes are at its using site: the process takes these, which are what was read, and goes on as it may, and
+/// what the site has then is so by the trace; where no call asks it so nothing is done. (What a read gave is a premise.)
+pub fn held_reads_are_taken()
+    ensures { (c : Config) (n : ℕ) (trace : List Line) (f : Frame) (u : Users) (serial number len : ℕ) → IsFollowed c trace → FrameFact c trace f → UsersInside c f trace u → ActRests c trace → ReadRests c trace →
+        HeldFact trace f.epoch (serial_of f.me serial) number len → Staying c n trace (on_as_held f serial number u).told → UsersFine c n trace f (on_as_held f serial number u) }
 {}
 
 /// The answer to a close comes to its using site: the process takes it, the instance goes, and the call goes on as it may; what the site

@@ -1,22 +1,27 @@
 -- An answer, for the waiting call that asks it.
-use Rattle.std.proofs.Common.{◌≡◌, ℕ, ◌+◌, Bool, true, false, List, ◌++◌, Option, Some, sym, ap, ◌∙◌, subst}
+use Rattle.std.proofs.Common.{◌≡◌, ℕ, ◌+◌, Bool, true, false, List, ◌++◌, Option, Some, None, refl, sym, ap, ◌∙◌, subst}
 use Rattle.std.proofs.lemmas.List.{append-nil}
 use Rattle.std.specs.declared.result.Result.{Result}
 use Rattle.std.specs.Prelude.{OnOk}
+use Rattle.role_steps.proofs.of_plain_facts.Options.{some_none}
 use Rattle.locus_ids.specs.declared.ids.FileId.{FileId}
 use Rattle.locus_ids.specs.declared.ids.Stamp.{Stamp}
 use Rattle.role_steps.specs.of_dir_format.Contents.{entries_of}
 use Rattle.role_steps.specs.of_dir_format.Lookups.{shown_names}
+use Rattle.trace_book.specs.declared.operation.Op.TheVariants as op
+use Rattle.trace_book.specs.declared.operation.Outcome.{Outcome as Gave}
+use Rattle.trace_book.specs.declared.operation.Outcome.TheVariants as result
 use Rattle.trace_book.specs.declared.operation.What.{What}
 use Rattle.trace_book.specs.declared.operation.What.TheVariants as what
 use Rattle.call_rules.specs.declared.answer.Answer.{Answer}
 use Rattle.call_rules.specs.declared.answer.Answer.TheVariants as answer
 use Rattle.wire_messages.specs.Outboxes.{Outgoing}
 use Rattle.wire_messages.specs.declared.body.LookAnswer.TheVariants as looked
+use Rattle.role_steps.specs.of_page_cache.declared.part.Part.{Part}
 use Rattle.role_steps.specs.Tables.{row, with_row, without_row, first_that}
 use Rattle.role_steps.specs.Views.{Frame, Users, Outcome}
-use Rattle.role_steps.specs.Requests.{instance_serial, request_packets, waiting_key, with_user_instance, without_user_instance}
-use Rattle.role_steps.specs.Using.{content_answer, kept_for, looks_again, mended_file, opened_answer, takes_answer, takes_look, with_brought}
+use Rattle.role_steps.specs.Requests.{instance_serial, request_packets, user_instance, waiting_key, with_user_instance, without_user_instance}
+use Rattle.role_steps.specs.Using.{asks_held_number, content_answer, keeps_brought, keeps_part, kept_for, looks_again, mended_file, on_as_held, on_as_held_of, opened_answer, part_of_instance, takes_answer, takes_copied, takes_look, with_brought}
 use Rattle.role_steps.specs.declared.users.Asking.{Asking}
 use Rattle.role_steps.specs.declared.users.Asking.TheVariants as asking
 use Rattle.role_steps.specs.declared.users.UserInstance.{UserInstance}
@@ -45,6 +50,38 @@ pub same_taken : {A E : Type 0} (done : Result A E) (f : Frame) (w : WaitingCall
 same_taken done f w a b v u new before after e h k =
     subst (λ (z : Users). OnOk done (Gives (takes_answer f w b z) new before after)) h
     (subst (λ (y : Answer). OnOk done (Gives (takes_answer f w y v) new before after)) e k)
+
+-- what is kept of an answer leaves the calls that wait
+part_waiting : (bytes : List ℕ) (p : Option Part) (u : Users) → (keeps_part bytes p u).waiting ≡ u.waiting
+part_waiting bytes None u = refl
+part_waiting bytes (Some p) u = refl
+
+kept_waiting : (k : Asking) (r : Gave) (u : Users) → (keeps_brought k r u).waiting ≡ u.waiting
+kept_waiting (asking.Op s ss n (op.Read at len) seen) (result.Data bytes) u = part_waiting bytes (part_of_instance at len (user_instance u s)) u
+kept_waiting k r u = refl
+
+-- an answer is taken once what it brought is kept
+pub brought_taken : {A E : Type 0} (done : Result A E) (f : Frame) (w : WaitingCall) (a b : Answer) (r : Gave) (key : ℕ) (v u : Users) (new : Users) (before after : Outgoing) → a ≡ b → v ≡ keeps_brought w.asking r u → Rising waiting_key u.waiting → row waiting_key key u.waiting ≡ Some w → (Rising waiting_key v.waiting → row waiting_key key v.waiting ≡ Some w → OnOk done (Gives (takes_answer f w a v) new before after)) → OnOk done (Gives (takes_answer f w b (keeps_brought w.asking r u)) new before after)
+brought_taken done f w a b r key v u new before after e k rising found go =
+    let same : u.waiting ≡ v.waiting = sym (ap (λ (z : Users). z.waiting) k ∙ kept_waiting w.asking r u) in
+    same_taken done f w a b v (keeps_brought w.asking r u) new before after e k
+    (go (subst (λ (all : List WaitingCall). Rising waiting_key all) same rising) (subst (λ (all : List WaitingCall). row waiting_key key all ≡ Some w) same found))
+
+-- the copied bytes of the call of this key are its answer
+pub copied_taken : {A E : Type 0} (done : Result A E) (f : Frame) (w : WaitingCall) (o : Option (List ℕ)) (bytes : List ℕ) (u : Users) (new : Users) (before after : Outgoing) → o ≡ w.copied → o ≡ Some bytes → OnOk done (Gives (takes_answer f w (answer.Did (result.Data bytes)) u) new before after) → OnOk done (Gives (takes_copied f w w.copied u) new before after)
+copied_taken done f w o bytes u new before after own is k = subst (λ (c : Option (List ℕ)). OnOk done (Gives (takes_copied f w c u) new before after)) (sym is ∙ own) k
+
+none_taken : (f : Frame) (w : WaitingCall) (o : Option (List ℕ)) (u : Users) (before : Outgoing) → o ≡ None → Gives (takes_copied f w o u) u before before
+none_taken f w None u before e = record { view = refl; packets = sym (append-nil before.packets); records = sym (append-nil before.records) }
+none_taken f w (Some bytes) u before e = absurd (some_none bytes e)
+
+-- where it has none nothing is done
+pub nothing_copied : (f : Frame) (serial n : ℕ) (u v : Users) (rows : List WaitingCall) (key : ℕ) (o : Option (List ℕ)) (before : Outgoing) → v ≡ u → rows ≡ v.waiting → Rising waiting_key v.waiting → ◌≡◌ {A = Option ℕ} (Some key) (key_of (first_that (asks_held_number serial n) rows)) → ((w : WaitingCall) → row waiting_key key u.waiting ≡ Some w → o ≡ w.copied) → o ≡ None → Gives (on_as_held f serial n u) u before before
+nothing_copied f serial n u v rows key o before e s g h own none =
+    let same : v.waiting ≡ u.waiting = ap (λ (z : Users). z.waiting) e in
+    asker {P = Gives (on_as_held f serial n u) u before before} (asks_held_number serial n) u.waiting key (subst (λ (all : List WaitingCall). Rising waiting_key all) same g)
+    (h ∙ ap (λ (all : List WaitingCall). key_of (first_that (asks_held_number serial n) all)) (s ∙ same))
+    (λ w first found. subst (λ (x : Option WaitingCall). Gives (on_as_held_of f x u) u before before) (sym first) (none_taken f w w.copied u before (sym (own w found) ∙ none)))
 
 pub instance_out : (v u : Users) (rows : List UserInstance) (k serial : ℕ) → v ≡ u → k ≡ serial → rows ≡ without_row instance_serial k v.instances → record v { instances = rows } ≡ without_user_instance serial u
 instance_out v u rows k serial e h g =

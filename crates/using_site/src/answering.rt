@@ -6,7 +6,7 @@ ghost use Rattle.role_steps.specs.of_dir_format.Lookups.{shown_names};
 ghost use Rattle.role_steps.specs.Tables.{first_that, row};
 ghost use Rattle.role_steps.specs.Requests.{waiting_key};
 ghost use Rattle.role_steps.specs.Views.{Frame};
-ghost use Rattle.role_steps.specs.Using.{asked_answer, asks_open_of, close_answer, kept_for, looks_again, on_close_done, on_look_done, on_op_done, on_open_done, op_answer, opened_answer, own_serial, takes_look, takes_open};
+ghost use Rattle.role_steps.specs.Using.{asked_answer, asks_open_of, close_answer, kept_for, looks_again, on_as_held, on_close_done, on_look_done, on_op_done, on_open_done, op_answer, opened_answer, own_serial, takes_look, takes_open, version_read};
 ghost use Rattle.role_steps.specs.declared.users.WaitingCall.{WaitingCall};
 ghost use Rattle.keyed_tables.specs.Rising.{Rising};
 ghost use Rattle.wire_messages.specs.declared.body.LookAnswer.TheVariants as looked;
@@ -17,12 +17,12 @@ use crate::users::UsingSite;
 use call_rules::Answer;
 use dir_operations::{dir_in, shown_names};
 use locus_ids::{Bytes, Names, NoMemory, Serial, Stamp, Stamps};
-use role_steps::{Asking, UserInstance};
+use role_steps::{Asking, UserInstance, VersionRead};
 use site_frame::SiteFrame;
 use std::alloc::Global;
 use trace_book::{Call, OneVersion, Outcome};
 use waiting_calls::{
-    Waiting, close_asker, is_whole, look_asker, op_asker, open_asker, send_request,
+    Waiting, close_asker, held_asker, is_whole, look_asker, op_asker, open_asker, send_request,
 };
 use wire_messages::{CloseAnswer, Granted, LookAnswer, Opening, Outbox};
 
@@ -57,6 +57,24 @@ fn asked_answer(inst: Serial, told: Told, asking: &Asking) -> Answer
     }
 }
 
+/// The version of an open to read.
+fn version_read(size: u32, stamp: Stamp, asking: &Asking) -> Option<VersionRead>
+    ensures { result ≡ version_read size stamp asking.now }
+{
+    match asking {
+        Asking::Open {
+            serial: _,
+            file,
+            how: Opening::Read,
+        } => Some(VersionRead {
+            file: *file,
+            stamp,
+            size,
+        }),
+        _ => None,
+    }
+}
+
 impl UsingSite {
     /// An open is answered. `kept` are the stamps of the kept versions of the directory that the call mends which asks
     /// this open (`mend_opening`), and none of any other call's. An answer to what no call asks now is ignored.
@@ -77,21 +95,33 @@ impl UsingSite {
             Granted::Open {
                 ss,
                 ino,
+                size,
                 stamp,
                 vector,
-                ..
             } => {
                 let told = Told { serial, ino, stamp };
+                let reads = self.version_read(key, size, stamp);
                 self.instances.put(UserInstance {
                     serial,
                     ss,
                     vector,
                     ops: 0,
+                    reads,
                 })?;
                 let answer = self.opened_answer(frame, key, told, kept);
                 self.take(frame, key, answer, None, out)
             }
             Granted::No { why } => self.take(frame, key, Answer::Refused { why }, None, out),
+        }
+    }
+
+    /// The version that the call of this key opens to read.
+    fn version_read(&self, key: u64, size: u32, stamp: Stamp) -> Option<VersionRead>
+        ensures { (w : WaitingCall) → row waiting_key key self.now.waiting ≡ Some w → result ≡ version_read size stamp w.asking }
+    {
+        match self.waiting.find(key) {
+            Some(waiting) => version_read(size, stamp, &waiting.asking),
+            None => None,
         }
     }
 
@@ -129,7 +159,30 @@ impl UsingSite {
         let Some(key) = op_asker(serial, number, &outcome, self.waiting.as_slice()) else {
             return Ok(());
         };
+        self.keep_brought(key, &outcome)?;
         self.take(frame, key, op_answer(outcome), None, out)
+    }
+
+    /// A read is answered whose bytes are at the site: they are the answer. An answer to what no call asks now so is ignored.
+    pub fn on_as_held(
+        &mut self,
+        frame: &SiteFrame,
+        serial: u32,
+        number: u32,
+        out: &mut Outbox,
+    ) -> Result<(), NoMemory>
+        ensures { OnOk result (Gives (on_as_held frame.now serial number self.old) self.new out.old out.new) }
+    {
+        let Some(key) = held_asker(serial, number, self.waiting.as_slice()) else {
+            return Ok(());
+        };
+        match self.copied_by(key)? {
+            None => Ok(()),
+            Some(bytes) => {
+                let result = Outcome::Data { bytes };
+                self.take(frame, key, Answer::Did { result }, None, out)
+            }
+        }
     }
 
     /// A close is answered: the instance is gone. An answer to what no call asks now is ignored.

@@ -5,6 +5,7 @@
 
 mod answering;
 mod beginning;
+mod caching;
 mod instances;
 mod leaving;
 mod mends;

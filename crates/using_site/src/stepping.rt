@@ -91,6 +91,7 @@ impl UsingSite {
             ss: instance.ss,
             vector: instance.vector,
             ops: number,
+            reads: instance.reads,
         })?;
         Ok(Step::Asks {
             asking: Asking::Op {

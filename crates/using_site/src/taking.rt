@@ -35,6 +35,7 @@ impl UsingSite {
         };
         let name = own_call(frame.me, frame.boot, call);
         let begins = self.beginning(now, process, name, &words);
+        let copied = self.copy_part(&words, &begins)?;
         out.note(Record::Accept {
             site: frame.me.get(),
             process,
@@ -43,7 +44,8 @@ impl UsingSite {
         })?;
         self.calls = call;
         self.free(process, &words);
-        let caller = Caller::start(self.alloc, process, call, words, begins)?;
+        let mut caller = Caller::start(self.alloc, process, call, words, begins)?;
+        caller.copied = copied;
         self.begin(frame, caller, out)
     }
 

@@ -7,6 +7,7 @@ ghost use Rattle.call_rules.specs.Descriptors.{lowest_free};
 
 use keyed_tables::SortedTable;
 use locus_ids::{FileId, ItemList};
+use role_steps::page_cache::PageCache;
 use role_steps::{DescriptorRow, UserInstance};
 use std::alloc::Global;
 use std::marker::Model;
@@ -14,8 +15,8 @@ use trace_book::Descriptor;
 use waiting_calls::{Waiting, descriptor, lowest_free};
 
 /// What the using site of a site has: how many calls it accepted and how many opens it asked in this boot, the calls that
-/// wait, the instances that it has open, the descriptors of its processes, and the directories whose mend was refused for
-/// want of room in this epoch.
+/// wait, the instances that it has open, the descriptors of its processes, the directories whose mend was refused for want of
+/// room in this epoch, and pages of versions that were read.
 pub struct UsingSite {
     pub(crate) calls: u32,
     pub(crate) serials: u32,
@@ -23,6 +24,7 @@ pub struct UsingSite {
     pub(crate) instances: SortedTable<UserInstance>,
     pub(crate) descriptors: SortedTable<DescriptorRow>,
     pub(crate) hopeless: ItemList<FileId>,
+    pub(crate) cache: PageCache,
     pub(crate) alloc: Global,
 }
 
@@ -36,6 +38,7 @@ impl Drop for UsingSite {
             instances: _,
             descriptors: _,
             hopeless: _,
+            cache: _,
             alloc: _,
         } = self;
     }
@@ -46,13 +49,13 @@ impl Model for UsingSite {
 
     ghost Value = { Users };
 
-    ghost view = { λ u. record { calls = u.calls; serials = u.serials; waiting = u.waiting; instances = u.instances; descriptors = u.descriptors; hopeless = u.hopeless } };
+    ghost view = { λ u. record { calls = u.calls; serials = u.serials; waiting = u.waiting; instances = u.instances; descriptors = u.descriptors; hopeless = u.hopeless; cache = u.cache } };
 }
 
 impl UsingSite {
     /// A site that boots: no calls, no instances, no descriptors. What it takes later comes from this allocator.
     pub fn new(alloc: Global) -> UsingSite
-        ensures { result ≡ record { calls = 0; serials = 0; waiting = []; instances = []; descriptors = []; hopeless = [] } }
+        ensures { result ≡ record { calls = 0; serials = 0; waiting = []; instances = []; descriptors = []; hopeless = []; cache = [] } }
     {
         UsingSite {
             calls: 0,
@@ -61,6 +64,7 @@ impl UsingSite {
             instances: SortedTable::new(alloc),
             descriptors: SortedTable::new(alloc),
             hopeless: ItemList::new(alloc),
+            cache: PageCache::new(alloc),
             alloc,
         }
     }
@@ -94,6 +98,13 @@ impl UsingSite {
         ensures { result ≡ lowest_free (descriptors_of self.now process) }
     {
         lowest_free(&self.descriptors, process)
+    }
+
+    /// The pages of versions that the site keeps in memory.
+    pub fn cache(&self) -> &PageCache
+        ensures { result.now ≡ self.now.cache }
+    {
+        &self.cache
     }
 
     /// The instance of this serial number.

@@ -15,12 +15,12 @@ use Rattle.run_laws.specs.of_role_steps.Own.{Every}
 use Rattle.run_laws.specs.of_role_steps.Tables.{row, without_row, first_that}
 use Rattle.run_laws.specs.of_role_steps.Views.{Frame, SiteView, Told, Shown, Promises, Outcome, quiet, sends, tells, and_then}
 use Rattle.run_laws.specs.of_role_steps.Reports.{new_table, on_have_of}
-use Rattle.run_laws.specs.of_role_steps.Storage.{copy_key, copy_of, with_copy, report_of, reported}
+use Rattle.run_laws.specs.of_role_steps.Storage.{copy_key, copy_of, report_of, reported}
 use Rattle.run_laws.specs.of_role_steps.Pulling.{pull_key}
 use Rattle.run_laws.specs.of_role_steps.Using.{on_call, reply_record}
 use Rattle.run_laws.specs.of_role_steps.Versions.{file_row, row_ino}
 use Rattle.run_laws.specs.of_role_steps.Epochs.{is_epoch_below, frame_in, leaves_of, leaves, promises, promised_view, reached, poll_packet, polled_sites, polls, round_id, begins_round, boots_where, part_boot, starts_part_of, promise_packet, refuse_packet, on_poll, on_promise_of, on_refuse_of, report_packets, all_reports, joined_view, joins, may_install, is_in, joined_packet, on_install, on_joined, passed_over, unanswered, chosen_members, chosen_set, others_of, install_packet, installs_all, decides_if, passes_over_of, passes_over}
-use Rattle.run_laws.specs.of_role_steps.Adoption.{notes_own_at, copy_adopted, adopt_record, table_group, with_store, without_pull, is_ready, is_above_own, adopts_pull, adopts_first}
+use Rattle.run_laws.specs.of_role_steps.Adoption.{notes_own_at, copy_adopted, adopt_record, table_group, without_pull, is_ready, adopts_pull, adopts_first, with_adopted, fits_own, content_under}
 use Rattle.run_laws.specs.of_role_steps.Mends.{has_mend_in, wants_mend, starts_mend_of, starts_mend, starts_mends_in, row_file}
 use Rattle.run_laws.specs.of_role_steps.declared.copies.FileCopy.{FileCopy}
 use Rattle.run_laws.specs.of_role_steps.declared.instances.Instance.{Instance}
@@ -61,11 +61,11 @@ adopts_pull_fact f past p e v at here k h =
     let x : Told = Shown (adopt_record f p) in
     let now : List Told = x ∷ past in
     let later : Later past now = one_later x past in
-    let w : SiteView = without_pull p (with_store v (with_copy (copy_adopted p) v.store)) in
-    let c : CopyFact now (copy_adopted p) = later.written p.file p.stamp p.vector k in
+    let w : SiteView = with_adopted p v in
+    let c : CopyFact now (copy_adopted p (content_under v p)) = later.written p.file p.stamp p.vector k in
     let i : Every (InstanceFact past e.id) v.store.instances × Every (TableFact past e.id) v.tables = inside_of past v e here h in
     let g : ViewFact now w = record {
-      copies = every_row (CopyFact now) copy_key (copy_adopted p) v.store.copies c (copies_later past now later v.store.copies h.copies);
+      copies = every_row (CopyFact now) copy_key (copy_adopted p (content_under v p)) v.store.copies c (copies_later past now later v.store.copies h.copies);
       pulls = every_without (PullFact now) pull_key (pull_key p) v.pulls (pulls_later past now later v.pulls h.pulls);
       inside = subst (InEpochFact now w) (sym here) (instances_later past now later e.id v.store.instances i.0, tables_later past now later e.id v.tables i.1);
     } in
@@ -82,8 +82,8 @@ without_fact past p v h = record { copies = h.copies; pulls = every_without (Pul
 adopts_first_fact : (f : Frame) (past : List Told) (ps : List Pull) (e : InEpoch) (v : SiteView) → f.epoch ≡ e.id → v.epoch ≡ Some e → Every (PullFact past) ps → ViewFact past v → SiteFine past (adopts_first f ps v)
 adopts_first_fact f past [] e v at here k h = quiet_fact past v h
 adopts_first_fact f past (p ∷ ps) e v at here k h =
-    elim (is_ready v p) as (λ t. SiteFine past (elim t [ true ↦ elim (is_above_own p (copy_of v.store p.file)) [ true ↦ adopts_pull f p v | false ↦ adopts_first f ps (without_pull p v) ] | false ↦ adopts_first f ps v ])) [
-      | true ↦ elim (is_above_own p (copy_of v.store p.file)) as (λ t. SiteFine past (elim t [ true ↦ adopts_pull f p v | false ↦ adopts_first f ps (without_pull p v) ])) [
+    elim (is_ready v p) as (λ t. SiteFine past (elim t [ true ↦ elim (fits_own p (copy_of v.store p.file)) [ true ↦ adopts_pull f p v | false ↦ adopts_first f ps (without_pull p v) ] | false ↦ adopts_first f ps v ])) [
+      | true ↦ elim (fits_own p (copy_of v.store p.file)) as (λ t. SiteFine past (elim t [ true ↦ adopts_pull f p v | false ↦ adopts_first f ps (without_pull p v) ])) [
         | true ↦ adopts_pull_fact f past p e v at here k.0 h
         | false ↦ adopts_first_fact f past ps e (without_pull p v) at here k.1 (without_fact past p v h)
       ]

@@ -14,15 +14,15 @@ use Rattle.run_laws.specs.of_wire_messages.declared.body.Body.TheVariants as bod
 use Rattle.run_laws.specs.of_role_steps.Own.{Every}
 use Rattle.run_laws.specs.of_role_steps.Views.{Frame, Store, Users, Outcome, sends}
 use Rattle.run_laws.specs.of_role_steps.Looks.{LookRequest}
-use Rattle.run_laws.specs.of_role_steps.Storage.{on_look_ss, on_pull}
-use Rattle.run_laws.specs.of_role_steps.Pulling.{on_notify, on_page, pull_repeats}
+use Rattle.run_laws.specs.of_role_steps.Storage.{on_look_ss, on_pull, on_want}
+use Rattle.run_laws.specs.of_role_steps.Pulling.{on_notify, on_page, on_delta, pull_repeats}
 use Rattle.run_laws.specs.of_role_steps.Requests.{users_repeats}
-use Rattle.run_laws.specs.of_role_steps.Using.{on_call, on_open_done, on_op_done, on_close_done, on_look_done}
+use Rattle.run_laws.specs.of_role_steps.Using.{on_call, on_open_done, on_op_done, on_as_held, on_close_done, on_look_done}
 use Rattle.run_laws.specs.of_role_steps.declared.copies.FileCopy.{FileCopy}
 use Rattle.run_laws.specs.of_role_steps.declared.pulls.Pull.{Pull}
 use Rattle.run_laws.specs.of_law_walks.Kinds.{IsOfReader, IsUserRequest, IsOfUser}
 use Rattle.run_laws.specs.of_law_walks.Laws.{Law, body_law, ReadersKeep, UsersKeep}
-use Rattle.run_laws.proofs.of_law_walks.RoleWalks.{on_look_ss_walk, on_pull_walk, on_notify_walk, on_page_walk, pull_repeats_walk, users_repeats_walk, on_call_walk, on_open_done_walk, on_op_done_walk, on_close_done_walk, on_look_done_walk}
+use Rattle.run_laws.proofs.of_law_walks.RoleWalks.{on_look_ss_walk, on_pull_walk, on_want_walk, on_notify_walk, on_page_walk, on_delta_walk, pull_repeats_walk, users_repeats_walk, on_call_walk, on_open_done_walk, on_op_done_walk, on_as_held_walk, on_close_done_walk, on_look_done_walk}
 use Rattle.vector_laws.specs.Facts.{NoFact, Factless}
 
 -- all that the outcome sends is such
@@ -38,12 +38,14 @@ request_factless _ h = absurd h
 
 user_factless : (b : Body) → IsOfUser b → NoFact b
 user_factless (body.Op serial n o seen) h = tt
+user_factless (body.ReadHeld serial n at len) h = tt
 user_factless (body.Close serial) h = tt
 user_factless _ h = absurd h
 
 reader_factless : (b : Body) → IsOfReader b → NoFact b
 reader_factless (body.LookDone call request take answer) h = tt
 reader_factless (body.Pull file stamp page) h = tt
+reader_factless (body.Want file wanted own) h = tt
 reader_factless _ h = absurd h
 
 abbrev carrying : Law
@@ -63,11 +65,17 @@ on_look_ss_factless f us l stamp s = (on_look_ss_walk carrying f (readers f) us 
 pub on_pull_factless : (f : Frame) (from : ℕ) (file : FileId) (stamp : Stamp) (page : ℕ) (s : Store) → AllFactless (on_pull f from file stamp page s)
 on_pull_factless f from file stamp page s = (on_pull_walk carrying f (readers f) from file stamp page (λ bytes. tt) s).0
 
+pub on_want_factless : (f : Frame) (from : ℕ) (file : FileId) (wanted own : Stamp) (s : Store) → AllFactless (on_want f from file wanted own s)
+on_want_factless f from file wanted own s = (on_want_walk carrying f (readers f) from file wanted own (λ pages. tt) s).0
+
 pub on_notify_factless : (f : Frame) (from : ℕ) (o : Option FileCopy) (p : Pull) (ps : List Pull) → AllFactless (on_notify f from o p ps)
 on_notify_factless f from o p ps = (on_notify_walk carrying f (readers f) from o p tt ps).0
 
 pub on_page_factless : (f : Frame) (file : FileId) (stamp : Stamp) (page : ℕ) (bytes : List ℕ) (ps : List Pull) → AllFactless (on_page f file stamp page bytes ps)
 on_page_factless f file stamp page bytes ps = (on_page_walk carrying f (readers f) file stamp page bytes ps).0
+
+pub on_delta_factless : (f : Frame) (own : Option FileCopy) (file : FileId) (stamp : Stamp) (pages : List ℕ) (ps : List Pull) → AllFactless (on_delta f own file stamp pages ps)
+on_delta_factless f own file stamp pages ps = (on_delta_walk carrying f (readers f) own file stamp pages ps).0
 
 pub pull_repeats_factless : (f : Frame) (ps : List Pull) → Every Factless (pull_repeats f ps)
 pull_repeats_factless f ps = pull_repeats_walk carrying f (readers f) ps
@@ -80,6 +88,9 @@ on_open_done_factless f kept serial a u = (on_open_done_walk carrying f (users f
 
 pub on_op_done_factless : (f : Frame) (serial n : ℕ) (r : Result) (u : Users) → AllFactless (on_op_done f serial n r u)
 on_op_done_factless f serial n r u = (on_op_done_walk carrying f (users f) serial n r u).0
+
+pub on_as_held_factless : (f : Frame) (serial n : ℕ) (u : Users) → AllFactless (on_as_held f serial n u)
+on_as_held_factless f serial n u = (on_as_held_walk carrying f (users f) serial n u).0
 
 pub on_close_done_factless : (f : Frame) (serial : ℕ) (a : CloseAnswer) (u : Users) → AllFactless (on_close_done f serial a u)
 on_close_done_factless f serial a u = (on_close_done_walk carrying f (users f) serial a u).0

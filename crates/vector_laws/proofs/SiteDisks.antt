@@ -14,10 +14,10 @@ use Rattle.run_laws.specs.of_role_steps.Tables.{row, without_row, first_that}
 use Rattle.run_laws.specs.of_role_steps.Views.{Frame, SiteView, Promises, DiskWrite, Outcome, Event, Calls, Receives, Ticks, Parts, Merges, GivesUp, quiet, sends, tells, and_then, first_written}
 use Rattle.run_laws.specs.of_role_steps.Reports.{on_report, on_open, on_look, on_closed, on_have}
 use Rattle.run_laws.specs.of_role_steps.Opens.{on_opened}
-use Rattle.run_laws.specs.of_role_steps.Storage.{copy_of, instance_of, with_copy}
+use Rattle.run_laws.specs.of_role_steps.Storage.{copy_of, instance_of}
 use Rattle.run_laws.specs.of_role_steps.Using.{reply_record}
 use Rattle.run_laws.specs.of_role_steps.Epochs.{is_epoch_below, frame_in, leaves_of, leaves, promises, promised_view, reached, polls, round_id, begins_round, starts_merge, boots_where, merge_boot, part_boot, starts_part_of, starts_part, promise_packet, refuse_packet, on_poll, on_promise_of, on_refuse_of, joins, may_install, is_in, joined_packet, on_install, on_joined, passed_over, unanswered, chosen_members, chosen_set, installs_all, decides_if, passes_over_of, passes_over}
-use Rattle.run_laws.specs.of_role_steps.Adoption.{notes_own_at, copy_adopted, adopt_write, table_group, with_store, without_pull, is_ready, is_above_own, adopts_pull, adopts_first}
+use Rattle.run_laws.specs.of_role_steps.Adoption.{notes_own_at, copy_adopted, adopt_write, table_group, without_pull, is_ready, is_above_own, adopts_pull, adopts_first, with_adopted, fits_own, content_under}
 use Rattle.run_laws.specs.of_role_steps.Mends.{mending, kept_stamps, has_mend_in, wants_mend, starts_mend_of, starts_mend, starts_mends_in, row_file}
 use Rattle.run_laws.specs.of_role_steps.declared.copies.FileCopy.{FileCopy}
 use Rattle.run_laws.specs.of_role_steps.declared.pulls.Pull.{Pull}
@@ -26,13 +26,14 @@ use Rattle.run_laws.specs.of_role_steps.declared.rounds.Round.{Round}
 use Rattle.run_laws.specs.of_role_steps.declared.synchronizing.SyncTable.{SyncTable}
 use Rattle.run_laws.specs.of_role_steps.declared.synchronizing.FileRow.{FileRow}
 use Rattle.run_laws.specs.of_role_steps.declared.users.WaitingCall.{WaitingCall}
+use Rattle.run_laws.proofs.of_role_steps.Fitting.{fits_above}
 use Rattle.run_laws.proofs.of_role_steps.Sending.{every_map}
 use Rattle.run_laws.specs.of_the_run.Steps.{from_user, group_of, at_table_of, is_opened_in, takes_inside, is_dropped, takes_framed, takes, adopts_of, adopts_in, tries_at, starts_mends_of, ends_event, whole, ticks_after, call_frame, epoch_id, takes_call, step}
 use Rattle.run_laws.specs.Words.{Talks}
-use Rattle.run_laws.proofs.Telling.{on_opened_talks, on_open_talks, on_look_talks, on_report_talks, on_closed_talks, on_have_talks, on_notify_talks, on_page_talks, on_call_talks, on_open_done_talks, on_op_done_talks, on_close_done_talks, on_look_done_talks}
+use Rattle.run_laws.proofs.Telling.{on_opened_talks, on_open_talks, on_look_talks, on_report_talks, on_closed_talks, on_have_talks, on_notify_talks, on_page_talks, on_delta_talks, on_call_talks, on_open_done_talks, on_op_done_talks, on_as_held_talks, on_close_done_talks, on_look_done_talks}
 use Rattle.vector_laws.specs.Held.{RisesOver, Still, Untouched, OnDisk}
 use Rattle.vector_laws.proofs.Disks.{talk_still, talks_untouched, untouched_then, disk_then}
-use Rattle.vector_laws.proofs.StoreDisks.{on_open_ss_keeps, on_close_disk, on_closed_ok_keeps, on_op_disk}
+use Rattle.vector_laws.proofs.StoreDisks.{on_open_ss_keeps, on_close_disk, on_closed_ok_keeps, on_op_disk, on_read_held_disk, on_read_held_disk}
 
 abbrev pub Keeps : SiteView → Outcome SiteView → Type 0
 Keeps v o = Untouched v.store.copies o.view.store.copies o.told o.written
@@ -60,7 +61,9 @@ inside_disk f from (body.OpenSs inst file mode set kind base vector parents) v =
 inside_disk f from (body.Opened inst answer) v = inl (table_keeps (on_opened f inst answer) (first_that (is_opened_in inst) v.tables) v (on_opened_talks f inst answer))
 inside_disk f from (body.OpenDone serial answer) v = inl (talks_untouched v.store.copies v.store.copies _ _ refl (on_open_done_talks f (kept_stamps v) serial answer v.users))
 inside_disk f from (body.Op serial n o seen) v = on_op_disk f (mending v (group_of (instance_of v.store (from_user from serial)))) (from_user from serial) n o seen v.store
+inside_disk f from (body.ReadHeld serial n at len) v = on_read_held_disk f (from_user from serial) n at len v.store
 inside_disk f from (body.OpDone serial n result) v = inl (talks_untouched v.store.copies v.store.copies _ _ refl (on_op_done_talks f serial n result v.users))
+inside_disk f from (body.AsHeld serial n len) v = inl (talks_untouched v.store.copies v.store.copies _ _ refl (on_as_held_talks f serial n v.users))
 inside_disk f from (body.Close serial) v = on_close_disk f (from_user from serial) v.store
 inside_disk f from (body.Closed inst made) v = inl (table_keeps (on_closed f from inst made) (first_that (is_opened_in inst) v.tables) v (on_closed_talks f from inst made))
 inside_disk f from (body.ClosedOk inst) v = inl (on_closed_ok_keeps f inst v.store)
@@ -68,9 +71,11 @@ inside_disk f from (body.CloseDone serial answer) v = inl (talks_untouched v.sto
 inside_disk f from (body.Look call process request take file what) v = inl (table_keeps (on_look f from (record { call = call; process = process; request = request; take = take; file = file; what = what })) (row table_group file.group v.tables) v (on_look_talks f from (record { call = call; process = process; request = request; take = take; file = file; what = what })))
 inside_disk f from (body.LookSs us call process request take file what serve) v = inl (record { copies = refl; still = tt; none = refl })
 inside_disk f from (body.LookDone call request take answer) v = inl (talks_untouched v.store.copies v.store.copies _ _ refl (on_look_done_talks f call request take answer v.users))
-inside_disk f from (body.Notify file kind set size stamp vector holder) v = inl (talks_untouched v.store.copies v.store.copies _ _ refl (on_notify_talks f from (copy_of v.store file) (record { file = file; kind = kind; set = set; size = size; stamp = stamp; vector = vector; holder = holder; content = [] }) v.pulls))
+inside_disk f from (body.Notify file kind set size stamp vector holder) v = inl (talks_untouched v.store.copies v.store.copies _ _ refl (on_notify_talks f from (copy_of v.store file) (record { file = file; kind = kind; set = set; size = size; stamp = stamp; vector = vector; holder = holder; base = None; wanted = None; content = [] }) v.pulls))
 inside_disk f from (body.Pull file stamp page) v = inl (record { copies = refl; still = tt; none = refl })
+inside_disk f from (body.Want file wanted own) v = inl (record { copies = refl; still = tt; none = refl })
 inside_disk f from (body.Page file stamp page bytes) v = inl (talks_untouched v.store.copies v.store.copies _ _ refl (on_page_talks f file stamp page bytes v.pulls))
+inside_disk f from (body.Delta file wanted pages) v = inl (talks_untouched v.store.copies v.store.copies _ _ refl (on_delta_talks f (copy_of v.store file) file wanted pages v.pulls))
 inside_disk f from (body.Have file stamp) v = inl (table_keeps (on_have from file stamp) (row table_group file.group v.tables) v (on_have_talks from file stamp))
 inside_disk f from body.Poll v = inl (quiet_keeps v)
 inside_disk f from (body.Promise reach) v = inl (quiet_keeps v)
@@ -88,18 +93,18 @@ noted_copies : (f : Frame) (p : Pull) (o : Option SyncTable) (v : SiteView) → 
 noted_copies f p None v = refl
 noted_copies f p (Some t) v = refl
 
-rises_over : (p : Pull) (o : Option FileCopy) → is_above_own p o ≡ true → RisesOver (copy_adopted p) o
-rises_over p None e = tt
-rises_over p (Some own) e = e
+rises_over : (p : Pull) (own : List ℕ) (o : Option FileCopy) → is_above_own p o ≡ true → RisesOver (copy_adopted p own) o
+rises_over p content None e = tt
+rises_over p content (Some own) e = e
 
-adopts_pull_disk : (f : Frame) (p : Pull) (v : SiteView) → is_above_own p (copy_of v.store p.file) ≡ true → SiteDisk f.me v (adopts_pull f p v)
-adopts_pull_disk f p v above = inr (
+adopts_pull_disk : (f : Frame) (p : Pull) (v : SiteView) → fits_own p (copy_of v.store p.file) ≡ true → SiteDisk f.me v (adopts_pull f p v)
+adopts_pull_disk f p v fits = inr (
   d,
   record {
     is_written = refl;
-    copies = noted_copies f p (row table_group p.file.group v.tables) (without_pull p (with_store v (with_copy (copy_adopted p) v.store)));
+    copies = noted_copies f p (row table_group p.file.group v.tables) (with_adopted p v);
     says_so = (refl, refl, refl);
-    above = rises_over p (copy_of v.store p.file) above;
+    above = rises_over p (content_under v p) (copy_of v.store p.file) (fits_above p (copy_of v.store p.file) fits);
     before = [];
     after = [];
     told_is = refl;
@@ -109,13 +114,13 @@ adopts_pull_disk f p v above = inr (
 )
   where
     d : DiskWrite
-    d = adopt_write f p
+    d = adopt_write f p (content_under v p)
 
 adopts_first_disk : (f : Frame) (ps : List Pull) (v : SiteView) → SiteDisk f.me v (adopts_first f ps v)
 adopts_first_disk f [] v = inl (quiet_keeps v)
 adopts_first_disk f (p ∷ ps) v =
-    elim (is_ready v p) as (λ t. SiteDisk f.me v (elim t [ true ↦ elim (is_above_own p (copy_of v.store p.file)) [ true ↦ adopts_pull f p v | false ↦ adopts_first f ps (without_pull p v) ] | false ↦ adopts_first f ps v ])) [
-      | true ↦ (elim (is_above_own p (copy_of v.store p.file)) as (λ t. is_above_own p (copy_of v.store p.file) ≡ t → SiteDisk f.me v (elim t [ true ↦ adopts_pull f p v | false ↦ adopts_first f ps (without_pull p v) ])) [
+    elim (is_ready v p) as (λ t. SiteDisk f.me v (elim t [ true ↦ elim (fits_own p (copy_of v.store p.file)) [ true ↦ adopts_pull f p v | false ↦ adopts_first f ps (without_pull p v) ] | false ↦ adopts_first f ps v ])) [
+      | true ↦ (elim (fits_own p (copy_of v.store p.file)) as (λ t. fits_own p (copy_of v.store p.file) ≡ t → SiteDisk f.me v (elim t [ true ↦ adopts_pull f p v | false ↦ adopts_first f ps (without_pull p v) ])) [
         | true ↦ λ e. adopts_pull_disk f p v e
         | false ↦ λ e. adopts_first_disk f ps (without_pull p v)
       ]) refl
@@ -236,12 +241,17 @@ received_disk c me links p (body.Notify file kind set size stamp vector holder) 
     notify_keeps : (o : Option InEpoch) → Keeps v (takes_framed c me p o v)
     notify_keeps None = quiet_keeps v
     notify_keeps (Some i) = subst (λ (y : Body). Keeps v (takes_inside (frame_in c me v.boot i) p.from y v)) (sym e)
-        (talks_untouched v.store.copies v.store.copies _ _ refl (on_notify_talks (frame_in c me v.boot i) p.from (copy_of v.store file) (record { file = file; kind = kind; set = set; size = size; stamp = stamp; vector = vector; holder = holder; content = [] }) v.pulls))
+        (talks_untouched v.store.copies v.store.copies _ _ refl (on_notify_talks (frame_in c me v.boot i) p.from (copy_of v.store file) (record { file = file; kind = kind; set = set; size = size; stamp = stamp; vector = vector; holder = holder; base = None; wanted = None; content = [] }) v.pulls))
 received_disk c me links p (body.Page file stamp page bytes) v e = tried_disk c me links v (takes_framed c me p v.epoch v) (page_keeps v.epoch)
   where
     page_keeps : (o : Option InEpoch) → Keeps v (takes_framed c me p o v)
     page_keeps None = quiet_keeps v
     page_keeps (Some i) = subst (λ (y : Body). Keeps v (takes_inside (frame_in c me v.boot i) p.from y v)) (sym e) (talks_untouched v.store.copies v.store.copies _ _ refl (on_page_talks (frame_in c me v.boot i) file stamp page bytes v.pulls))
+received_disk c me links p (body.Delta file wanted pages) v e = tried_disk c me links v (takes_framed c me p v.epoch v) (delta_keeps v.epoch)
+  where
+    delta_keeps : (o : Option InEpoch) → Keeps v (takes_framed c me p o v)
+    delta_keeps None = quiet_keeps v
+    delta_keeps (Some i) = subst (λ (y : Body). Keeps v (takes_inside (frame_in c me v.boot i) p.from y v)) (sym e) (talks_untouched v.store.copies v.store.copies _ _ refl (on_delta_talks (frame_in c me v.boot i) (copy_of v.store file) file wanted pages v.pulls))
 received_disk c me links p _ v e = writes_disk c me links v (takes_framed c me p v.epoch v) (framed_disk c me p v.epoch v)
 
 ticks_disk : (c : Config) (me : ℕ) (links : Links) (v : SiteView) → SiteDisk me v (ticks_after c me links (adopts_in c me v))

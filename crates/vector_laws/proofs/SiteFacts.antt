@@ -12,8 +12,8 @@ use Rattle.run_laws.specs.of_role_steps.Views.{Frame, Store, Users, SiteView, To
 use Rattle.run_laws.specs.of_role_steps.Reports.{on_report, on_open, on_look, on_closed, on_have}
 use Rattle.run_laws.specs.of_role_steps.Opens.{on_opened}
 use Rattle.run_laws.specs.of_role_steps.Storage.{copy_of, instance_of}
-use Rattle.run_laws.specs.of_role_steps.Pulling.{pull_key, pull_of, goes_on, begins_pull, replaces_pull, on_notify, is_awaited, on_page_of, on_page}
-use Rattle.run_laws.specs.of_role_steps.Using.{on_open_done, on_op_done, on_close_done, on_look_done}
+use Rattle.run_laws.specs.of_role_steps.Pulling.{pull_key, pull_of, goes_on, pull_over, begins_pull, replaces_pull, on_notify, is_awaited, pages_in, is_delta, on_page_of, on_delta_of, on_page, on_delta}
+use Rattle.run_laws.specs.of_role_steps.Using.{on_open_done, on_op_done, on_as_held, on_close_done, on_look_done}
 use Rattle.run_laws.specs.of_role_steps.Versions.{is_below}
 use Rattle.commit_graph.specs.Versions.{same_stamp}
 use Rattle.run_laws.specs.of_role_steps.Epochs.{frame_in, with_users}
@@ -28,14 +28,15 @@ use Rattle.run_laws.specs.of_the_run.Steps.{from_user, group_of, at_table_of, is
 use Rattle.run_laws.proofs.of_the_run.InsideSync.{every_row, Found, row_found, first_found}
 use Rattle.run_laws.proofs.of_the_run.Boots.{every_weaker}
 use Rattle.run_laws.specs.Words.{TalkRecord, Talk, Talks}
-use Rattle.run_laws.proofs.Telling.{on_opened_talks, on_open_talks, on_look_talks, on_report_talks, on_closed_talks, on_have_talks, on_notify_talks, on_page_talks, on_open_done_talks, on_op_done_talks, on_close_done_talks, on_look_done_talks}
+use Rattle.run_laws.proofs.Telling.{on_opened_talks, on_open_talks, on_look_talks, on_report_talks, on_closed_talks, on_have_talks, on_notify_talks, on_page_talks, on_delta_talks, on_open_done_talks, on_op_done_talks, on_as_held_talks, on_close_done_talks, on_look_done_talks}
 use Rattle.vector_laws.specs.Written.{InstancesAgree}
 use Rattle.vector_laws.specs.Facts.{ReportedFact, BodyFact, Factless, CopyFact, PullFact, InstanceFact, StoreFact, TableFact, InEpochFact, ViewFact, NotCommitRecord, NotCommit, DiskFact, Fine, onto}
 use Rattle.vector_laws.proofs.Facts.{Later, onto_later, factless, pulls_later, tables_later, view_later, numbered_none}
 use Rattle.vector_laws.proofs.SyncFacts.{FoundAt, row_at, TableFine, on_opened_fact}
 use Rattle.vector_laws.proofs.SyncEvents.{on_open_fact, on_look_fact, on_report_fact, on_closed_fact, on_have_fact}
-use Rattle.vector_laws.proofs.StoreFacts.{StoreFine, on_open_ss_fact, on_close_fact, on_closed_ok_fact, on_op_fact}
-use Rattle.vector_laws.proofs.RolesSend.{on_pull_factless, on_notify_factless, on_page_factless, on_open_done_factless, on_op_done_factless, on_close_done_factless, on_look_done_factless}
+use Rattle.vector_laws.proofs.StoreFacts.{StoreFine, on_open_ss_fact, on_close_fact, on_closed_ok_fact, on_op_fact, on_read_held_fact}
+use Rattle.vector_laws.proofs.RolesSend.{on_pull_factless, on_want_factless, on_notify_factless, on_page_factless, on_delta_factless, on_open_done_factless, on_op_done_factless, on_as_held_factless, on_close_done_factless, on_look_done_factless}
+use Rattle.run_laws.proofs.of_role_steps.Fitting.{over_any}
 
 abbrev pub SiteFine : List Told → Outcome SiteView → Type 0
 SiteFine past o = Fine ViewFact past o
@@ -157,16 +158,20 @@ pulls_part past v o h k t s =
 abbrev PullsFact : List Told → Outcome (List Pull) → Type 0
 PullsFact past o = Every (PullFact past) o.view
 
-begins_pull_fact : (past : List Told) (f : Frame) (p : Pull) (ps : List Pull) → PullFact past p → Every (PullFact past) ps → PullsFact past (begins_pull f p ps)
-begins_pull_fact past f p ps k h = elim (replaces_pull p (pull_of ps p.file)) as (λ b. PullsFact past (elim b [ true ↦ goes_on f p ps | false ↦ quiet ps ])) [ true ↦ every_row (PullFact past) pull_key p ps k h | false ↦ h ]
+begins_pull_fact : (past : List Told) (f : Frame) (own : Option FileCopy) (p : Pull) (ps : List Pull) → PullFact past p → Every (PullFact past) ps → PullsFact past (begins_pull f own p ps)
+begins_pull_fact past f own p ps k h = elim (replaces_pull own p (pull_of ps p.file)) as (λ b. PullsFact past (elim b [ true ↦ goes_on f (pull_over own p) ps | false ↦ quiet ps ])) [ true ↦ every_row (PullFact past) pull_key (pull_over own p) ps (over_any (PullFact past) own p (λ base wanted. k)) h | false ↦ h ]
 
 on_notify_fact : (past : List Told) (f : Frame) (from : ℕ) (o : Option FileCopy) (p : Pull) (ps : List Pull) → PullFact past p → Every (PullFact past) ps → PullsFact past (on_notify f from o p ps)
-on_notify_fact past f from None p ps k h = begins_pull_fact past f p ps k h
+on_notify_fact past f from None p ps k h = begins_pull_fact past f None p ps k h
 on_notify_fact past f from (Some own) p ps k h =
-    elim (same_stamp own.stamp p.stamp) as (λ b. PullsFact past (elim b [ true ↦ sends (packet f from (body.Have p.file p.stamp) ∷ []) ps | false ↦ elim (is_below own.vector p.vector) [ true ↦ begins_pull f p ps | false ↦ quiet ps ] ])) [
+    elim (same_stamp own.stamp p.stamp) as (λ b. PullsFact past (elim b [ true ↦ sends (packet f from (body.Have p.file p.stamp) ∷ []) ps | false ↦ elim (is_below own.vector p.vector) [ true ↦ begins_pull f (Some own) p ps | false ↦ quiet ps ] ])) [
       | true ↦ h
-      | false ↦ elim (is_below own.vector p.vector) as (λ b. PullsFact past (elim b [ true ↦ begins_pull f p ps | false ↦ quiet ps ])) [ true ↦ begins_pull_fact past f p ps k h | false ↦ h ]
+      | false ↦ elim (is_below own.vector p.vector) as (λ b. PullsFact past (elim b [ true ↦ begins_pull f (Some own) p ps | false ↦ quiet ps ])) [ true ↦ begins_pull_fact past f (Some own) p ps k h | false ↦ h ]
     ]
+
+on_delta_of_fact : (past : List Told) (f : Frame) (own : ℕ) (stamp : Stamp) (pages : List ℕ) (o : Option Pull) (ps : List Pull) → Found (PullFact past) o → Every (PullFact past) ps → PullsFact past (on_delta_of f own stamp pages o ps)
+on_delta_of_fact past f own stamp pages None ps k h = h
+on_delta_of_fact past f own stamp pages (Some p) ps k h = elim (is_delta own p stamp pages) as (λ b. PullsFact past (elim b [ true ↦ goes_on f (record p { wanted = Some pages }) ps | false ↦ quiet ps ])) [ true ↦ every_row (PullFact past) pull_key (record p { wanted = Some pages }) ps k h | false ↦ h ]
 
 on_page_of_fact : (past : List Told) (f : Frame) (stamp : Stamp) (page : ℕ) (bytes : List ℕ) (o : Option Pull) (ps : List Pull) → Found (PullFact past) o → Every (PullFact past) ps → PullsFact past (on_page_of f stamp page bytes o ps)
 on_page_of_fact past f stamp page bytes None ps k h = h
@@ -182,7 +187,9 @@ inside_fact c me boot past from v e (body.OpenSs inst file mode set kind base ve
 inside_fact c me boot past from v e (body.Opened inst answer) here agree k h = with_part past (on_opened (frame_in c me boot e) inst answer) v e (is_opened_in inst) here h (on_opened_talks (frame_in c me boot e) inst answer) (λ t g. on_opened_fact past (frame_in c me boot e) inst answer t g)
 inside_fact c me boot past from v e (body.OpenDone serial answer) here agree k h = users_part past v (on_open_done (frame_in c me boot e) (kept_stamps v) serial answer v.users) h (on_open_done_talks (frame_in c me boot e) (kept_stamps v) serial answer v.users) (on_open_done_factless (frame_in c me boot e) (kept_stamps v) serial answer v.users)
 inside_fact c me boot past from v e (body.Op serial n o seen) here agree k h = store_part c me boot past v e _ here h (on_op_fact (frame_in c me boot e) past (mending v (group_of (instance_of v.store (from_user from serial)))) (from_user from serial) n o seen v.store (store_of past v e here h))
+inside_fact c me boot past from v e (body.ReadHeld serial n at len) here agree k h = store_part c me boot past v e _ here h (on_read_held_fact (frame_in c me boot e) past (from_user from serial) n at len v.store (store_of past v e here h))
 inside_fact c me boot past from v e (body.OpDone serial n result) here agree k h = users_part past v (on_op_done (frame_in c me boot e) serial n result v.users) h (on_op_done_talks (frame_in c me boot e) serial n result v.users) (on_op_done_factless (frame_in c me boot e) serial n result v.users)
+inside_fact c me boot past from v e (body.AsHeld serial n len) here agree k h = users_part past v (on_as_held (frame_in c me boot e) serial n v.users) h (on_as_held_talks (frame_in c me boot e) serial n v.users) (on_as_held_factless (frame_in c me boot e) serial n v.users)
 inside_fact c me boot past from v e (body.Close serial) here agree k h = store_part c me boot past v e _ here h (on_close_fact (frame_in c me boot e) past (from_user from serial) v.store (store_of past v e here h))
 inside_fact c me boot past from v e (body.Closed inst made) here agree k h = with_part past (on_closed (frame_in c me boot e) from inst made) v e (is_opened_in inst) here h (on_closed_talks (frame_in c me boot e) from inst made) (λ t g. on_closed_fact past (frame_in c me boot e) from inst made t agree k g)
 inside_fact c me boot past from v e (body.ClosedOk inst) here agree k h = store_part c me boot past v e _ here h (on_closed_ok_fact (frame_in c me boot e) past inst v.store (store_of past v e here h))
@@ -191,11 +198,14 @@ inside_fact c me boot past from v e (body.Look call process request take file wh
 inside_fact c me boot past from v e (body.LookSs us call process request take file what serve) here agree k h = plain_fine past v _ refl refl refl refl refl tt refl (tt, tt) h
 inside_fact c me boot past from v e (body.LookDone call request take answer) here agree k h = users_part past v (on_look_done (frame_in c me boot e) call request take answer v.users) h (on_look_done_talks (frame_in c me boot e) call request take answer v.users) (on_look_done_factless (frame_in c me boot e) call request take answer v.users)
 inside_fact c me boot past from v e (body.Notify file kind set size stamp vector holder) here agree k h =
-    let p : Pull = record { file = file; kind = kind; set = set; size = size; stamp = stamp; vector = vector; holder = holder; content = [] } in
+    let p : Pull = record { file = file; kind = kind; set = set; size = size; stamp = stamp; vector = vector; holder = holder; base = None; wanted = None; content = [] } in
     pulls_part past v (on_notify (frame_in c me boot e) from (copy_of v.store file) p v.pulls) h (on_notify_fact past (frame_in c me boot e) from (copy_of v.store file) p v.pulls k h.pulls) (on_notify_talks (frame_in c me boot e) from (copy_of v.store file) p v.pulls) (on_notify_factless (frame_in c me boot e) from (copy_of v.store file) p v.pulls)
 inside_fact c me boot past from v e (body.Pull file stamp page) here agree k h = plain_fine past v _ refl refl refl refl refl tt refl (on_pull_factless (frame_in c me boot e) from file stamp page v.store) h
+inside_fact c me boot past from v e (body.Want file wanted own) here agree k h = plain_fine past v _ refl refl refl refl refl tt refl (on_want_factless (frame_in c me boot e) from file wanted own v.store) h
 inside_fact c me boot past from v e (body.Page file stamp page bytes) here agree k h =
     pulls_part past v (on_page (frame_in c me boot e) file stamp page bytes v.pulls) h (on_page_of_fact past (frame_in c me boot e) stamp page bytes (pull_of v.pulls file) v.pulls (row_found (PullFact past) pull_key _ v.pulls h.pulls) h.pulls) (on_page_talks (frame_in c me boot e) file stamp page bytes v.pulls) (on_page_factless (frame_in c me boot e) file stamp page bytes v.pulls)
+inside_fact c me boot past from v e (body.Delta file wanted pages) here agree k h =
+    pulls_part past v (on_delta (frame_in c me boot e) (copy_of v.store file) file wanted pages v.pulls) h (on_delta_of_fact past (frame_in c me boot e) (pages_in (copy_of v.store file)) wanted pages (pull_of v.pulls file) v.pulls (row_found (PullFact past) pull_key _ v.pulls h.pulls) h.pulls) (on_delta_talks (frame_in c me boot e) (copy_of v.store file) file wanted pages v.pulls) (on_delta_factless (frame_in c me boot e) (copy_of v.store file) file wanted pages v.pulls)
 inside_fact c me boot past from v e (body.Have file stamp) here agree k h = group_part past (on_have from file stamp) v e file.group here h (on_have_talks from file stamp) (λ t q g. on_have_fact past (frame_in c me boot e) from file stamp t g)
 inside_fact c me boot past from v e body.Poll here agree k h = quiet_fact past v h
 inside_fact c me boot past from v e (body.Promise reach) here agree k h = quiet_fact past v h

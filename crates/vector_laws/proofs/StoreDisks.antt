@@ -14,7 +14,8 @@ use Rattle.run_laws.specs.of_wire_messages.declared.body.CloseAnswer.{CloseAnswe
 use Rattle.run_laws.specs.of_wire_messages.declared.body.CloseAnswer.TheVariants as closing
 use Rattle.run_laws.specs.of_role_steps.Views.{Frame, Store, DiskWrite, Outcome, quiet, sends, and_then}
 use Rattle.run_laws.specs.of_role_steps.Storage.{StoreRequest, instance_of, own_ino, opens, opens_made, on_open_ss_of, on_open_ss, is_spent, commit_write, commits, next_stamp, next_vector, shuts, shuts_again, closes_owing, closes, on_close_at, on_close_of, on_close, ends_at, on_closed_ok_of, on_closed_ok}
-use Rattle.run_laws.specs.of_role_steps.Operations.{acts, acts_committed, commits_owing, last_committed, commit_op, executes_effect, executes, op_again, by_number, on_op_at, on_op_of, on_op}
+use Rattle.run_laws.specs.of_role_steps.of_dir_format.Entries.{nothing_seen}
+use Rattle.run_laws.specs.of_role_steps.Operations.{acts, acts_committed, commits_owing, last_committed, commit_op, executes_effect, executes, op_again, by_number, on_op_at, on_op_of, on_op, in_form, nothing_to_mend, on_read_held}
 use Rattle.run_laws.specs.of_role_steps.OperationEffects.{Mending, effect_of}
 use Rattle.run_laws.specs.of_role_steps.declared.instances.Instance.{Instance}
 use Rattle.run_laws.specs.of_role_steps.declared.instances.Stage.{Stage}
@@ -184,3 +185,11 @@ on_op_of_disk f m (Some i) n o seen s = on_op_at_disk f m i i.stage n o seen s
 
 pub on_op_disk : (f : Frame) (m : Mending) (inst : Serial) (n : ℕ) (o : Op) (seen : List ℕ) (s : Store) → StoreDisk f.me s (on_op f m inst n o seen s)
 on_op_disk f m inst n o seen s = on_op_of_disk f m (instance_of s inst) n o seen s
+
+-- a held read leaves the disk as the operation does that it stands for
+form_disk : (me : ℕ) (s : Store) (i : Option Instance) (o : Outcome Store) → StoreDisk me s o → StoreDisk me s (in_form i o)
+form_disk me s None o h = h
+form_disk me s (Some i) o h = h
+
+pub on_read_held_disk : (f : Frame) (inst : Serial) (n at len : ℕ) (s : Store) → StoreDisk f.me s (on_read_held f inst n at len s)
+on_read_held_disk f inst n at len s = form_disk f.me s (instance_of s inst) (on_op f nothing_to_mend inst n (op.Read at len) nothing_seen s) (on_op_disk f nothing_to_mend inst n (op.Read at len) nothing_seen s)

@@ -22,7 +22,8 @@ use Rattle.run_laws.specs.of_wire_messages.declared.body.CloseAnswer.TheVariants
 use Rattle.run_laws.specs.of_role_steps.Own.{Every}
 use Rattle.run_laws.specs.of_role_steps.Views.{Frame, Store, Told, Shown, Begins, Shuts, Reserves, Outcome, quiet, sends, and_then, to_some, to_sync, sync_site, serial_key}
 use Rattle.run_laws.specs.of_role_steps.Storage.{StoreRequest, copy_key, copy_of, instance_key, instance_of, is_open, own_ino, begun_instance, begins, with_instance, opened_packets, opens, opens_made, on_open_ss_of, on_open_ss, is_spent, copy_made, instance_committed, commit_record, commits, next_stamp, next_vector, made_version, shut, closed_packets, shuts, shuts_again, closes_owing, closes, on_close_at, on_close_of, on_close, ends_at, on_closed_ok_of, on_closed_ok, closed_again, store_repeats}
-use Rattle.run_laws.specs.of_role_steps.Operations.{act_record, acts, acts_committed, commits_owing, last_committed, commit_op, executes_effect, executes, op_again, by_number, on_op_at, on_op_of, on_op}
+use Rattle.run_laws.specs.of_role_steps.of_dir_format.Entries.{nothing_seen}
+use Rattle.run_laws.specs.of_role_steps.Operations.{act_record, acts, acts_committed, commits_owing, last_committed, commit_op, executes_effect, executes, op_again, by_number, on_op_at, on_op_of, on_op, in_form, nothing_to_mend, on_read_held}
 use Rattle.run_laws.specs.of_role_steps.OperationEffects.{Mending, effect_of}
 use Rattle.run_laws.specs.of_role_steps.declared.copies.FileCopy.{FileCopy}
 use Rattle.run_laws.specs.of_role_steps.declared.instances.Instance.{Instance}
@@ -34,6 +35,7 @@ use Rattle.vector_laws.specs.Written.{JoinsAll, WrittenAs, WasBegun}
 use Rattle.vector_laws.specs.Facts.{BaseFact, MaybeMade, BodyFact, PacketFact, CopyFact, ClosingFact, StageFact, LastMade, InstanceFact, StoreFact, Fine, onto}
 use Rattle.vector_laws.proofs.Facts.{Later, one_later, joins_later, store_later, copies_later, instances_later, instance_later, stage_later, then_fine}
 use Rattle.vector_laws.proofs.SyncFacts.{every_flat, every_latest, joins_one}
+use Rattle.run_laws.proofs.of_role_steps.HeldReads.{held_read_sent}
 
 abbrev pub InStore : Frame → List Told → Store → Type 0
 InStore f past s = StoreFact past f.epoch s
@@ -269,6 +271,16 @@ on_op_of_fact f past m (Some i) n o seen s k h = on_op_at_fact f past m i i.stag
 
 pub on_op_fact : (f : Frame) (past : List Told) (m : Mending) (inst : Serial) (n : ℕ) (o : Op) (seen : List ℕ) (s : Store) → StoreFact past f.epoch s → StoreFine f past (on_op f m inst n o seen s)
 on_op_fact f past m inst n o seen s h = on_op_of_fact f past m (instance_of s inst) n o seen s (row_found (InstanceFact past f.epoch) instance_key (serial_key inst) s.instances h.instances) h
+
+-- a held read is the operation that it stands for, but for the form of its answer
+form_fact : (f : Frame) (past : List Told) (i : Option Instance) (o : Outcome Store) → Every (PacketFact (onto o.told past)) (in_form i o).sent → StoreFine f past o → StoreFine f past (in_form i o)
+form_fact f past None o g h = h
+form_fact f past (Some i) o g h = record { view = h.view; sent = g; numbered = h.numbered; disk = h.disk }
+
+pub on_read_held_fact : (f : Frame) (past : List Told) (inst : Serial) (n at len : ℕ) (s : Store) → StoreFact past f.epoch s → StoreFine f past (on_read_held f inst n at len s)
+on_read_held_fact f past inst n at len s h =
+    let o : Outcome Store = on_op f nothing_to_mend inst n (op.Read at len) nothing_seen s in
+    form_fact f past (instance_of s inst) o (held_read_sent (PacketFact (onto o.told past)) f (λ to serial m r. tt) (λ to serial m l. tt) inst n at len s) (on_op_fact f past nothing_to_mend inst n (op.Read at len) nothing_seen s h)
 
 -- ---- repeats ----
 

@@ -15,6 +15,7 @@ called c a = record {
   request = c.request;
   asking = a;
   brought = c.brought.items;
+  copied = c.copied;
 }
 
 -- the call, with one content more where there is one

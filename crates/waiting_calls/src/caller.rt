@@ -23,6 +23,8 @@ pub struct Caller {
     pub request: u16,
     /// The whole contents that its looks have brought, for a mend.
     pub brought: Vec<Bytes>,
+    /// The bytes of its read, where its site had all of them in memory as it accepted the call.
+    pub copied: Option<Bytes>,
 }
 
 // Taken apart in one place: where a call is dropped, the prover sees one call of this, and not each text that it may hold.
@@ -34,6 +36,7 @@ impl Drop for Caller {
             script: _,
             request: _,
             brought: _,
+            copied: _,
         } = self;
     }
 }
@@ -57,6 +60,7 @@ impl Caller {
             script: Script::start(alloc, words, begins)?,
             request: 0,
             brought: Vec::new(alloc),
+            copied: None,
         })
     }
 

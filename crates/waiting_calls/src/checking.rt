@@ -1,7 +1,7 @@
 // Which waiting call an answer is for: only the current request takes one, and only of its sort.
 ghost use Rattle.std.specs.Prelude.{◌≡◌};
 ghost use Rattle.role_steps.specs.Tables.{first_that};
-ghost use Rattle.role_steps.specs.Using.{answers_op, answers_what, asks_close_of, asks_op_number, asks_open_of, asks_take};
+ghost use Rattle.role_steps.specs.Using.{answers_op, answers_what, asks_close_of, asks_held_number, asks_op_number, asks_open_of, asks_take};
 ghost use Rattle.waiting_calls.specs.Rows.{asks_look, asks_whole, key_of};
 
 use crate::waiting::Waiting;
@@ -28,6 +28,18 @@ pub fn op_asker(serial: u32, number: u32, outcome: &Outcome, rows: &[Waiting]) -
 {
     for waiting in rows {
         if asks_op_number(serial, number, outcome, waiting) {
+            return Some(waiting.key());
+        }
+    }
+    None
+}
+
+/// The key of the call that asks the operation of this number, a read whose bytes are at the site.
+pub fn held_asker(serial: u32, number: u32, rows: &[Waiting]) -> Option<u64>
+    ensures { result ≡ key_of (first_that (asks_held_number serial number) rows.now) }
+{
+    for waiting in rows {
+        if asks_held_number(serial, number, waiting) {
             return Some(waiting.key());
         }
     }
@@ -83,6 +95,23 @@ fn asks_op_number(serial: u32, number: u32, outcome: &Outcome, waiting: &Waiting
             op,
             ..
         } => *asked == serial && (*n == number && answers_op(op, outcome)),
+        _ => false,
+    }
+}
+
+fn asks_held_number(serial: u32, number: u32, waiting: &Waiting) -> bool
+    ensures { result ≡ asks_held_number serial number waiting.now }
+{
+    if waiting.caller.copied.is_none() {
+        return false;
+    }
+    match &waiting.asking {
+        Asking::Op {
+            serial: asked,
+            number: n,
+            op: Op::Read { .. },
+            ..
+        } => *asked == serial && *n == number,
         _ => false,
     }
 }

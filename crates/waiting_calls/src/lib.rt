@@ -13,7 +13,9 @@ mod waiting;
 
 pub use beginning::{begins_call, descriptor, lowest_free};
 pub use caller::{Caller, own_call};
-pub use checking::{asks_open_of, close_asker, is_whole, look_asker, op_asker, open_asker};
+pub use checking::{
+    asks_open_of, close_asker, held_asker, is_whole, look_asker, op_asker, open_asker,
+};
 pub use leaving::answer_changed;
 pub use replying::change_by_reply;
 pub use step::{Step, given};

@@ -1,15 +1,17 @@
-ghost use Rattle.std.specs.Prelude.{◌≡◌, ◌++◌, OnOk};
-ghost use Rattle.role_steps.specs.Requests.{request_packets};
+ghost use Rattle.std.specs.Prelude.{◌≡◌, ◌++◌, IfOk, OnOk};
+ghost use Rattle.role_steps.specs.Requests.{operation_body, request_packets};
 ghost use Rattle.wire_messages.specs.declared.body.Body.TheVariants as body;
 ghost use Rattle.waiting_calls.specs.Called.{called};
 
 use crate::caller::Caller;
 use keyed_tables::{Keyed, waiting_key};
-use locus_ids::{FileId, NoMemory};
+use locus_ids::sizes::SITES;
+use locus_ids::{Bytes, FileId, NoMemory};
 use role_steps::Asking;
 use site_frame::SiteFrame;
 use std::marker::Model;
-use trace_book::What;
+use trace_book::{Op, What};
+use wire_messages::version_vector::Vector;
 use wire_messages::{Body, Opening, Outbox};
 
 /// A call that waits for the answer to its current request.
@@ -65,18 +67,39 @@ pub fn send_request(
             op,
             seen,
         } => {
-            let body = Body::Op {
-                serial: *serial,
-                number: *number,
-                op: op.copy()?,
-                seen: *seen,
-            };
+            let body = operation_body(&caller.copied, *serial, *number, op, seen)?;
             out.send(frame.packet(*ss, body))
         }
         Asking::Close { serial, ss } => {
             let body = Body::Close { serial: *serial };
             out.send(frame.packet(*ss, body))
         }
+    }
+}
+
+/// A read whose bytes are at the site asks for their number alone.
+fn operation_body(
+    copied: &Option<Bytes>,
+    serial: u32,
+    number: u32,
+    op: &Op,
+    seen: &Vector<SITES>,
+) -> Result<Body, NoMemory>
+    ensures { IfOk result (λ made. made ≡ operation_body copied.now serial number op.now seen.now) }
+{
+    match op {
+        Op::Read { at, len } if copied.is_some() => Ok(Body::ReadHeld {
+            serial,
+            number,
+            at: *at,
+            len: *len,
+        }),
+        _ => Ok(Body::Op {
+            serial,
+            number,
+            op: op.copy()?,
+            seen: *seen,
+        }),
     }
 }
 

@@ -8,7 +8,8 @@ use Rattle.disk_calls.specs.Boots.{label_writing, calls_of_label, calls_of_boot,
 use Rattle.role_steps.specs.Views.{SiteView, file_key}
 use Rattle.the_run.specs.Disks.{Disk as DiskLeft, Armed as Script, Cut, BootWrite, ClosesLosing, WritesBody, OpensHalf, ClosesOther, ClosesGate, boot_writes, written as boot_written, gate_left, Booted, Whole, CutOff, boots, boots_armed}
 use Rattle.the_run.specs.Worlds.{Running, Stopped}
-use Rattle.lawful_trace.specs.Disks.{Armed, Disk, calls_of, cut_of, booted_with, stopped_with}
+use Rattle.lawful_trace.specs.Disks.{Armed, calls_of, cut_of, stopped_with}
+use Rattle.whole_run_laws.specs.Wrote.{Disk, disk_booted, disk_stopped, halves_booted, slots_stopped}
 use Rattle.whole_run_laws.specs.CutCounts.{SameArming, CountsAs, CountsAt}
 use Rattle.whole_run_laws.proofs.CutGates.{cut_same}
 
@@ -155,8 +156,8 @@ label_booted x false sl y flag e left = half_booted x sl y flag e left
 -- by the lawful disk and the script of the site before it
 abbrev pub BootCounts : Disk → Script → Booted → Type 0
 BootCounts d x (Whole y None) = ⊥
-BootCounts d x (Whole y (Some z)) = (u : SiteView) → CountsAt (booted_with d d.armed) (Some z) (Some (Running u))
-BootCounts d x (CutOff y how) = CountsAt (stopped_with false d d.armed) None (Some (Stopped y))
+BootCounts d x (Whole y (Some z)) = (u : SiteView) → CountsAt (disk_booted d) (Some z) (Some (Running u))
+BootCounts d x (CutOff y how) = CountsAt (disk_stopped false d) None (Some (Stopped y))
 
 passed : (used left calls : ℕ) → used + left ≡ calls → left ≡ calls - used
 passed used left calls e = omega (arith, e)
@@ -164,34 +165,34 @@ passed used left calls e = omega (arith, e)
 used_more : (used boot rest left calls : ℕ) → boot + rest ≡ left → used + left ≡ calls → used + boot + rest ≡ calls
 used_more used boot rest left calls e f = omega (arith, e, f)
 
-counts_booted : (d : Disk) (o : Armed) (x : Script) (b : Booted) → d.armed ≡ Some o → SameArming o.arming x.how → o.used + x.left ≡ calls_of o.arming → BootsAs x d.halves d.slots x.left b → BootCounts d x b
+counts_booted : (d : Disk) (o : Armed) (x : Script) (b : Booted) → d.rest.armed ≡ Some o → SameArming o.arming x.how → o.used + x.left ≡ calls_of o.arming → BootsAs x d.rest.halves d.slots x.left b → BootCounts d x b
 counts_booted d o x (Whole y None) e same k g = absurd g
-counts_booted d o x (Whole y (Some z)) e same k g = λ u. subst (λ (q : Option Armed). CountsAt (booted_with d q) (Some z) (Some (Running u))) (sym e) (record {
-  calls = (subst (SameArming o.arming) (sym g.0) same, used_more o.used (calls_of_boot d.halves d.slots) z.left x.left (calls_of o.arming) g.1 k);
+counts_booted d o x (Whole y (Some z)) e same k g = λ u. subst (λ (q : Option Armed). CountsAt (record { rest = halves_booted d.slots d.rest q; slots = false }) (Some z) (Some (Running u))) (sym e) (record {
+  calls = (subst (SameArming o.arming) (sym g.0) same, used_more o.used (calls_of_boot d.rest.halves d.slots) z.left x.left (calls_of o.arming) g.1 k);
   gates = (refl, refl);
 })
-counts_booted d o x (CutOff y how) e same k g = subst (λ (q : Option Armed). CountsAt (stopped_with false d q) None (Some (Stopped y))) (sym e) (record {
+counts_booted d o x (CutOff y how) e same k g = subst (λ (q : Option Armed). CountsAt (record { rest = stopped_with false d.rest q; slots = slots_stopped false d.rest d.slots q }) None (Some (Stopped y))) (sym e) (record {
   calls = tt;
   gates = (
-    subst (λ (n : ℕ). are_halves_open d.halves (cut_of o.arming) n ≡ y.label.both_open) (passed o.used x.left (calls_of o.arming) k)
-        (subst (λ (h : Cut). are_halves_open d.halves h x.left ≡ y.label.both_open) (sym (cut_same o.arming x.how same)) g.halves),
-    subst (λ (n : ℕ). length y.both_open ≡ cond (are_slots_open d.halves d.slots (cut_of o.arming) n) 1 0) (passed o.used x.left (calls_of o.arming) k)
-        (subst (λ (h : Cut). length y.both_open ≡ cond (are_slots_open d.halves d.slots h x.left) 1 0) (sym (cut_same o.arming x.how same)) g.slots),
+    subst (λ (n : ℕ). are_halves_open d.rest.halves (cut_of o.arming) n ≡ y.label.both_open) (passed o.used x.left (calls_of o.arming) k)
+        (subst (λ (h : Cut). are_halves_open d.rest.halves h x.left ≡ y.label.both_open) (sym (cut_same o.arming x.how same)) g.halves),
+    subst (λ (n : ℕ). length y.both_open ≡ cond (are_slots_open d.rest.halves d.slots (cut_of o.arming) n) 1 0) (passed o.used x.left (calls_of o.arming) k)
+        (subst (λ (h : Cut). length y.both_open ≡ cond (are_slots_open d.rest.halves d.slots h x.left) 1 0) (sym (cut_same o.arming x.how same)) g.slots),
   );
 })
 
 pub boot_counts : (d : Disk) (x : Script) (y : DiskLeft) → CountsAt d (Some x) (Some (Stopped y)) → BootCounts d x (boots (Some x) y)
-boot_counts d x y h = by_armed d.armed refl h.calls
+boot_counts d x y h = by_armed d.rest.armed refl h.calls
   where
-    by_armed : (q : Option Armed) → d.armed ≡ q → CountsAs q (Some x) → BootCounts d x (boots (Some x) y)
+    by_armed : (q : Option Armed) → d.rest.armed ≡ q → CountsAs q (Some x) → BootCounts d x (boots (Some x) y)
     by_armed None e k = absurd k
     by_armed (Some o) e k = counts_booted d o x (boots (Some x) y) e k.0 k.1 (subst (λ (b : Bool). BootsAs x b d.slots x.left (boots_armed x x.left (boot_writes y) y)) (sym h.gates.0) (label_booted x y.label.both_open d.slots y refl h.gates.1 x.left))
 
 -- without a script
-pub boot_free : (d : Disk) (u : SiteView) → CountsAs d.armed None → CountsAt (booted_with d d.armed) None (Some (Running u))
-boot_free d u k = by_armed d.armed k
+pub boot_free : (d : Disk) (u : SiteView) → CountsAs d.rest.armed None → CountsAt (disk_booted d) None (Some (Running u))
+boot_free d u k = by_armed d.rest.armed k
   where
-    by_armed : (q : Option Armed) → CountsAs q None → CountsAt (booted_with d q) None (Some (Running u))
+    by_armed : (q : Option Armed) → CountsAs q None → CountsAt (record { rest = halves_booted d.slots d.rest q; slots = false }) None (Some (Running u))
     by_armed None k = record { calls = tt; gates = (refl, refl) }
     by_armed (Some o) k = absurd k
 

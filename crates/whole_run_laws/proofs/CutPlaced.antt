@@ -18,10 +18,11 @@ use Rattle.the_run.specs.Worlds.{Line}
 use Rattle.tree_model.specs.Files.{committing, version_of}
 use Rattle.tree_model.specs.Folds.{Trace}
 use Rattle.tree_model.specs.Histories.{held}
-use Rattle.lawful_trace.specs.Disks.{Disk, Writing, pages_held, pages_now, writing_commit, writing_adoption, written, disk_after}
+use Rattle.lawful_trace.specs.Disks.{Writing, pages_held, pages_now, writing_commit}
+use Rattle.whole_run_laws.specs.Wrote.{Disk, writing_adopted, disk_written, disk_after}
 use Rattle.lawful_trace.specs.Lawful.{MayCome}
 use Rattle.vector_laws.specs.Held.{IsOf}
-use Rattle.tree_laws.specs.Doing.{WriteFact, pages_told, pages_written}
+use Rattle.tree_laws.specs.Doing.{AreWritten, WriteFact, pages_told}
 use Rattle.tree_laws.specs.Printed.{entries}
 use Rattle.tree_laws.specs.Stores.{CopiesAreHeld, copy_for}
 use Rattle.tree_laws.proofs.Rows.{followed_rows}
@@ -68,23 +69,23 @@ same_writing a b old new now then xs ys e f g h = λ i. writing (e i) (f i) (g i
 own_write : (s site : ℕ) (x y : Writing) (f : Writing → Disk → Disk) (D : Disk) → site ≡ s → x ≡ y → cond (site == s) (f x D) D ≡ f y D
 own_write s site x y f D e k = ap (λ (b : Bool). cond b (f x D) D) (ap (λ (u : ℕ). u == s) e ∙ equal_self s) ∙ ap (λ (w : Writing). f w D) k
 
-of_record : (c : Config) (t : List Line) (s : ℕ) (r : Record) (x : FileCopy) (older : Bool) (before now : ℕ) (ps : List ℕ) → IsOf s r x → ps ≡ pages_written c (entries t) r → now ≡ pages_told c (entries t) r → older ≡ is_some (held c (entries t) s x.file) → before ≡ pages_held c (entries t) x.file (held c (entries t) s x.file) →
-    (D : Disk) → disk_after r c (entries t) s D ≡ written (writing older before now ps) D
+of_record : (c : Config) (t : List Line) (s : ℕ) (r : Record) (x : FileCopy) (older : Bool) (before now : ℕ) (ps : List ℕ) → IsOf s r x → AreWritten c (entries t) r ps → now ≡ pages_told c (entries t) r → older ≡ is_some (held c (entries t) s x.file) → before ≡ pages_held c (entries t) x.file (held c (entries t) s x.file) →
+    (D : Disk) → disk_after ps r c (entries t) s D ≡ disk_written (writing older before now ps) D
 of_record c t s (says.Commit f site stamp parents content) x older before now ps is pages many has had D =
     let w : Writing = writing_commit c (entries t) f s in
-    own_write s site w (writing older before now ps) written D is.0
+    own_write s site w (writing older before now ps) disk_written D is.0
     (same_writing w.older older (pages_held c (entries t) f (held c (entries t) s f)) before (pages_now (committing c (entries t) f s)) now w.pages ps
     (sym (has ∙ ap (λ (g : FileId). is_some (held c (entries t) s g)) is.1.file_is))
     (sym (had ∙ ap (λ (g : FileId). pages_held c (entries t) g (held c (entries t) s g)) is.1.file_is))
     (sym (many ∙ ap (λ (u : ℕ). pages_now (committing c (entries t) f u)) is.0)) (sym (pages ∙ ap (λ (u : ℕ). (writing_commit c (entries t) f u).pages) is.0)))
 of_record c t s (says.Adopt f site stamp) x older before now ps is pages many has had D =
-    let w : Writing = writing_adoption c (entries t) f s stamp in
-    own_write s site w (writing older before now ps) written D is.0
+    let w : Writing = writing_adopted ps c (entries t) f s stamp in
+    own_write s site w (writing older before now ps) disk_written D is.0
     (same_writing w.older older (pages_held c (entries t) f (held c (entries t) s f)) before (pages_held c (entries t) f (Some stamp)) now w.pages ps
     (sym (has ∙ ap (λ (g : FileId). is_some (held c (entries t) s g)) is.1))
     (sym (had ∙ ap (λ (g : FileId). pages_held c (entries t) g (held c (entries t) s g)) is.1))
-    (sym many) (sym (pages ∙ ap (λ (u : ℕ). (writing_adoption c (entries t) f u stamp).pages) is.0)))
+    (sym many) (sym pages))
 of_record c t s _ x older before now ps is pages many has had D = absurd is
 
-pub write_is : (c : Config) (n : ℕ) (t : List Line) (s : ℕ) (st : Store) (d : DiskWrite) → Past c t → RestTold c t (Shown d.says) → WriteFact c n t s st d → CopiesAreHeld c t s st → IsOf s d.says d.copy → (D : Disk) → disk_after d.says c (entries t) s D ≡ written (writing_of st d) D
+pub write_is : (c : Config) (n : ℕ) (t : List Line) (s : ℕ) (st : Store) (d : DiskWrite) → Past c t → RestTold c t (Shown d.says) → WriteFact c n t s st d → CopiesAreHeld c t s st → IsOf s d.says d.copy → (D : Disk) → disk_after d.pages d.says c (entries t) s D ≡ disk_written (writing_of st d) D
 write_is c n t s st d past rest fact copies is D = of_record c t s d.says d.copy (has_older st d) (pages_of (length (content_of (copy_of st d.copy.file)))) (pages_of (length d.copy.content)) d.pages is fact.pages fact.now (older_is c t s st d.copy.file copies (file_narrow c n t s st d past rest fact is)) (before_is c t s st d.copy.file copies (file_narrow c n t s st d past rest fact is)) D

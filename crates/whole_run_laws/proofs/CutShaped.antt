@@ -2,6 +2,7 @@
 use Rattle.std.proofs.Common.{◌≡◌, ℕ, ◌+◌, true, false, List, [], ◌∷◌, ◌++◌, Option, Some, None, refl, sym, ◌∙◌, ap, subst, inl, inr, ◌⊎◌}
 use Rattle.locus_ids.specs.declared.config.Config.{Config}
 use Rattle.locus_ids.specs.declared.sites.Links.{Links}
+use Rattle.trace_book.specs.declared.operation.Op.TheVariants as op
 use Rattle.trace_book.specs.declared.record.Record.{Record}
 use Rattle.trace_book.specs.declared.record.Record.TheVariants as says
 use Rattle.wire_messages.specs.declared.body.Body.{Body}
@@ -10,20 +11,23 @@ use Rattle.wire_messages.specs.declared.packet.Packet.{Packet}
 use Rattle.role_steps.specs.Looks.{LookRequest}
 use Rattle.role_steps.specs.Mends.{kept_stamps, mending}
 use Rattle.role_steps.specs.Opens.{OpenRequest, on_opened}
+use Rattle.role_steps.specs.of_dir_format.Entries.{nothing_seen}
+use Rattle.role_steps.specs.Operations.{in_form, nothing_to_mend, on_op}
+use Rattle.role_steps.specs.declared.instances.Instance.{Instance}
 use Rattle.role_steps.specs.Own.{Every}
 use Rattle.role_steps.specs.Adoption.{table_group}
 use Rattle.role_steps.specs.Epochs.{frame_in, on_poll, on_promise_of, on_refuse_of, on_install, on_joined, starts_merge, boots_where, merge_boot, starts_part, leaves}
 use Rattle.role_steps.specs.Reports.{on_report, on_open, on_look, on_closed, on_have}
 use Rattle.role_steps.specs.Storage.{StoreRequest, copy_of, instance_of, on_open_ss}
 use Rattle.role_steps.specs.Tables.{row, first_that}
-use Rattle.role_steps.specs.Views.{Frame, SiteView, Told, Shown, DiskWrite, Outcome, Event, Calls, Receives, Ticks, Parts, Merges, GivesUp, quiet, first_written}
+use Rattle.role_steps.specs.Views.{Frame, SiteView, Store, Told, Shown, DiskWrite, Outcome, Event, Calls, Receives, Ticks, Parts, Merges, GivesUp, quiet, first_written}
 use Rattle.role_steps.specs.declared.copies.FileCopy.{FileCopy}
 use Rattle.role_steps.specs.declared.pulls.Pull.{Pull}
 use Rattle.role_steps.specs.declared.rounds.InEpoch.{InEpoch}
 use Rattle.role_steps.specs.declared.synchronizing.SyncTable.{SyncTable}
 use Rattle.the_run.specs.Steps.{at_table_of, from_user, group_of, is_opened_in, is_dropped, takes_inside, takes_framed, takes, tries_at, adopts_in, ends_event, whole, call_frame, epoch_id, takes_call, step}
 use Rattle.run_laws.specs.Words.{Talks}
-use Rattle.run_laws.proofs.Telling.{on_open_ss_talks, on_closed_ok_talks, on_notify_talks, on_page_talks, on_call_talks, on_open_done_talks, on_op_done_talks, on_close_done_talks, on_look_done_talks, on_opened_talks, on_open_talks, on_look_talks, on_report_talks, on_closed_talks, on_have_talks}
+use Rattle.run_laws.proofs.Telling.{on_open_ss_talks, on_closed_ok_talks, on_notify_talks, on_page_talks, on_delta_talks, on_call_talks, on_open_done_talks, on_op_done_talks, on_as_held_talks, on_close_done_talks, on_look_done_talks, on_opened_talks, on_open_talks, on_look_talks, on_report_talks, on_closed_talks, on_have_talks}
 use Rattle.vector_laws.specs.Held.{StillRecord, Still, IsOf, OnDisk}
 use Rattle.vector_laws.proofs.SiteDisks.{step_disk, ends_keeps}
 use Rattle.rest_laws.proofs.of_one_tree_laws.Deeds.{IsShaped, on_close_shaped, on_op_shaped, adopts_shaped}
@@ -54,6 +58,11 @@ table_first : (g : SyncTable → Outcome SyncTable) (o : Option SyncTable) (v : 
 table_first g None v h = tt
 table_first g (Some t) v h = none_first (g t).told (g t).written (h t).1
 
+-- a held read tells and writes what a read does
+held_first : (x : Option Instance) (o : Outcome Store) → FirstTold o.told o.written → FirstTold (in_form x o).told (in_form x o).written
+held_first None o h = h
+held_first (Some x) o h = h
+
 inside_first : (f : Frame) (from : ℕ) (x : Body) (v : SiteView) → First (takes_inside f from x v)
 inside_first f from (body.Report group copies) v = table_first (on_report f from copies) (row table_group group v.tables) v (on_report_talks f from copies)
 inside_first f from (body.Open serial call process request file how) v =
@@ -63,6 +72,9 @@ inside_first f from (body.OpenSs inst file mode set kind base vector parents) v 
 inside_first f from (body.Opened inst answer) v = table_first (on_opened f inst answer) (first_that (is_opened_in inst) v.tables) v (on_opened_talks f inst answer)
 inside_first f from (body.OpenDone serial answer) v = none_first _ _ (on_open_done_talks f (kept_stamps v) serial answer v.users).1
 inside_first f from (body.Op serial k o seen) v = shaped_first _ _ (on_op_shaped f (mending v (group_of (instance_of v.store (from_user from serial)))) (from_user from serial) k o seen v.store)
+inside_first f from (body.ReadHeld serial k at len) v =
+    held_first (instance_of v.store (from_user from serial)) (on_op f nothing_to_mend (from_user from serial) k (op.Read at len) nothing_seen v.store) (shaped_first _ _ (on_op_shaped f nothing_to_mend (from_user from serial) k (op.Read at len) nothing_seen v.store))
+inside_first f from (body.AsHeld serial k len) v = none_first _ _ (on_as_held_talks f serial k v.users).1
 inside_first f from (body.OpDone serial k result) v = none_first _ _ (on_op_done_talks f serial k result v.users).1
 inside_first f from (body.Close serial) v = shaped_first _ _ (on_close_shaped f (from_user from serial) v.store)
 inside_first f from (body.Closed inst made) v = table_first (on_closed f from inst made) (first_that (is_opened_in inst) v.tables) v (on_closed_talks f from inst made)
@@ -72,8 +84,9 @@ inside_first f from (body.Look call process request take file what) v =
     let l : LookRequest = record { call = call; process = process; request = request; take = take; file = file; what = what } in table_first (on_look f from l) (row table_group file.group v.tables) v (on_look_talks f from l)
 inside_first f from (body.LookDone call request take answer) v = none_first _ _ (on_look_done_talks f call request take answer v.users).1
 inside_first f from (body.Notify file kind set size stamp vector holder) v =
-    let pull : Pull = record { file = file; kind = kind; set = set; size = size; stamp = stamp; vector = vector; holder = holder; content = [] } in none_first _ _ (on_notify_talks f from (copy_of v.store file) pull v.pulls).1
+    let pull : Pull = record { file = file; kind = kind; set = set; size = size; stamp = stamp; vector = vector; holder = holder; base = None; wanted = None; content = [] } in none_first _ _ (on_notify_talks f from (copy_of v.store file) pull v.pulls).1
 inside_first f from (body.Page file stamp page bytes) v = none_first _ _ (on_page_talks f file stamp page bytes v.pulls).1
+inside_first f from (body.Delta file wanted pages) v = none_first _ _ (on_delta_talks f (copy_of v.store file) file wanted pages v.pulls).1
 inside_first f from (body.Have file stamp) v = table_first (on_have from file stamp) (row table_group file.group v.tables) v (on_have_talks from file stamp)
 inside_first f from _ v = tt
 
@@ -113,9 +126,10 @@ packet_first c me links p (body.Refuse promised) v q = still_first c me links (o
 packet_first c me links p (body.Install members) v q = still_first c me links (on_install c me p.from p.from_boot p.epoch members v) (install_none c me p.from p.from_boot p.epoch members v)
 packet_first c me links p body.Joined v q = still_first c me links (on_joined p.from p.epoch v) refl
 packet_first c me links p (body.Notify file kind set size stamp vector holder) v q =
-    let pull : Pull = record { file = file; kind = kind; set = set; size = size; stamp = stamp; vector = vector; holder = holder; content = [] } in
+    let pull : Pull = record { file = file; kind = kind; set = set; size = size; stamp = stamp; vector = vector; holder = holder; base = None; wanted = None; content = [] } in
     tried_first c me links (takes_framed c me p v.epoch v) (notified_none c me p v.epoch v (body.Notify file kind set size stamp vector holder) q (λ f. (on_notify_talks f p.from (copy_of v.store file) pull v.pulls).1))
 packet_first c me links p (body.Page file stamp page bytes) v q = tried_first c me links (takes_framed c me p v.epoch v) (notified_none c me p v.epoch v (body.Page file stamp page bytes) q (λ f. (on_page_talks f file stamp page bytes v.pulls).1))
+packet_first c me links p (body.Delta file wanted pages) v q = tried_first c me links (takes_framed c me p v.epoch v) (notified_none c me p v.epoch v (body.Delta file wanted pages) q (λ f. (on_delta_talks f (copy_of v.store file) file wanted pages v.pulls).1))
 packet_first c me links p _ v q = whole_first c me links (takes_framed c me p v.epoch v) (framed_first c me p v.epoch v)
 
 pub step_first : (c : Config) (me : ℕ) (links : Links) (v : SiteView) (e : Event) → FirstTold (step c me links v e).told (step c me links v e).written

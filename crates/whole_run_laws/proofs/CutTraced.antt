@@ -1,7 +1,6 @@
 -- The disks of the lawful trace and the rows of cut calls, record by record.
 use Rattle.std.proofs.Common.{◌≡◌, ◌≢◌, ℕ, Bool, true, cond, ◌||◌, List, [], ◌∷◌, Option, Some, refl, sym, ◌∙◌, ap, subst}
 use Rattle.std.specs.Option.{is_some}
-use Rattle.role_steps.proofs.of_plain_facts.Numbers.{apart_test, equal_self}
 use Rattle.role_steps.proofs.of_plain_facts.Tests.{false_true, or_second}
 use Rattle.locus_ids.specs.declared.config.Config.{Config}
 use Rattle.schedule_lines.specs.declared.line.Line.{Line as LineWords}
@@ -10,33 +9,20 @@ use Rattle.schedule_lines.specs.declared.line.ScheduleLine.{ScheduleLine}
 use Rattle.schedule_lines.specs.declared.line.ScheduleLine.TheVariants.{Event as EventLine}
 use Rattle.trace_book.specs.declared.record.Record.{Record}
 use Rattle.trace_book.specs.declared.record.Record.TheVariants as says
-use Rattle.trace_book.specs.declared.record.StopCause.{StopCause}
 use Rattle.role_steps.specs.Own.{Every}
 use Rattle.role_steps.specs.Views.{Told, Shown, Event}
 use Rattle.tree_model.specs.Folds.{Trace}
 use Rattle.tree_model.specs.Epochs.{is_up}
 use Rattle.the_run.specs.Disks.{Cut, Stops as Stopping, Fails as Failing}
 use Rattle.the_run.specs.Worlds.{World, Line, told_onto, cause_of}
-use Rattle.lawful_trace.specs.Disks.{Disk, armed_by, booted_with, stopped_with, disk_after, armed_at, writer_of, without_version, has_left, may_cut}
+use Rattle.lawful_trace.specs.Disks.{Disk, armed_by, armed_at, writer_of, without_version, has_left, may_cut}
 use Rattle.orderly_traces.specs.of_row_laws.ByLine.{begins_quietly, IsVoidIn, Gives}
 use Rattle.orderly_traces.specs.of_row_laws.Shown.{with_told, shown, EachRecord}
 use Rattle.orderly_traces.specs.of_row_laws.Arms.{NoDiskRecord, NoDisk}
 use Rattle.orderly_traces.proofs.of_row_laws.Versions.{VersionOf}
 use Rattle.rest_laws.specs.MendStepCounting.{CountedRecord, IsCountedRow}
 
--- ---- boots and stops ----
-
-pub up_here : (c : Config) (s boot : ℕ) (before : Trace) (d : Disk) → disk_after (says.Up s boot) c before s d ≡ booted_with d d.armed
-up_here c s boot before d = ap (λ (b : Bool). cond b (booted_with d d.armed) d) (equal_self s)
-
-pub up_there : (c : Config) (s t boot : ℕ) (before : Trace) (d : Disk) → s ≢ t → disk_after (says.Up s boot) c before t d ≡ d
-up_there c s t boot before d ne = ap (λ (b : Bool). cond b (booted_with d d.armed) d) (apart_test s t ne)
-
-pub stop_here : (c : Config) (s : ℕ) (why : StopCause) (up : Bool) (before : Trace) (d : Disk) → is_up before s ≡ up → disk_after (says.Stopped s why) c before s d ≡ stopped_with up d d.armed
-stop_here c s why up before d e = ap (λ (b : Bool). cond b (stopped_with (is_up before s) d d.armed) d) (equal_self s) ∙ ap (λ (b : Bool). stopped_with b d d.armed) e
-
-pub stop_there : (c : Config) (s t : ℕ) (why : StopCause) (before : Trace) (d : Disk) → s ≢ t → disk_after (says.Stopped s why) c before t d ≡ d
-stop_there c s t why before d ne = ap (λ (b : Bool). cond b (stopped_with (is_up before t) d d.armed) d) (apart_test s t ne)
+-- ---- sites ----
 
 -- a version leaves its site running
 pub version_up : (s t line : ℕ) (r : Record) (before : Trace) → VersionOf s r → is_up (record { line = line; what = r } ∷ before) t ≡ is_up before t

@@ -3,4 +3,8 @@
 //! no running part: the readers and writers stand in `wire_parts`. It knows no kind of packet.
 #![tactic(auto)]
 
+mod asked;
+
+pub use asked::{Asked, Gave};
 pub use trace_book;
+pub use version_vector;

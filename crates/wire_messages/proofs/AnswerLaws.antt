@@ -1,6 +1,6 @@
 -- The laws of versions, copies and answers.
 use Rattle.std.proofs.Common.{ℕ, ◌+◌, Option, None, Some, refl, arith}
-use Rattle.version_vector.specs.of_locus_ids.Sizes.{inodes_max}
+use Rattle.wire_fields.specs.of_locus_ids.Sizes.{inodes_max}
 use Rattle.wire_fields.specs.of_field_codec.Codec.{u16, u32, u16_in, pair, empty}
 use Rattle.wire_fields.specs.of_field_codec.Sums.{tagged}
 use Rattle.wire_fields.specs.of_field_codec.Shapes.{IsInRange}

@@ -1,11 +1,11 @@
 -- The laws of modes and openings.
 use Rattle.std.proofs.Common.{◌≡◌, ℕ, zero, suc, ◌+◌, ◌≤◌, Bool, true, false, IsTrue, cond, List, ◌++◌, ◌==◌, length, Ok, refl, sym, ap, subst, ◌∙◌, arith, ◌-◌}
-use Rattle.version_vector.specs.of_locus_ids.Sizes.{sites_max, set_span}
-use Rattle.version_vector.specs.of_locus_ids.declared.ids.Kind.{Kind}
-use Rattle.version_vector.specs.of_locus_ids.declared.ids.Kind.TheVariants.{File, Dir}
-use Rattle.version_vector.specs.of_locus_ids.declared.ids.Mode.{Mode}
-use Rattle.version_vector.specs.of_locus_ids.declared.ids.Mode.TheVariants as mode
-use Rattle.version_vector.specs.of_locus_ids.declared.sites.Sites.{Sites}
+use Rattle.wire_fields.specs.of_locus_ids.Sizes.{sites_max, set_span}
+use Rattle.wire_fields.specs.of_locus_ids.declared.ids.Kind.{Kind}
+use Rattle.wire_fields.specs.of_locus_ids.declared.ids.Kind.TheVariants.{File, Dir}
+use Rattle.wire_fields.specs.of_locus_ids.declared.ids.Mode.{Mode}
+use Rattle.wire_fields.specs.of_locus_ids.declared.ids.Mode.TheVariants as mode
+use Rattle.wire_fields.specs.of_locus_ids.declared.sites.Sites.{Sites}
 use Rattle.wire_fields.specs.of_field_codec.Codec.{Codec, Unread, ◌>>=◌, AreBytes, u8_in, u16_in, pair, made, from_to}
 use Rattle.wire_fields.proofs.of_field_codec.Laws.{Lawful, Takes, rest_at, bind_ok, ok_is, pair_laws, followed_by_laws}
 use Rattle.wire_fields.specs.Parts.{kind_number}

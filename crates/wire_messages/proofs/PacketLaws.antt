@@ -2,7 +2,7 @@
 use Rattle.std.proofs.Common.{◌≡◌, ℕ, ◌+◌, ◌^◌, ◌<◌, ◌⊎◌, inl, inr, List, [], ◌++◌, length, Result, Ok, Err, refl, sym, ap, subst, ◌∙◌, append_assoc, arith}
 use Rattle.std.specs.Result.{OnOk}
 use Rattle.std.proofs.lemmas.List.{append-nil}
-use Rattle.version_vector.specs.of_locus_ids.declared.ids.EpochId.{EpochId}
+use Rattle.wire_fields.specs.of_locus_ids.declared.ids.EpochId.{EpochId}
 use Rattle.wire_fields.specs.of_field_codec.declared.faults.FieldFault.{FieldFault}
 use Rattle.wire_fields.specs.of_field_codec.Codec.{Codec, Unread, Read, ◌>>=◌, AreBytes, u32, whole}
 use Rattle.wire_fields.specs.of_field_codec.Shapes.{framed}
@@ -17,7 +17,7 @@ use Rattle.wire_messages.specs.Packets.{Header, headers, header_of, packet_of, p
 use Rattle.wire_messages.proofs.BodyLaws.{every_body, covers_body, kind_in_range}
 
 headers_laws : Lawful headers
-headers_laws = pair_laws (u8_in_laws 1 1) (pair_laws (u8_in_laws 1 24) (pair_laws sites_laws (pair_laws numbers_laws (pair_laws sites_laws (pair_laws numbers_laws epochs_laws)))))
+headers_laws = pair_laws (u8_in_laws 1 1) (pair_laws (u8_in_laws 1 26) (pair_laws sites_laws (pair_laws numbers_laws (pair_laws sites_laws (pair_laws numbers_laws epochs_laws)))))
 
 abbrev pub framed_body : Header → Codec Body
 framed_body h = framed (bodies h.1.0)

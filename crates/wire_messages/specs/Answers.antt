@@ -1,12 +1,12 @@
 -- How opens are asked, and what opens, closes and Looks are answered, as bytes.
 use Rattle.std.specs.Prelude.{ℕ, ◌+◌, ◌==◌, Bool, cond, List, Option, None, Some, ◌-◌}
-use Rattle.version_vector.specs.of_locus_ids.Sizes.{sites_max, inodes_max, set_span}
-use Rattle.version_vector.specs.of_locus_ids.declared.ids.Kind.{Kind}
-use Rattle.version_vector.specs.of_locus_ids.declared.ids.Kind.TheVariants.{File, Dir}
-use Rattle.version_vector.specs.of_locus_ids.declared.ids.Mode.{Mode}
-use Rattle.version_vector.specs.of_locus_ids.declared.ids.Mode.TheVariants as mode
-use Rattle.version_vector.specs.of_locus_ids.declared.ids.FileId.{FileId}
-use Rattle.version_vector.specs.of_locus_ids.declared.ids.Stamp.{Stamp}
+use Rattle.wire_fields.specs.of_locus_ids.Sizes.{sites_max, inodes_max, set_span}
+use Rattle.wire_fields.specs.of_locus_ids.declared.ids.Kind.{Kind}
+use Rattle.wire_fields.specs.of_locus_ids.declared.ids.Kind.TheVariants.{File, Dir}
+use Rattle.wire_fields.specs.of_locus_ids.declared.ids.Mode.{Mode}
+use Rattle.wire_fields.specs.of_locus_ids.declared.ids.Mode.TheVariants as mode
+use Rattle.wire_fields.specs.of_locus_ids.declared.ids.FileId.{FileId}
+use Rattle.wire_fields.specs.of_locus_ids.declared.ids.Stamp.{Stamp}
 use Rattle.wire_fields.specs.of_field_codec.Codec.{Codec, u8, u16, u32, u8_in, u16_in, u32_in, pair, followed_by, made, empty}
 use Rattle.wire_fields.specs.of_field_codec.Sums.{Kinds, kind, no_kind}
 use Rattle.wire_fields.specs.of_field_codec.Lists.{counted}

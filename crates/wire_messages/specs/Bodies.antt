@@ -1,21 +1,26 @@
 -- The bodies of packets as bytes, by cases on the kind and its fields.
 use Rattle.std.specs.Prelude.{ℕ, ◌<◌, ◌^◌, List}
-use Rattle.version_vector.specs.of_locus_ids.Sizes.{page_bytes}
-use Rattle.version_vector.specs.of_locus_ids.declared.ids.FileId.{FileId}
-use Rattle.version_vector.specs.of_locus_ids.declared.ids.Kind.{Kind}
-use Rattle.version_vector.specs.of_locus_ids.declared.ids.Mode.{Mode}
-use Rattle.version_vector.specs.of_locus_ids.declared.ids.Serial.{Serial}
-use Rattle.version_vector.specs.of_locus_ids.declared.ids.Stamp.{Stamp}
-use Rattle.version_vector.specs.of_locus_ids.declared.sites.Sites.{Sites}
+use Rattle.wire_fields.specs.of_locus_ids.Sizes.{page_bytes}
+use Rattle.wire_fields.specs.of_locus_ids.declared.ids.FileId.{FileId}
+use Rattle.wire_fields.specs.of_locus_ids.declared.ids.Kind.{Kind}
+use Rattle.wire_fields.specs.of_locus_ids.declared.ids.Mode.{Mode}
+use Rattle.wire_fields.specs.of_locus_ids.declared.ids.Serial.{Serial}
+use Rattle.wire_fields.specs.of_locus_ids.declared.ids.Stamp.{Stamp}
+use Rattle.wire_fields.specs.of_locus_ids.declared.sites.Sites.{Sites}
 use Rattle.wire_fields.specs.of_trace_book.declared.operation.What.{What}
 use Rattle.wire_fields.specs.of_trace_book.declared.packet_kind.PacketKind.{PacketKind}
 use Rattle.wire_fields.specs.of_trace_book.declared.packet_kind.PacketKind.TheVariants as packet
 use Rattle.wire_fields.specs.of_field_codec.Codec.{Codec, u8, u16, u32, u16_in, pair, followed_by, empty}
 use Rattle.wire_fields.specs.of_field_codec.Sums.{Kinds, kind, no_kind}
+use Rattle.wire_fields.specs.of_field_codec.Lists.{ascending}
 use Rattle.wire_fields.specs.of_field_codec.Shapes.{Spelled, by, bytes_of, IsInRange, case_of, counted_bytes}
 use Rattle.wire_fields.specs.Parts.{sites, numbers, processes, sizes, epochs, instances, files, files_or_new, any_set, some_set, kinds, stamps, ascending_stamps, vectors}
 use Rattle.wire_fields.specs.Memberships.{members}
 use Rattle.wire_fields.specs.Operations.{ops, outcomes, whats}
+use Rattle.wire_fields.specs.declared.asked.Asked.{Asked}
+use Rattle.wire_fields.specs.declared.asked.Asked.TheVariants as asked
+use Rattle.wire_fields.specs.declared.asked.Gave.{Gave}
+use Rattle.wire_fields.specs.declared.asked.Gave.TheVariants as gave
 use Rattle.wire_messages.specs.declared.body.Opening.{Opening}
 use Rattle.wire_messages.specs.declared.body.Body.{Body}
 use Rattle.wire_messages.specs.declared.body.Body.TheVariants as body
@@ -35,6 +40,8 @@ kind_number (body.Opened _ _) = 10
 kind_number (body.OpenDone _ _) = 11
 kind_number (body.Op _ _ _ _) = 12
 kind_number (body.OpDone _ _ _) = 13
+kind_number (body.ReadHeld _ _ _ _) = 12
+kind_number (body.AsHeld _ _ _) = 13
 kind_number (body.Close _) = 14
 kind_number (body.Closed _ _) = 15
 kind_number (body.ClosedOk _) = 16
@@ -46,6 +53,8 @@ kind_number (body.Notify _ _ _ _ _ _ _) = 21
 kind_number (body.Pull _ _ _) = 22
 kind_number (body.Page _ _ _ _) = 23
 kind_number (body.Have _ _) = 24
+kind_number (body.Want _ _ _) = 25
+kind_number (body.Delta _ _ _) = 26
 
 abbrev pub kind_of : Body → PacketKind
 kind_of body.Poll = packet.Poll
@@ -61,6 +70,8 @@ kind_of (body.Opened _ _) = packet.Opened
 kind_of (body.OpenDone _ _) = packet.OpenDone
 kind_of (body.Op _ _ _ _) = packet.Op
 kind_of (body.OpDone _ _ _) = packet.OpDone
+kind_of (body.ReadHeld _ _ _ _) = packet.Op
+kind_of (body.AsHeld _ _ _) = packet.OpDone
 kind_of (body.Close _) = packet.Close
 kind_of (body.Closed _ _) = packet.Closed
 kind_of (body.ClosedOk _) = packet.ClosedOk
@@ -72,6 +83,8 @@ kind_of (body.Notify _ _ _ _ _ _ _) = packet.Notify
 kind_of (body.Pull _ _ _) = packet.Pull
 kind_of (body.Page _ _ _ _) = packet.Page
 kind_of (body.Have _ _) = packet.Have
+kind_of (body.Want _ _ _) = packet.Want
+kind_of (body.Delta _ _ _) = packet.Delta
 
 -- the serial, call, process, request, file, and how it is to be opened
 abbrev pub opens : Codec (ℕ × (ℕ × (ℕ × (ℕ × (FileId × Opening)))))
@@ -97,6 +110,23 @@ pages = pair files (pair stamps u8)
 abbrev pub carried_bytes : Codec (List ℕ)
 carried_bytes = counted_bytes (u16_in 1 page_bytes)
 
+-- what is asked of an instance, and what it gave
+abbrev pub op_body : ℕ → ℕ → Asked → Body
+op_body serial number (asked.Op op seen) = body.Op serial number op seen
+op_body serial number (asked.Held at len) = body.ReadHeld serial number at len
+
+abbrev pub op_done_body : ℕ → ℕ → Gave → Body
+op_done_body serial number (gave.Outcome outcome) = body.OpDone serial number outcome
+op_done_body serial number (gave.AsHeld len) = body.AsHeld serial number len
+
+-- the file, the wanted stamp and the own one
+abbrev pub wants : Codec (FileId × (Stamp × Stamp))
+wants = pair files (pair stamps stamps)
+
+-- a count, and so many numbers of pages that ascend
+abbrev pub page_numbers : Codec (List ℕ)
+page_numbers = ascending (λ page. page) u16 u16
+
 -- what stands in the body of each kind
 abbrev pub body_fields : Body → Spelled
 body_fields body.Poll = by empty tt
@@ -110,8 +140,10 @@ body_fields (body.Open serial call process request file how) = by opens (serial,
 body_fields (body.OpenSs inst file mode set k base vector parents) = by storage_opens (inst, ((file, mode), (set, (k, (base, (vector, parents))))))
 body_fields (body.Opened inst answer) = by (pair instances opened_answers) (inst, answer)
 body_fields (body.OpenDone serial answer) = by (pair numbers granted_answers) (serial, answer)
-body_fields (body.Op serial number op seen) = by (pair numbers (pair u32 ops)) (serial, (number, (op, seen)))
-body_fields (body.OpDone serial number outcome) = by (pair numbers (pair u32 outcomes)) (serial, (number, outcome))
+body_fields (body.Op serial number op seen) = by (pair numbers (pair u32 ops)) (serial, (number, asked.Op op seen))
+body_fields (body.OpDone serial number outcome) = by (pair numbers (pair u32 outcomes)) (serial, (number, gave.Outcome outcome))
+body_fields (body.ReadHeld serial number at len) = by (pair numbers (pair u32 ops)) (serial, (number, asked.Held at len))
+body_fields (body.AsHeld serial number len) = by (pair numbers (pair u32 outcomes)) (serial, (number, gave.AsHeld len))
 body_fields (body.Close serial) = by numbers serial
 body_fields (body.Closed inst version) = by (pair instances made_answers) (inst, version)
 body_fields (body.ClosedOk inst) = by instances inst
@@ -123,6 +155,8 @@ body_fields (body.Notify file k set size stamp vector holder) = by notices (file
 body_fields (body.Pull file stamp page) = by pages (file, (stamp, page))
 body_fields (body.Page file stamp page bytes) = by (pair pages carried_bytes) ((file, (stamp, page)), bytes)
 body_fields (body.Have file stamp) = by (pair files stamps) (file, stamp)
+body_fields (body.Want file wanted own) = by wants (file, (wanted, own))
+body_fields (body.Delta file wanted pages) = by (pair files (pair stamps page_numbers)) (file, (wanted, pages))
 
 -- the bytes of a body
 abbrev pub body_bytes : Body → List ℕ
@@ -170,10 +204,10 @@ abbrev pub open_done_bodies : Codec Body
 open_done_bodies = body_case (λ p. body.OpenDone p.0 p.1) (pair numbers granted_answers)
 
 abbrev pub op_bodies : Codec Body
-op_bodies = body_case (λ p. body.Op p.0 p.1.0 p.1.1.0 p.1.1.1) (pair numbers (pair u32 ops))
+op_bodies = body_case (λ p. op_body p.0 p.1.0 p.1.1) (pair numbers (pair u32 ops))
 
 abbrev pub op_done_bodies : Codec Body
-op_done_bodies = body_case (λ p. body.OpDone p.0 p.1.0 p.1.1) (pair numbers (pair u32 outcomes))
+op_done_bodies = body_case (λ p. op_done_body p.0 p.1.0 p.1.1) (pair numbers (pair u32 outcomes))
 
 abbrev pub close_bodies : Codec Body
 close_bodies = body_case body.Close numbers
@@ -208,12 +242,19 @@ page_bodies = body_case (λ p. body.Page p.0.0 p.0.1.0 p.0.1.1 p.1) (pair pages 
 abbrev pub have_bodies : Codec Body
 have_bodies = body_case (λ p. body.Have p.0 p.1) (pair files stamps)
 
+abbrev pub want_bodies : Codec Body
+want_bodies = body_case (λ p. body.Want p.0 p.1.0 p.1.1) wants
+
+abbrev pub delta_bodies : Codec Body
+delta_bodies = body_case (λ p. body.Delta p.0 p.1.0 p.1.1) (pair files (pair stamps page_numbers))
+
 -- the kinds by their numbers
 unfoldable pub body_kinds : Kinds Body
 body_kinds =
     kind 1 poll_bodies (kind 2 promise_bodies (kind 3 refuse_bodies (kind 4 install_bodies (kind 5 joined_bodies (kind 6 report_bodies (kind 7 report_ok_bodies (kind 8 open_bodies
     (kind 9 open_ss_bodies (kind 10 opened_bodies (kind 11 open_done_bodies (kind 12 op_bodies (kind 13 op_done_bodies (kind 14 close_bodies (kind 15 closed_bodies (kind 16 closed_ok_bodies
-    (kind 17 close_done_bodies (kind 18 look_bodies (kind 19 look_ss_bodies (kind 20 look_done_bodies (kind 21 notify_bodies (kind 22 pull_bodies (kind 23 page_bodies (kind 24 have_bodies no_kind)))))))))))))))))))))))
+    (kind 17 close_done_bodies (kind 18 look_bodies (kind 19 look_ss_bodies (kind 20 look_done_bodies (kind 21 notify_bodies (kind 22 pull_bodies (kind 23 page_bodies (kind 24 have_bodies
+    (kind 25 want_bodies (kind 26 delta_bodies no_kind)))))))))))))))))))))))))
 
 -- the bodies of the kind with this number
 abbrev pub bodies : ℕ → Codec Body

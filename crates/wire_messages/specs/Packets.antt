@@ -1,6 +1,6 @@
 -- Packets as bytes: a header of 25 bytes, of which the last four are the length of the body, and the body.
 use Rattle.std.specs.Prelude.{◌≡◌, ℕ, ◌<◌, ◌^◌, List, [], ◌++◌, length, Result, Ok, Err}
-use Rattle.version_vector.specs.of_locus_ids.declared.ids.EpochId.{EpochId}
+use Rattle.wire_fields.specs.of_locus_ids.declared.ids.EpochId.{EpochId}
 use Rattle.wire_fields.specs.of_field_codec.Codec.{Codec, u32, u8_in, pair, followed_by, ◌>>=◌}
 use Rattle.wire_fields.specs.of_field_codec.Shapes.{framed}
 use Rattle.wire_fields.specs.Parts.{sites, numbers, epochs}
@@ -13,7 +13,7 @@ abbrev pub Header : Type 0
 Header = ℕ × (ℕ × (ℕ × (ℕ × (ℕ × (ℕ × EpochId)))))
 
 abbrev pub headers : Codec Header
-headers = pair (u8_in 1 1) (pair (u8_in 1 24) (pair sites (pair numbers (pair sites (pair numbers epochs)))))
+headers = pair (u8_in 1 1) (pair (u8_in 1 26) (pair sites (pair numbers (pair sites (pair numbers epochs)))))
 
 abbrev pub header_of : Packet → Header
 header_of p = (1, (kind_number p.body, (p.from, (p.from_boot, (p.to, (p.to_boot, p.epoch))))))

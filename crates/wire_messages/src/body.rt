@@ -1,13 +1,13 @@
-use version_vector::Vector;
-use version_vector::locus_ids::sizes::SITES;
-use version_vector::locus_ids::{
+use wire_fields::trace_book::locus_ids::sizes::SITES;
+use wire_fields::trace_book::locus_ids::{
     Bytes, EpochId, FileId, ItemList, Kind, Members, Mode, Refusal, Serial, SiteId, Sites, Stamp,
     Stamps,
 };
 use wire_fields::trace_book::{Op, Outcome, What};
+use wire_fields::version_vector::Vector;
 
 /// How an open that a using site asks for is to be.
-#[derive(Clone, Copy, PartialEq, Eq)]
+#[derive(Clone, Copy)]
 pub enum Opening {
     Read,
     Write,
@@ -19,7 +19,7 @@ pub enum Opening {
 }
 
 /// A copy that a site has of a file, as it reports it.
-#[derive(Clone, Copy, PartialEq, Eq)]
+#[derive(Clone, Copy)]
 pub struct ReportedCopy {
     pub ino: u16,
     pub kind: Kind,
@@ -56,7 +56,7 @@ pub enum Granted {
 }
 
 /// The version that an instance made.
-#[derive(Clone, Copy, PartialEq, Eq)]
+#[derive(Clone, Copy)]
 pub struct MadeVersion {
     pub stamp: Stamp,
     pub vector: Vector<SITES>,
@@ -83,7 +83,11 @@ pub enum LookAnswer {
     No { why: Refusal },
 }
 
-/// What one site tells another, in the order of the numbers of its kinds from 1.
+/// Numbers of pages, ascending.
+pub type PageNumbers = ItemList<u16>;
+
+/// What one site tells another, in the order of the numbers of its kinds from 1; a held read and its answer are of the kinds before
+/// them.
 #[derive(Drop)]
 pub enum Body {
     /// Asks for a promise to join the epoch of the header.
@@ -142,6 +146,19 @@ pub enum Body {
         serial: u32,
         number: u32,
         outcome: Outcome,
+    },
+    /// Reads bytes that the asking site has in its cache: an operation that brings none.
+    ReadHeld {
+        serial: u32,
+        number: u32,
+        at: u32,
+        len: u16,
+    },
+    /// What such a read gave: so many bytes, those that the asking site has.
+    AsHeld {
+        serial: u32,
+        number: u32,
+        len: u16,
     },
     Close {
         serial: u32,
@@ -206,5 +223,17 @@ pub enum Body {
     Have {
         file: FileId,
         stamp: Stamp,
+    },
+    /// Asks which pages to pull of a version, over the own one.
+    Want {
+        file: FileId,
+        wanted: Stamp,
+        own: Stamp,
+    },
+    /// The pages of the wanted version to pull.
+    Delta {
+        file: FileId,
+        wanted: Stamp,
+        pages: PageNumbers,
     },
 }

@@ -9,10 +9,10 @@ mod outbox;
 mod packet;
 
 pub use body::{
-    Body, CloseAnswer, Granted, LookAnswer, MadeVersion, OpenedAs, Opening, ReportedCopies,
-    ReportedCopy,
+    Body, CloseAnswer, Granted, LookAnswer, MadeVersion, OpenedAs, Opening, PageNumbers,
+    ReportedCopies, ReportedCopy,
 };
 pub use laws::no_packet_begins_another;
 pub use outbox::{Outbox, Records};
 pub use packet::{Packet, Packets};
-pub use wire_fields::trace_book;
+pub use wire_fields::{trace_book, version_vector};

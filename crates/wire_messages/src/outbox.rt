@@ -3,17 +3,26 @@ ghost use Rattle.std.specs.Prelude.{◌≡◌, [], ◌∷◌, ◌++◌, OnOk, On
 use crate::{Packet, Packets};
 use std::alloc::Global;
 use std::marker::Model;
-use version_vector::locus_ids::{ItemList, NoMemory};
 use wire_fields::trace_book::Record;
+use wire_fields::trace_book::locus_ids::{ItemList, NoMemory};
 
 /// What a site tells, the earliest record first.
 pub type Records = ItemList<Record>;
 
 /// What one event sends and tells, each in order.
-#[derive(Drop)]
 pub struct Outbox {
     packets: Packets,
     records: Records,
+}
+
+// Taken apart in one place: where an outbox is dropped, the prover sees one call.
+impl Drop for Outbox {
+    fn drop(self) {
+        let Outbox {
+            packets: _,
+            records: _,
+        } = self;
+    }
 }
 
 impl Model for Outbox {
@@ -73,6 +82,7 @@ impl Outbox {
         ensures packets { result.0 ≡ self.packets }
         ensures records { result.1 ≡ self.records }
     {
-        (self.packets, self.records)
+        let Outbox { packets, records } = self;
+        (packets, records)
     }
 }

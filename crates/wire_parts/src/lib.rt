@@ -15,8 +15,8 @@ mod vectors;
 
 pub use components::{is_component, is_name};
 pub use memberships::{put_members, read_members};
-pub use operations::{put_op, read_op};
-pub use outcomes::{put_outcome, put_what, read_outcome, read_what};
+pub use operations::{put_held, put_op, read_op};
+pub use outcomes::{put_as_held, put_outcome, put_what, read_outcome, read_what};
 pub use parts::{
     put_epoch, put_file, put_instance, put_kind, put_set, put_site, read_any_set, read_epoch,
     read_file, read_file_or_new, read_instance, read_kind, read_number, read_process, read_site,

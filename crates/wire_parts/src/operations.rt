@@ -1,9 +1,10 @@
-ghost use Rattle.std.specs.Prelude.{◌≡◌, ◌<◌, ◌^◌, ◌++◌, length, OnOk};
+ghost use Rattle.std.specs.Prelude.{◌≡◌, ◌<◌, ◌^◌, ◌++◌, length, replicate, OnOk};
+ghost use Rattle.locus_ids.specs.Sizes.{sites_max};
 ghost use Rattle.field_codec.specs.Codec.{pair};
 ghost use Rattle.field_codec.specs.Reads.{ReadsInMemory};
 ghost use Rattle.field_codec.specs.Shapes.{bytes_of, IsInRange};
 ghost use Rattle.wire_fields.specs.Parts.{inodes, sizes, names, components, vectors, no_vector};
-ghost use Rattle.wire_fields.specs.Operations.{op_number, op_fields, op_case, inserts, reads, writes, ops};
+ghost use Rattle.wire_fields.specs.Operations.{op_number, seeing_fields, op_case, inserts, reads, writes, ops};
 
 use crate::{
     put_data, put_kind, put_short, put_vector, read_component, read_kind, read_name, read_size,
@@ -15,76 +16,99 @@ use locus_ids::{Bytes, Kind, NoMemory};
 use std::alloc::Global;
 use trace_book::Op;
 use version_vector::Vector;
+use wire_fields::Asked;
 
-fn read_insert(alloc: Global, fields: &mut Fields) -> Result<(Op, Vector<SITES>), ReadError>
-    ensures { ReadsInMemory (op_case (λ p. (Op.Insert p.0.0 p.0.1.0 p.0.1.1, p.1)) (pair inserts no_vector)) (λ seeing. seeing) fields.old result fields.new }
+/// An operation that has seen no entry.
+fn without_seen(op: Op) -> Asked
+    ensures { result ≡ Asked.Op op (replicate sites_max 0) }
+{
+    Asked::Op {
+        op,
+        seen: Vector::zero(),
+    }
+}
+
+fn read_insert(alloc: Global, fields: &mut Fields) -> Result<Asked, ReadError>
+    ensures { ReadsInMemory (op_case (λ p. Asked.Op (Op.Insert p.0.0 p.0.1.0 p.0.1.1) p.1) (pair inserts no_vector)) (λ asked. asked) fields.old result fields.new }
 {
     let name = read_name(alloc, fields)?;
     let ino = fields.u16_in(1, INODES)?;
     let kind = read_kind(fields)?;
-    Ok((Op::Insert { name, ino, kind }, Vector::zero()))
+    Ok(without_seen(Op::Insert { name, ino, kind }))
 }
 
-fn read_remove(alloc: Global, fields: &mut Fields) -> Result<(Op, Vector<SITES>), ReadError>
-    ensures { ReadsInMemory (op_case (λ p. (Op.Remove p.0.0 p.0.1, p.1)) (pair (pair names inodes) vectors)) (λ seeing. seeing) fields.old result fields.new }
+fn read_remove(alloc: Global, fields: &mut Fields) -> Result<Asked, ReadError>
+    ensures { ReadsInMemory (op_case (λ p. Asked.Op (Op.Remove p.0.0 p.0.1) p.1) (pair (pair names inodes) vectors)) (λ asked. asked) fields.old result fields.new }
 {
     let name = read_name(alloc, fields)?;
     let ino = fields.u16_in(1, INODES)?;
     let seen = read_vector(fields)?;
-    Ok((Op::Remove { name, ino }, seen))
+    Ok(Asked::Op {
+        op: Op::Remove { name, ino },
+        seen,
+    })
 }
 
-fn read_rename(alloc: Global, fields: &mut Fields) -> Result<(Op, Vector<SITES>), ReadError>
-    ensures { ReadsInMemory (op_case (λ p. (Op.Rename p.0.0 p.0.1, p.1)) (pair (pair components names) no_vector)) (λ seeing. seeing) fields.old result fields.new }
+fn read_rename(alloc: Global, fields: &mut Fields) -> Result<Asked, ReadError>
+    ensures { ReadsInMemory (op_case (λ p. Asked.Op (Op.Rename p.0.0 p.0.1) p.1) (pair (pair components names) no_vector)) (λ asked. asked) fields.old result fields.new }
 {
     let component = read_component(alloc, fields)?;
     let name = read_name(alloc, fields)?;
-    Ok((Op::Rename { component, name }, Vector::zero()))
+    Ok(without_seen(Op::Rename { component, name }))
 }
 
-fn read_read(fields: &mut Fields) -> Result<(Op, Vector<SITES>), ReadError>
-    ensures { ReadsInMemory (op_case (λ p. (Op.Read p.0.0 p.0.1, p.1)) (pair reads no_vector)) (λ seeing. seeing) fields.old result fields.new }
+fn read_read(fields: &mut Fields) -> Result<Asked, ReadError>
+    ensures { ReadsInMemory (op_case (λ p. Asked.Op (Op.Read p.0.0 p.0.1) p.1) (pair reads no_vector)) (λ asked. asked) fields.old result fields.new }
 {
     let at = read_size(fields)?;
     let len = fields.u16_in(0, 4_096)?;
-    Ok((Op::Read { at, len }, Vector::zero()))
+    Ok(without_seen(Op::Read { at, len }))
 }
 
-fn read_write(alloc: Global, fields: &mut Fields) -> Result<(Op, Vector<SITES>), ReadError>
-    ensures { ReadsInMemory (op_case (λ p. (Op.Write p.0.0 p.0.1, p.1)) (pair writes no_vector)) (λ seeing. seeing) fields.old result fields.new }
+fn read_write(alloc: Global, fields: &mut Fields) -> Result<Asked, ReadError>
+    ensures { ReadsInMemory (op_case (λ p. Asked.Op (Op.Write p.0.0 p.0.1) p.1) (pair writes no_vector)) (λ asked. asked) fields.old result fields.new }
 {
     let at = fields.u32_in(0, FILE_BYTES as u32)?;
     let most = (FILE_BYTES as u32 - at).min(4_096) as u16;
     let len = fields.u16_in(1, most)?;
     let bytes = fields.slice(len as u32)?;
     let bytes = Bytes::from_slice(alloc, bytes)?;
-    Ok((Op::Write { at, bytes }, Vector::zero()))
+    Ok(without_seen(Op::Write { at, bytes }))
 }
 
-fn read_probe(alloc: Global, fields: &mut Fields) -> Result<(Op, Vector<SITES>), ReadError>
-    ensures { ReadsInMemory (op_case (λ p. (Op.Probe p.0, p.1)) (pair components no_vector)) (λ seeing. seeing) fields.old result fields.new }
+fn read_probe(alloc: Global, fields: &mut Fields) -> Result<Asked, ReadError>
+    ensures { ReadsInMemory (op_case (λ p. Asked.Op (Op.Probe p.0) p.1) (pair components no_vector)) (λ asked. asked) fields.old result fields.new }
 {
     let name = read_component(alloc, fields)?;
-    Ok((Op::Probe { name }, Vector::zero()))
+    Ok(without_seen(Op::Probe { name }))
 }
 
-fn read_find(alloc: Global, fields: &mut Fields) -> Result<(Op, Vector<SITES>), ReadError>
-    ensures { ReadsInMemory (op_case (λ p. (Op.Find p.0, p.1)) (pair components no_vector)) (λ seeing. seeing) fields.old result fields.new }
+fn read_find(alloc: Global, fields: &mut Fields) -> Result<Asked, ReadError>
+    ensures { ReadsInMemory (op_case (λ p. Asked.Op (Op.Find p.0) p.1) (pair components no_vector)) (λ asked. asked) fields.old result fields.new }
 {
     let component = read_component(alloc, fields)?;
-    Ok((Op::Find { component }, Vector::zero()))
+    Ok(without_seen(Op::Find { component }))
 }
 
-fn read_cut(fields: &mut Fields) -> Result<(Op, Vector<SITES>), ReadError>
-    ensures { ReadsInMemory (op_case (λ p. (Op.Cut p.0, p.1)) (pair sizes no_vector)) (λ seeing. seeing) fields.old result fields.new }
+fn read_cut(fields: &mut Fields) -> Result<Asked, ReadError>
+    ensures { ReadsInMemory (op_case (λ p. Asked.Op (Op.Cut p.0) p.1) (pair sizes no_vector)) (λ asked. asked) fields.old result fields.new }
 {
     let len = read_size(fields)?;
-    Ok((Op::Cut { len }, Vector::zero()))
+    Ok(without_seen(Op::Cut { len }))
 }
 
-/// An operation, with the vector that a remove has seen.
-pub fn read_op(alloc: Global, fields: &mut Fields) -> Result<(Op, Vector<SITES>), ReadError>
-    ensures { ReadsInMemory ops (λ seeing. seeing) fields.old result fields.new }
+/// A read of bytes that the asking site has.
+fn read_held(fields: &mut Fields) -> Result<Asked, ReadError>
+    ensures { ReadsInMemory (op_case (λ p. Asked.Held p.0 p.1) reads) (λ asked. asked) fields.old result fields.new }
+{
+    let at = read_size(fields)?;
+    let len = fields.u16_in(0, 4_096)?;
+    Ok(Asked::Held { at, len })
+}
+
+/// What is asked of an instance.
+pub fn read_op(alloc: Global, fields: &mut Fields) -> Result<Asked, ReadError>
+    ensures { ReadsInMemory ops (λ asked. asked) fields.old result fields.new }
 {
     let start = fields.at();
     let number = fields.get_u8()?;
@@ -94,13 +118,14 @@ pub fn read_op(alloc: Global, fields: &mut Fields) -> Result<(Op, Vector<SITES>)
         3 => read_insert(alloc, fields),
         4 => read_remove(alloc, fields),
         5 => read_rename(alloc, fields),
-        6 => Ok((Op::Empty, Vector::zero())),
+        6 => Ok(without_seen(Op::Empty)),
         7 => read_read(fields),
         8 => read_write(alloc, fields),
         9 => read_cut(fields),
-        10 => Ok((Op::Commit, Vector::zero())),
-        11 => Ok((Op::Abort, Vector::zero())),
-        12 => Ok((Op::Mend, Vector::zero())),
+        10 => Ok(without_seen(Op::Commit)),
+        11 => Ok(without_seen(Op::Abort)),
+        12 => Ok(without_seen(Op::Mend)),
+        13 => read_held(fields),
         _ => Err(ReadError::Field(FieldFault::Range { at: start })),
     }
 }
@@ -168,8 +193,8 @@ fn put_write(out: &mut Bytes, at: u32, bytes: &Bytes) -> Result<(), NoMemory>
 
 /// The fields behind the number.
 fn put_fields(out: &mut Bytes, op: &Op, seen: &Vector<SITES>) -> Result<(), NoMemory>
-    requires { IsInRange (op_fields (op.now, seen.now)) }
-    ensures { OnOk result (out.new ≡ out.old ++ bytes_of (op_fields (op.now, seen.now))) }
+    requires { IsInRange (seeing_fields op.now seen.now) }
+    ensures { OnOk result (out.new ≡ out.old ++ bytes_of (seeing_fields op.now seen.now)) }
 {
     match op {
         Op::Probe { name } => put_short(out, name),
@@ -188,9 +213,17 @@ fn put_fields(out: &mut Bytes, op: &Op, seen: &Vector<SITES>) -> Result<(), NoMe
 }
 
 pub fn put_op(out: &mut Bytes, op: &Op, seen: &Vector<SITES>) -> Result<(), NoMemory>
-    requires { ops.Fits (op.now, seen.now) }
-    ensures { OnOk result (out.new ≡ out.old ++ ops.spell (op.now, seen.now)) }
+    requires { ops.Fits (Asked.Op op.now seen.now) }
+    ensures { OnOk result (out.new ≡ out.old ++ ops.spell (Asked.Op op.now seen.now)) }
 {
     put_u8(out, number_of(op))?;
     put_fields(out, op, seen)
+}
+
+/// A read of bytes that the asking site has.
+pub fn put_held(out: &mut Bytes, at: u32, len: u16) -> Result<(), NoMemory>
+    ensures { OnOk result (out.new ≡ out.old ++ ops.spell (Asked.Held at len)) }
+{
+    put_u8(out, 13)?;
+    put_read(out, at, len)
 }

@@ -1,5 +1,5 @@
 ghost use Rattle.std.specs.Prelude.{◌≡◌, ◌++◌, OnOk};
-ghost use Rattle.field_codec.specs.Codec.{pair};
+ghost use Rattle.field_codec.specs.Codec.{pair, u16};
 ghost use Rattle.field_codec.specs.Reads.{ReadsInMemory};
 ghost use Rattle.field_codec.specs.Shapes.{bytes_of, IsInRange};
 ghost use Rattle.wire_fields.specs.Parts.{inodes, kinds, stamps, components};
@@ -15,53 +15,69 @@ use locus_ids::sizes::INODES;
 use locus_ids::{Bytes, Kind, NoMemory};
 use std::alloc::Global;
 use trace_book::{Outcome, What};
+use wire_fields::Gave;
 
-fn read_found(fields: &mut Fields) -> Result<Outcome, ReadError>
-    ensures { ReadsInMemory (value_case (λ p. Outcome.Found p.0 p.1) (pair inodes kinds)) (λ outcome. outcome) fields.old result fields.new }
+fn as_outcome(outcome: Outcome) -> Gave
+    ensures { result ≡ Gave.Outcome outcome }
+{
+    Gave::Outcome { outcome }
+}
+
+fn read_found(fields: &mut Fields) -> Result<Gave, ReadError>
+    ensures { ReadsInMemory (value_case (λ p. Gave.Outcome (Outcome.Found p.0 p.1)) (pair inodes kinds)) (λ gave. gave) fields.old result fields.new }
 {
     let ino = fields.u16_in(1, INODES)?;
     let kind = read_kind(fields)?;
-    Ok(Outcome::Found { ino, kind })
+    Ok(as_outcome(Outcome::Found { ino, kind }))
 }
 
-fn read_given(alloc: Global, fields: &mut Fields) -> Result<Outcome, ReadError>
-    ensures { ReadsInMemory (value_case Outcome.Data data_bytes) (λ outcome. outcome) fields.old result fields.new }
+fn read_given(alloc: Global, fields: &mut Fields) -> Result<Gave, ReadError>
+    ensures { ReadsInMemory (value_case (λ bytes. Gave.Outcome (Outcome.Data bytes)) data_bytes) (λ gave. gave) fields.old result fields.new }
 {
     let bytes = read_data(alloc, fields)?;
-    Ok(Outcome::Data { bytes })
+    Ok(as_outcome(Outcome::Data { bytes }))
 }
 
-fn read_committed(fields: &mut Fields) -> Result<Outcome, ReadError>
-    ensures { ReadsInMemory (value_case Outcome.Committed stamps) (λ outcome. outcome) fields.old result fields.new }
+fn read_committed(fields: &mut Fields) -> Result<Gave, ReadError>
+    ensures { ReadsInMemory (value_case (λ stamp. Gave.Outcome (Outcome.Committed stamp)) stamps) (λ gave. gave) fields.old result fields.new }
 {
     let stamp = read_stamp(fields)?;
-    Ok(Outcome::Committed { stamp })
+    Ok(as_outcome(Outcome::Committed { stamp }))
+}
+
+/// So many bytes, which the asking site has.
+fn read_as_held(fields: &mut Fields) -> Result<Gave, ReadError>
+    ensures { ReadsInMemory (value_case Gave.AsHeld u16) (λ gave. gave) fields.old result fields.new }
+{
+    let len = fields.get_u16()?;
+    Ok(Gave::AsHeld { len })
 }
 
 /// What was given without a refusal.
-fn read_value(alloc: Global, fields: &mut Fields) -> Result<Outcome, ReadError>
-    ensures { ReadsInMemory values (λ outcome. outcome) fields.old result fields.new }
+fn read_value(alloc: Global, fields: &mut Fields) -> Result<Gave, ReadError>
+    ensures { ReadsInMemory values (λ gave. gave) fields.old result fields.new }
 {
     let at = fields.at();
     let number = fields.get_u8()?;
     match number {
-        0 => Ok(Outcome::Done),
+        0 => Ok(as_outcome(Outcome::Done)),
         1 => read_given(alloc, fields),
         2 => read_found(fields),
         3 => read_committed(fields),
+        4 => read_as_held(fields),
         _ => Err(ReadError::Field(FieldFault::Range { at })),
     }
 }
 
-fn read_refused(alloc: Global, fields: &mut Fields) -> Result<Outcome, ReadError>
-    ensures { ReadsInMemory (outcome_case Outcome.No refusals) (λ outcome. outcome) fields.old result fields.new }
+fn read_refused(alloc: Global, fields: &mut Fields) -> Result<Gave, ReadError>
+    ensures { ReadsInMemory (outcome_case (λ why. Gave.Outcome (Outcome.No why)) refusals) (λ gave. gave) fields.old result fields.new }
 {
     let why = read_refusal(alloc, fields)?;
-    Ok(Outcome::No { why })
+    Ok(as_outcome(Outcome::No { why }))
 }
 
-pub fn read_outcome(alloc: Global, fields: &mut Fields) -> Result<Outcome, ReadError>
-    ensures { ReadsInMemory outcomes (λ outcome. outcome) fields.old result fields.new }
+pub fn read_outcome(alloc: Global, fields: &mut Fields) -> Result<Gave, ReadError>
+    ensures { ReadsInMemory outcomes (λ gave. gave) fields.old result fields.new }
 {
     let at = fields.at();
     let number = fields.get_u8()?;
@@ -73,7 +89,7 @@ pub fn read_outcome(alloc: Global, fields: &mut Fields) -> Result<Outcome, ReadE
 }
 
 fn number_of(outcome: &Outcome) -> u8
-    ensures { result ≡ value_number outcome.now }
+    ensures { result ≡ value_number (Gave.Outcome outcome.now) }
 {
     match outcome {
         Outcome::Done => 0,
@@ -92,8 +108,8 @@ fn put_found(out: &mut Bytes, ino: u16, kind: Kind) -> Result<(), NoMemory>
 }
 
 fn put_value_fields(out: &mut Bytes, outcome: &Outcome) -> Result<(), NoMemory>
-    requires { IsInRange (value_fields outcome.now) }
-    ensures { OnOk result (out.new ≡ out.old ++ bytes_of (value_fields outcome.now)) }
+    requires { IsInRange (value_fields (Gave.Outcome outcome.now)) }
+    ensures { OnOk result (out.new ≡ out.old ++ bytes_of (value_fields (Gave.Outcome outcome.now))) }
 {
     match outcome {
         Outcome::Data { bytes } => put_data(out, bytes),
@@ -105,8 +121,8 @@ fn put_value_fields(out: &mut Bytes, outcome: &Outcome) -> Result<(), NoMemory>
 }
 
 fn put_value(out: &mut Bytes, outcome: &Outcome) -> Result<(), NoMemory>
-    requires { values.Fits outcome.now }
-    ensures { OnOk result (out.new ≡ out.old ++ values.spell outcome.now) }
+    requires { values.Fits (Gave.Outcome outcome.now) }
+    ensures { OnOk result (out.new ≡ out.old ++ values.spell (Gave.Outcome outcome.now)) }
 {
     put_u8(out, number_of(outcome))?;
     put_value_fields(out, outcome)
@@ -114,7 +130,7 @@ fn put_value(out: &mut Bytes, outcome: &Outcome) -> Result<(), NoMemory>
 
 /// 2 for a refusal, and 1 for a value.
 fn side_of(outcome: &Outcome) -> u8
-    ensures { result ≡ outcome_number outcome.now }
+    ensures { result ≡ outcome_number (Gave.Outcome outcome.now) }
 {
     match outcome {
         Outcome::No { .. } => 2,
@@ -123,8 +139,8 @@ fn side_of(outcome: &Outcome) -> u8
 }
 
 fn put_side(out: &mut Bytes, outcome: &Outcome) -> Result<(), NoMemory>
-    requires { IsInRange (outcome_fields outcome.now) }
-    ensures { OnOk result (out.new ≡ out.old ++ bytes_of (outcome_fields outcome.now)) }
+    requires { IsInRange (outcome_fields (Gave.Outcome outcome.now)) }
+    ensures { OnOk result (out.new ≡ out.old ++ bytes_of (outcome_fields (Gave.Outcome outcome.now))) }
 {
     match outcome {
         Outcome::No { why } => put_refusal(out, why),
@@ -136,11 +152,20 @@ fn put_side(out: &mut Bytes, outcome: &Outcome) -> Result<(), NoMemory>
 }
 
 pub fn put_outcome(out: &mut Bytes, outcome: &Outcome) -> Result<(), NoMemory>
-    requires { outcomes.Fits outcome.now }
-    ensures { OnOk result (out.new ≡ out.old ++ outcomes.spell outcome.now) }
+    requires { outcomes.Fits (Gave.Outcome outcome.now) }
+    ensures { OnOk result (out.new ≡ out.old ++ outcomes.spell (Gave.Outcome outcome.now)) }
 {
     put_u8(out, side_of(outcome))?;
     put_side(out, outcome)
+}
+
+/// So many bytes, which the asking site has.
+pub fn put_as_held(out: &mut Bytes, len: u16) -> Result<(), NoMemory>
+    ensures { OnOk result (out.new ≡ out.old ++ outcomes.spell (Gave.AsHeld len)) }
+{
+    put_u8(out, 1)?;
+    put_u8(out, 4)?;
+    put_u16(out, len)
 }
 
 fn read_asked_name(alloc: Global, fields: &mut Fields) -> Result<What, ReadError>

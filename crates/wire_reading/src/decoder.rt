@@ -24,7 +24,7 @@ pub enum NotAPacket {
 }
 
 /// What stands before the body.
-#[derive(Clone, Copy, PartialEq, Eq)]
+#[derive(Clone, Copy)]
 pub struct Heading {
     pub kind: u8,
     pub from: SiteId,
@@ -38,7 +38,7 @@ fn read_heading(fields: &mut Fields) -> Result<Heading, FieldFault>
     ensures { Reads headers seen_header fields.old result fields.new }
 {
     fields.u8_in(1, 1)?;
-    let kind = fields.u8_in(1, 24)?;
+    let kind = fields.u8_in(1, 26)?;
     let from = read_site(fields)?;
     let from_boot = read_number(fields)?;
     let to = read_site(fields)?;
@@ -60,15 +60,16 @@ fn read_packet(alloc: Global, fields: &mut Fields) -> Result<Packet, ReadError>
     let heading = read_heading(fields)?;
     let mut inner = fields.frame()?;
     let body = read_body(alloc, heading.kind, &mut inner)?;
-    inner.end()?;
-    Ok(Packet {
+    let packet = Packet {
         from: heading.from,
         from_boot: heading.from_boot,
         to: heading.to,
         to_boot: heading.to_boot,
         epoch: heading.epoch,
         body,
-    })
+    };
+    inner.end()?;
+    Ok(packet)
 }
 
 fn read_whole(alloc: Global, bytes: &[u8]) -> Result<Packet, ReadError>

@@ -2,8 +2,8 @@ ghost use Rattle.field_codec.specs.Reads.{ReadsInMemory};
 ghost use Rattle.wire_messages.specs.Bodies.{bodies};
 
 use crate::read_replies::{
-    read_close_done, read_closed, read_closed_ok, read_have, read_look, read_look_done,
-    read_look_ss, read_notify, read_page, read_pull,
+    read_close_done, read_closed, read_closed_ok, read_delta, read_have, read_look, read_look_done,
+    read_look_ss, read_notify, read_page, read_pull, read_want,
 };
 use crate::read_requests::{
     read_close, read_install, read_op_done, read_open, read_open_done, read_open_ss, read_opened,
@@ -43,6 +43,8 @@ pub fn read_body(alloc: Global, kind: u8, fields: &mut Fields) -> Result<Body, R
         22 => read_pull(fields),
         23 => read_page(alloc, fields),
         24 => read_have(fields),
+        25 => read_want(fields),
+        26 => read_delta(alloc, fields),
         _ => Err(ReadError::Field(FieldFault::Range { at: fields.at() })),
     }
 }

@@ -1,14 +1,15 @@
 //! The bodies of the kinds that close, look and propagate.
 
-ghost use Rattle.field_codec.specs.Reads.{ReadsInMemory};
-ghost use Rattle.wire_messages.specs.Bodies.{closed_bodies, closed_ok_bodies, close_done_bodies, look_bodies, look_ss_bodies, look_done_bodies, notify_bodies, pull_bodies, page_bodies, have_bodies};
+ghost use Rattle.field_codec.specs.Reads.{Reads, ReadsInMemory};
+ghost use Rattle.wire_messages.specs.Bodies.{closed_bodies, closed_ok_bodies, close_done_bodies, look_bodies, look_ss_bodies, look_done_bodies, notify_bodies, pull_bodies, page_bodies, have_bodies, want_bodies, delta_bodies, page_numbers};
+ghost use Rattle.wire_reading.specs.Pages.{pages_from};
 
 use crate::read_answers::{read_close_answer, read_look_answer, read_made_answer, read_version};
-use field_codec::{Fields, ReadError};
+use field_codec::{FieldFault, Fields, ReadError};
 use locus_ids::Bytes;
 use locus_ids::sizes::PAGE_BYTES;
 use std::alloc::Global;
-use wire_messages::Body;
+use wire_messages::{Body, PageNumbers};
 use wire_parts::{
     read_file, read_instance, read_kind, read_number, read_process, read_site, read_size,
     read_some_set, read_stamp, read_what,
@@ -146,4 +147,53 @@ pub fn read_have(fields: &mut Fields) -> Result<Body, ReadError>
     let file = read_file(fields)?;
     let stamp = read_stamp(fields)?;
     Ok(Body::Have { file, stamp })
+}
+
+pub fn read_want(fields: &mut Fields) -> Result<Body, ReadError>
+    ensures { ReadsInMemory want_bodies (λ body. body) fields.old result fields.new }
+{
+    let file = read_file(fields)?;
+    let wanted = read_stamp(fields)?;
+    let own = read_stamp(fields)?;
+    Ok(Body::Want { file, wanted, own })
+}
+
+pub fn read_delta(alloc: Global, fields: &mut Fields) -> Result<Body, ReadError>
+    ensures { ReadsInMemory delta_bodies (λ body. body) fields.old result fields.new }
+{
+    let file = read_file(fields)?;
+    let wanted = read_stamp(fields)?;
+    let pages = read_pages(alloc, fields)?;
+    Ok(Body::Delta {
+        file,
+        wanted,
+        pages,
+    })
+}
+
+/// A count, and so many numbers of pages that ascend.
+fn read_pages(alloc: Global, fields: &mut Fields) -> Result<PageNumbers, ReadError>
+    ensures { ReadsInMemory page_numbers (λ pages. pages) fields.old result fields.new }
+{
+    let count = fields.get_u16()?;
+    let mut pages = PageNumbers::new(alloc);
+    let mut least = 0;
+    for _ in 0..count {
+        let page = read_page_from(least, fields)?;
+        pages.push(page)?;
+        least = page as u32 + 1;
+    }
+    Ok(pages)
+}
+
+/// A number of a page that is at least this one.
+fn read_page_from(least: u32, fields: &mut Fields) -> Result<u16, FieldFault>
+    ensures { Reads (pages_from least) (λ page. page) fields.old result fields.new }
+{
+    let at = fields.at();
+    let page = fields.get_u16()?;
+    if u32::from(page) < least {
+        return Err(FieldFault::Range { at });
+    }
+    Ok(page)
 }

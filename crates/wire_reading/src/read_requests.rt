@@ -7,6 +7,7 @@ use crate::read_answers::{read_copies, read_granted_answer, read_opened_answer};
 use crate::read_openings::{is_new, read_mode, read_opening};
 use field_codec::{Fields, ReadError};
 use std::alloc::Global;
+use wire_fields::{Asked, Gave};
 use wire_messages::Body;
 use wire_parts::{
     read_any_set, read_ascending_stamps, read_epoch, read_file_or_new, read_instance, read_kind,
@@ -113,13 +114,20 @@ pub fn read_operation(alloc: Global, fields: &mut Fields) -> Result<Body, ReadEr
 {
     let serial = read_number(fields)?;
     let number = fields.get_u32()?;
-    let (op, seen) = read_op(alloc, fields)?;
-    Ok(Body::Op {
-        serial,
-        number,
-        op,
-        seen,
-    })
+    match read_op(alloc, fields)? {
+        Asked::Op { op, seen } => Ok(Body::Op {
+            serial,
+            number,
+            op,
+            seen,
+        }),
+        Asked::Held { at, len } => Ok(Body::ReadHeld {
+            serial,
+            number,
+            at,
+            len,
+        }),
+    }
 }
 
 pub fn read_op_done(alloc: Global, fields: &mut Fields) -> Result<Body, ReadError>
@@ -127,12 +135,18 @@ pub fn read_op_done(alloc: Global, fields: &mut Fields) -> Result<Body, ReadErro
 {
     let serial = read_number(fields)?;
     let number = fields.get_u32()?;
-    let outcome = read_outcome(alloc, fields)?;
-    Ok(Body::OpDone {
-        serial,
-        number,
-        outcome,
-    })
+    match read_outcome(alloc, fields)? {
+        Gave::Outcome { outcome } => Ok(Body::OpDone {
+            serial,
+            number,
+            outcome,
+        }),
+        Gave::AsHeld { len } => Ok(Body::AsHeld {
+            serial,
+            number,
+            len,
+        }),
+    }
 }
 
 pub fn read_close(fields: &mut Fields) -> Result<Body, ReadError>

@@ -2,11 +2,12 @@ ghost use Rattle.std.specs.Prelude.{◌≡◌, ◌++◌, OnOk};
 ghost use Rattle.wire_messages.specs.Bodies.{kind_number, body_bytes, FitsBody};
 
 use crate::put_replies::{
-    put_close_done, put_closed, put_have, put_look, put_look_done, put_look_ss, put_notify,
-    put_page, put_pull,
+    put_close_done, put_closed, put_delta, put_have, put_look, put_look_done, put_look_ss,
+    put_notify, put_page, put_pull, put_want,
 };
 use crate::put_requests::{
-    put_op_done, put_open, put_open_done, put_open_ss, put_opened, put_operation, put_report,
+    put_held_done, put_op_done, put_open, put_open_done, put_open_ss, put_opened, put_operation,
+    put_read_held, put_report,
 };
 use field_codec::{put_u8, put_u32};
 use locus_ids::{Bytes, NoMemory};
@@ -31,6 +32,8 @@ pub fn kind_number(body: &Body) -> u8
         Body::OpenDone { .. } => 11,
         Body::Op { .. } => 12,
         Body::OpDone { .. } => 13,
+        Body::ReadHeld { .. } => 12,
+        Body::AsHeld { .. } => 13,
         Body::Close { .. } => 14,
         Body::Closed { .. } => 15,
         Body::ClosedOk { .. } => 16,
@@ -42,6 +45,8 @@ pub fn kind_number(body: &Body) -> u8
         Body::Pull { .. } => 22,
         Body::Page { .. } => 23,
         Body::Have { .. } => 24,
+        Body::Want { .. } => 25,
+        Body::Delta { .. } => 26,
     }
 }
 
@@ -91,6 +96,17 @@ pub fn put_body(out: &mut Bytes, body: &Body) -> Result<(), NoMemory>
             number,
             outcome,
         } => put_op_done(out, *serial, *number, outcome),
+        Body::ReadHeld {
+            serial,
+            number,
+            at,
+            len,
+        } => put_read_held(out, *serial, *number, *at, *len),
+        Body::AsHeld {
+            serial,
+            number,
+            len,
+        } => put_held_done(out, *serial, *number, *len),
         Body::Close { serial } => put_u32(out, *serial),
         Body::Closed { inst, made } => put_closed(out, *inst, made),
         Body::ClosedOk { inst } => put_instance(out, *inst),
@@ -138,5 +154,11 @@ pub fn put_body(out: &mut Bytes, body: &Body) -> Result<(), NoMemory>
             bytes,
         } => put_page(out, *file, *stamp, *page, bytes),
         Body::Have { file, stamp } => put_have(out, *file, *stamp),
+        Body::Want { file, wanted, own } => put_want(out, *file, *wanted, *own),
+        Body::Delta {
+            file,
+            wanted,
+            pages,
+        } => put_delta(out, *file, *wanted, pages),
     }
 }

@@ -1,7 +1,9 @@
 //! The bodies of the kinds that close, look and propagate.
 
-ghost use Rattle.std.specs.Prelude.{◌≡◌, ◌++◌, OnOk};
-ghost use Rattle.wire_messages.specs.Bodies.{body_bytes, FitsBody};
+ghost use Rattle.std.specs.Prelude.{◌≡◌, ◌<◌, ◌^◌, ◌++◌, length, OnOk};
+ghost use Rattle.std.specs.List.{flat_map};
+ghost use Rattle.field_codec.specs.Codec.{u16};
+ghost use Rattle.wire_messages.specs.Bodies.{body_bytes, FitsBody, page_numbers};
 
 use crate::put_answers::{put_close_answer, put_look_answer, put_made_answer, put_version};
 use field_codec::{put_u8, put_u16, put_u32};
@@ -9,7 +11,7 @@ use locus_ids::sizes::SITES;
 use locus_ids::{Bytes, FileId, Kind, NoMemory, Serial, SiteId, Sites, Stamp};
 use trace_book::What;
 use version_vector::Vector;
-use wire_messages::{Body, CloseAnswer, LookAnswer, MadeVersion};
+use wire_messages::{Body, CloseAnswer, LookAnswer, MadeVersion, PageNumbers};
 use wire_parts::{
     put_data, put_file, put_instance, put_kind, put_set, put_site, put_stamp, put_what,
 };
@@ -131,4 +133,44 @@ pub fn put_have(out: &mut Bytes, file: FileId, stamp: Stamp) -> Result<(), NoMem
 {
     put_file(out, file)?;
     put_stamp(out, stamp)
+}
+
+pub fn put_want(out: &mut Bytes, file: FileId, wanted: Stamp, own: Stamp) -> Result<(), NoMemory>
+    ensures { OnOk result (out.new ≡ out.old ++ body_bytes (Body.Want file wanted own)) }
+{
+    put_file(out, file)?;
+    put_stamp(out, wanted)?;
+    put_stamp(out, own)
+}
+
+pub fn put_delta(
+    out: &mut Bytes,
+    file: FileId,
+    wanted: Stamp,
+    pages: &PageNumbers,
+) -> Result<(), NoMemory>
+    requires { FitsBody (Body.Delta file wanted pages.now) }
+    ensures { OnOk result (out.new ≡ out.old ++ body_bytes (Body.Delta file wanted pages.now)) }
+{
+    put_file(out, file)?;
+    put_stamp(out, wanted)?;
+    put_pages(out, pages)
+}
+
+/// A count, and so many numbers of pages.
+fn put_pages(out: &mut Bytes, pages: &PageNumbers) -> Result<(), NoMemory>
+    requires { length pages.now < 2 ^ 16 }
+    ensures { OnOk result (out.new ≡ out.old ++ page_numbers.spell pages.now) }
+{
+    put_u16(out, pages.len() as u16)?;
+    put_each_page(out, pages.as_slice())
+}
+
+fn put_each_page(out: &mut Bytes, pages: &[u16]) -> Result<(), NoMemory>
+    ensures { OnOk result (out.new ≡ out.old ++ flat_map u16.spell pages.now) }
+{
+    for page in pages {
+        put_u16(out, *page)?;
+    }
+    Ok(())
 }

@@ -16,8 +16,8 @@ use trace_book::{Op, Outcome};
 use version_vector::Vector;
 use wire_messages::{Body, Granted, OpenedAs, Opening, ReportedCopies};
 use wire_parts::{
-    put_ascending_stamps, put_file, put_instance, put_kind, put_op, put_outcome, put_set,
-    put_stamp, put_vector,
+    put_as_held, put_ascending_stamps, put_file, put_held, put_instance, put_kind, put_op,
+    put_outcome, put_set, put_stamp, put_vector,
 };
 
 pub fn put_report(out: &mut Bytes, group: u8, copies: &ReportedCopies) -> Result<(), NoMemory>
@@ -120,4 +120,26 @@ pub fn put_op_done(
     put_u32(out, serial)?;
     put_u32(out, number)?;
     put_outcome(out, outcome)
+}
+
+pub fn put_read_held(
+    out: &mut Bytes,
+    serial: u32,
+    number: u32,
+    at: u32,
+    len: u16,
+) -> Result<(), NoMemory>
+    ensures { OnOk result (out.new ≡ out.old ++ body_bytes (Body.ReadHeld serial number at len)) }
+{
+    put_u32(out, serial)?;
+    put_u32(out, number)?;
+    put_held(out, at, len)
+}
+
+pub fn put_held_done(out: &mut Bytes, serial: u32, number: u32, len: u16) -> Result<(), NoMemory>
+    ensures { OnOk result (out.new ≡ out.old ++ body_bytes (Body.AsHeld serial number len)) }
+{
+    put_u32(out, serial)?;
+    put_u32(out, number)?;
+    put_as_held(out, len)
 }

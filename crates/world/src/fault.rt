@@ -4,7 +4,7 @@ use site_place::{PlaceFault, StartFault};
 use thiserror::Error;
 
 /// Why a line was not done. Then the run cannot go on.
-#[derive(Clone, Copy, Debug, PartialEq, Eq, Error)]
+#[derive(Clone, Copy, Debug, Error)]
 pub enum WorldFault {
     #[error("no memory")]
     NoMemory,

@@ -15,7 +15,8 @@ ghost use Rattle.packet_order.specs.Counts.{FitsIfCounted};
 ghost use Rattle.complete_laws.specs.of_row_laws.Voids.{LinesFit};
 ghost use Rattle.complete_laws.specs.of_order_laws.Joining.{PacksAreOfSites};
 ghost use Rattle.world.specs.Faults.{MayCome};
-ghost use Rattle.copy_laws.specs.Hold.{VersionsAndCopiesHold};
+ghost use Rattle.copy_laws.specs.Contents.{CopiesHaveContents};
+ghost use Rattle.copy_laws.specs.Hold.{VersionsStand};
 
 use crate::WorldFault;
 use crate::open::OpenCircuits;
@@ -167,10 +168,12 @@ impl World {
 
     /// Does a line of a schedule as the run says, with its number. Whatever world of the run is shown before, after it that world
     /// is shown as the line leaves it. Where that is the run of some lines, it's then that of these lines with this one, and of its
-    /// versions holds what does of every run's; and where these lines and this one are in range, nothing but memory may be wanting.
+    /// versions holds what does of every run's; and where these lines and this one are in range, each copy has the bytes of its
+    /// version, and nothing but memory may be wanting.
     pub fn step(&mut self, number: u32, line: Line) -> Result<(), WorldFault>
         ensures step { OnOk result (Follows (λ c w. act c number line w) (state_of self.old) (state_of self.new)) }
-        ensures versions { (c : Config) (lines : List ScheduleLine) (taken : Taken) → number ≡ length lines + 1 → Shows c taken (run_in c lines) (state_of self.old) → OnOk result (Shows c taken (run_in c (lines ++ Event line ∷ [])) (state_of self.new) × VersionsAndCopiesHold c (run_in c (lines ++ Event line ∷ []))) }
+        ensures versions { (c : Config) (lines : List ScheduleLine) (taken : Taken) → number ≡ length lines + 1 → Shows c taken (run_in c lines) (state_of self.old) → OnOk result (Shows c taken (run_in c (lines ++ Event line ∷ [])) (state_of self.new) × VersionsStand c (run_in c (lines ++ Event line ∷ []))) }
+        ensures copies { (c : Config) (lines : List ScheduleLine) (taken : Taken) → number ≡ length lines + 1 → LinesFit c (lines ++ Event line ∷ []) → PacksAreOfSites c → length c.packs ≤ 4 → Shows c taken (run_in c lines) (state_of self.old) → OnOk result (CopiesHaveContents (run_in c (lines ++ Event line ∷ []))) }
         ensures fault { IfErr result (MayCome line) }
         ensures complete { (c : Config) (lines : List ScheduleLine) (taken : Taken) → number ≡ length lines + 1 → LinesFit c (lines ++ Event line ∷ []) → PacksAreOfSites c → length c.packs ≤ 4 → Shows c taken (run_in c lines) (state_of self.old) → IfErr result (λ fault. fault ≡ WorldFault.NoMemory) }
     {

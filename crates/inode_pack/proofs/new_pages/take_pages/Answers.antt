@@ -6,7 +6,8 @@ use Rattle.locus_ids.specs.Sizes.{content_pages_max, slot_pages, pack_pages}
 use Rattle.file_content.specs.Pages.{pages_of}
 use Rattle.pack_layout.specs.Layout.{none, numbers_of}
 use Rattle.inode_pack.specs.Pack.{number_in}
-use Rattle.inode_pack.specs.Committing.{is_changed, Takes}
+use Rattle.new_contents.specs.Changed.{is_changed}
+use Rattle.inode_pack.specs.Committing.{Takes}
 use Rattle.inode_pack.proofs.PageLists.{parts_long, parts_none}
 use Rattle.inode_pack.proofs.Taking.{TakesSoFar, takes_start, more_stays, more_taken, takes_front, room, whole_more}
 use Rattle.inode_pack.proofs.new_pages.take_pages.Goals as goal

@@ -3,7 +3,7 @@ use Rattle.std.specs.Prelude.{◌==◌}
 use Rattle.locus_ids.specs.Sizes.{content_pages_max, slot_pages, pack_pages}
 use Rattle.pack_layout.specs.Layout.{none, numbers_of}
 use Rattle.inode_pack.specs.Pack.{number_in}
-use Rattle.inode_pack.specs.Committing.{is_changed}
+use Rattle.new_contents.specs.Changed.{is_changed}
 use Rattle.inode_pack.specs.PagePieces.{AreWhole}
 use Rattle.inode_pack.proofs.Taking.{TakesSoFar}
 use Rattle.inode_pack.proofs.new_pages.take_pages.Given as goal

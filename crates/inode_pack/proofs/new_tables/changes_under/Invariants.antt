@@ -1,6 +1,6 @@
 use Rattle.std.proofs.Common.{◌≡◌, ◌+◌, ◌*◌, ◌≤◌, ◌<◌, false, ℕ}
 use Rattle.locus_ids.specs.Sizes.{slot_pages, table_pages}
-use Rattle.inode_pack.specs.Committing.{is_changed}
+use Rattle.new_contents.specs.Changed.{is_changed}
 use Rattle.inode_pack.proofs.new_tables.changes_under.Given as goal
 
 -- none of the row so far is changed that stands under the table

@@ -3,7 +3,7 @@ use Rattle.std.specs.Prelude.{not, slice_index_or}
 use Rattle.std.proofs.lemmas.Bool.{cases_lt}
 use Rattle.std.proofs.lemmas.List.{get_or_default}
 use Rattle.locus_ids.specs.Sizes.{pack_tables}
-use Rattle.inode_pack.proofs.FreeCounts.{none_passes}
+use Rattle.new_contents.proofs.Counting.{none_passes}
 use Rattle.inode_pack.proofs.new_tables.next_free.Goals as goal
 
 pub returns-clause-low : goal.returns-clause-low

@@ -4,7 +4,7 @@ use Rattle.std.proofs.lemmas.Bool.{cases_eq, eq-eqb, ne_eqb, lt-ltb}
 use Rattle.std.proofs.lemmas.List.{get_or_default}
 use Rattle.locus_ids.specs.Sizes.{content_tables_max, pack_tables}
 use Rattle.file_content.specs.Pages.{tables_of}
-use Rattle.shadow_pages.proofs.Counts.{count_below_le, count_below_same}
+use Rattle.new_contents.proofs.of_shadow_pages.Counts.{count_below_le, count_below_same}
 use Rattle.pack_slots.specs.declared.inode_copy.InodeCopy.{InodeCopy}
 use Rattle.pack_slots.specs.Copies.{named_tables, times}
 use Rattle.inode_pack.specs.Committing.{is_free_table, table_in}

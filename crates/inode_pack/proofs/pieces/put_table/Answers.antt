@@ -8,7 +8,7 @@ use Rattle.gate_switch.specs.Switch.{TornIn, written}
 use Rattle.gate_switch.proofs.Pieces.{torn_alone}
 use Rattle.pack_slots.specs.Copies.{numbers_in}
 use Rattle.inode_pack.specs.PagePieces.{table_piece}
-use Rattle.inode_pack.proofs.Streaming.{alone_within}
+use Rattle.new_contents.proofs.Whole.{alone_within}
 use Rattle.inode_pack.proofs.pieces.put_table.Goals as goal
 
 -- the numbers of a slice are those under the table

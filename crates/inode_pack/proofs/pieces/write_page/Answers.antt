@@ -5,7 +5,7 @@ use Rattle.disk_model.specs.Moments.{TellsMany}
 use Rattle.disk_model.proofs.Moments.{on_ok}
 use Rattle.gate_switch.specs.Switch.{AreWithin, TornIn, written}
 use Rattle.pack_slots.specs.Copies.{numbers_in}
-use Rattle.inode_pack.specs.PagePieces.{piece_at}
+use Rattle.new_contents.specs.Changed.{piece_at}
 use Rattle.inode_pack.proofs.pieces.write_page.Goals as goal
 
 -- the page's place

@@ -10,7 +10,8 @@ use Rattle.disk_model.proofs.Moments.{goes_start, goes_more}
 use Rattle.gate_switch.proofs.Pieces.{torn_stays, torn_joins, torn_written, written-append}
 use Rattle.disk_model.proofs.Tells.{tells_none, tells_join}
 use Rattle.pack_slots.specs.Copies.{numbers_in}
-use Rattle.inode_pack.specs.PagePieces.{piece_at, page_pieces}
+use Rattle.new_contents.specs.Changed.{piece_at}
+use Rattle.inode_pack.specs.PagePieces.{page_pieces}
 use Rattle.inode_pack.proofs.Streaming.{torn_one, within_one, pieces_more, pieces_before, pieces_behind, longer, tells_short}
 use Rattle.inode_pack.proofs.pieces.write_pages.Goals as goal
 

@@ -7,7 +7,7 @@ use Rattle.disk_model.specs.Images.{Torn}
 use Rattle.gate_switch.specs.Switch.{TornIn}
 use Rattle.gate_switch.proofs.Pieces.{torn_alone}
 use Rattle.inode_pack.specs.PagePieces.{body_piece}
-use Rattle.inode_pack.proofs.Streaming.{alone_within}
+use Rattle.new_contents.proofs.Whole.{alone_within}
 use Rattle.inode_pack.proofs.pieces.write_slot.Goals as goal
 
 pub write_at-requires : goal.write_at-requires

@@ -2,13 +2,14 @@ use Rattle.std.proofs.Common.{◌≡◌, ◌≤◌, ◌+◌, false, ℕ, List, l
 use Rattle.std.specs.Prelude.{Option, slice_index_or}
 use Rattle.locus_ids.specs.Sizes.{content_pages_max, slot_pages, content_tables_max, pack_pages, pack_tables}
 use Rattle.file_content.specs.Pages.{pages_of, tables_of}
-use Rattle.shadow_pages.specs.Working.{count_below}
+use Rattle.new_contents.specs.of_shadow_pages.Working.{count_below}
 use Rattle.pack_layout.specs.declared.slot.Slot.{Slot}
 use Rattle.pack_slots.specs.declared.inode_copy.InodeCopy.{InodeCopy}
 use Rattle.pack_slots.specs.Copies.{copy_of, named_pages}
 use Rattle.pack_slots.specs.Losing.{AreSlots}
 use Rattle.pack_slots.proofs.Finding.{own_slots}
-use Rattle.inode_pack.specs.Committing.{is_free, is_free_table, is_table_over, table_in, Takes, Makes, needed}
+use Rattle.new_contents.specs.Changed.{needed}
+use Rattle.inode_pack.specs.Committing.{is_free, is_free_table, is_table_over, table_in, Takes, Makes}
 use Rattle.inode_pack.specs.Pack.{PackState}
 use Rattle.inode_pack.proofs.Setup.{copy_is}
 use Rattle.inode_pack.proofs.PageLists.{parts_long}

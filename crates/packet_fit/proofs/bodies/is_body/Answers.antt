@@ -72,3 +72,15 @@ returns-in-Promise c = rw c.in-Promise.is c.is_promise.ensures
 
 pub returns-in-ReportOk : goal.returns-in-ReportOk
 returns-in-ReportOk c = rw c.in-ReportOk.is c.is_report_ok.ensures
+
+pub returns-in-ReadHeld : goal.returns-in-ReadHeld
+returns-in-ReadHeld c = rw c.in-ReadHeld.is c.is_read_held.ensures
+
+pub returns-in-AsHeld : goal.returns-in-AsHeld
+returns-in-AsHeld c = rw c.in-AsHeld.is c.is_as_held.ensures
+
+pub returns-in-Want : goal.returns-in-Want
+returns-in-Want c = rw c.in-Want.is c.is_want.ensures
+
+pub returns-in-Delta : goal.returns-in-Delta
+returns-in-Delta c = rw c.in-Delta.is c.is_delta.ensures

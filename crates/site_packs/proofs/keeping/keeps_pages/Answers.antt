@@ -3,7 +3,7 @@ use Rattle.std.specs.Prelude.{Ok}
 use Rattle.std.proofs.lemmas.Bool.{cases_lt}
 use Rattle.disk_model.proofs.ReadRuns.{reads_join, reads_ok, goes_same}
 use Rattle.pack_slots.specs.of_inode_switch.View.{view}
-use Rattle.inode_pack.specs.Marked.{is_marked}
+use Rattle.inode_pack.specs.of_new_contents.Marked.{is_marked}
 use Rattle.inode_pack.specs.Committing.{content_of}
 use Rattle.pack_layout.specs.of_stored_versions.Changes.{IsKept}
 use Rattle.site_packs.proofs.keeping.keeps_pages.Goals as goal

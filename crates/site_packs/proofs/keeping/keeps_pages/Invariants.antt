@@ -5,7 +5,7 @@ use Rattle.disk_model.specs.Images.{Same}
 use Rattle.disk_model.specs.declared.disk.DiskFault.{DiskFault}
 use Rattle.pack_slots.specs.of_inode_switch.View.{view}
 use Rattle.inode_pack.specs.Pack.{Stands}
-use Rattle.inode_pack.specs.Marked.{is_marked}
+use Rattle.inode_pack.specs.of_new_contents.Marked.{is_marked}
 use Rattle.inode_pack.specs.Committing.{content_of}
 use Rattle.pack_layout.specs.of_stored_versions.Changes.{IsKept}
 use Rattle.site_packs.proofs.keeping.keeps_pages.Given as goal

@@ -1,5 +1,5 @@
 use Rattle.std.proofs.Common.{◌∙◌}
-use Rattle.inode_pack.specs.Marked.{is_marked}
+use Rattle.inode_pack.specs.of_new_contents.Marked.{is_marked}
 use Rattle.site_packs.proofs.WrittenTables.{any_next}
 use Rattle.site_packs.proofs.tables.is_one_marked.Goals as goal
 

@@ -1,15 +1,15 @@
 use Rattle.std.proofs.Common.{refl, ap, subst, sym, ◌≡◌, Err}
 use Rattle.std.specs.Prelude.{OnOk}
 use Rattle.locus_ids.specs.declared.ids.Serial.{Serial}
-use Rattle.role_steps.specs.Operations.{on_op}
+use Rattle.role_steps.specs.Operations.{on_op, on_read_held}
 use Rattle.role_steps.specs.Storage.{on_close, instance_of}
 use Rattle.role_steps.specs.Views.{Outcome, Store}
-use Rattle.run_laws.proofs.Telling.{on_closed_ok_talks, on_look_ss_talks, on_open_ss_talks, on_pull_talks}
+use Rattle.run_laws.proofs.Telling.{on_closed_ok_talks, on_look_ss_talks, on_open_ss_talks, on_pull_talks, on_want_talks}
 use Rattle.storage_site.specs.of_store_instances.Stores.{Gives, store_of}
 use Rattle.site_parts.specs.Roles.{mending_by}
 use Rattle.site_parts.specs.Writing.{EventWrites}
 use Rattle.site_parts.proofs.Cuts.{untouched, written_as}
-use Rattle.site_parts.proofs.StoreParts.{given_as, others_quiet, store_stays}
+use Rattle.site_parts.proofs.StoreParts.{given_as, held_unwritten, others_quiet, store_stays}
 use Rattle.role_steps.specs.OperationEffects.{Mending}
 use Rattle.run_laws.specs.of_the_run.Steps.{from_user, group_of}
 use Rattle.storage_site.specs.Fitting.{CanCloseAt, CanOperateAt}
@@ -43,21 +43,41 @@ returns-in-ClosedOk-clause-gives g c = rw c.in-ClosedOk.is c.take_closed_ok.ensu
 pub returns-in-ClosedOk-clause-disk : goal.returns-in-ClosedOk-clause-disk
 returns-in-ClosedOk-clause-disk g c = rw c.in-ClosedOk.is (written_as _ _ _ _ _ _ _ _ (on_closed_ok_talks c.args.frame.now c.in-ClosedOk.inst (store_of c.args.store.now c.args.packs.now (g.D.Disk.moment c.args.disk.now).seen)).1 c.take_closed_ok.ensures.disk)
 
+pub returns-in-Want-clause-gives : goal.returns-in-Want-clause-gives
+returns-in-Want-clause-gives g c = rw c.in-Want.is c.take_want.ensures.gives
+
+pub returns-in-Want-clause-disk : goal.returns-in-Want-clause-disk
+returns-in-Want-clause-disk g c = rw c.in-Want.is (written_as _ _ _ _ _ _ _ _ (on_want_talks c.args.frame.now c.args.from c.in-Want.file c.in-Want.wanted c.in-Want.own (store_of c.args.store.now c.args.packs.now (g.D.Disk.moment c.args.disk.now).seen)).1 c.take_want.ensures.disk)
+
+pub returns-in-Want-clause-unfit : goal.returns-in-Want-clause-unfit
+returns-in-Want-clause-unfit g c so can = c.take_want.ensures.fit so
+
+pub returns-in-ReadHeld-clause-gives : goal.returns-in-ReadHeld-clause-gives
+returns-in-ReadHeld-clause-gives g c =
+    rw c.in-ReadHeld.is (subst (λ (i : Serial). OnOk c.take_read_held.result (Gives (on_read_held c.args.frame.now i c.in-ReadHeld.number c.in-ReadHeld.at c.in-ReadHeld.len (store_of c.args.store.now c.args.packs.now (g.D.Disk.moment c.args.disk.now).seen)) (store_of c.take_read_held.new.store c.args.packs.now (g.D.Disk.moment c.take_read_held.new._disk).seen) c.args.out.now c.take_read_held.new.out)) c.named.ensures c.take_read_held.ensures.gives)
+
+pub returns-in-ReadHeld-clause-disk : goal.returns-in-ReadHeld-clause-disk
+returns-in-ReadHeld-clause-disk g c =
+    rw c.in-ReadHeld.is (written_as _ _ _ _ _ _ _ _ (held_unwritten c.args.frame.now (from_user c.args.from c.in-ReadHeld.serial) c.in-ReadHeld.number c.in-ReadHeld.at c.in-ReadHeld.len (store_of c.args.store.now c.args.packs.now (g.D.Disk.moment c.args.disk.now).seen)) c.take_read_held.ensures.disk)
+
+pub returns-in-ReadHeld-clause-unfit : goal.returns-in-ReadHeld-clause-unfit
+returns-in-ReadHeld-clause-unfit g c so can = c.take_read_held.ensures.fit so
+
 pub returns-in-Close-clause-gives : goal.returns-in-Close-clause-gives
-returns-in-Close-clause-gives g c = rw c.in-Close.is (subst (λ (i : Serial). OnOk c.take_close.result (Gives (on_close c.args.frame.now i (store_of c.args.store.now c.args.packs.now (g.D.Disk.moment c.args.disk.now).seen)) (store_of c.take_close.new.store c.take_close.new.packs (g.D.Disk.moment c.take_close.new.disk).seen) c.args.out.now c.take_close.new.out)) c.named.ensures c.take_close.ensures.gives)
+returns-in-Close-clause-gives g c = rw c.in-Close.is (subst (λ (i : Serial). OnOk c.take_close.result (Gives (on_close c.args.frame.now i (store_of c.args.store.now c.args.packs.now (g.D.Disk.moment c.args.disk.now).seen)) (store_of c.take_close.new.store c.take_close.new.packs (g.D.Disk.moment c.take_close.new.disk).seen) c.args.out.now c.take_close.new.out)) c.named-in-Close.ensures c.take_close.ensures.gives)
 
 pub returns-in-Close-clause-disk : goal.returns-in-Close-clause-disk
-returns-in-Close-clause-disk g c = rw c.in-Close.is (subst (λ (i : Serial). EventWrites {T = Unit {0}} (on_close c.args.frame.now i (store_of c.args.store.now c.args.packs.now (g.D.Disk.moment c.args.disk.now).seen)).written c.args.packs.now (g.D.Disk.moment c.args.disk.now) (g.D.Disk.moment c.take_close.new.disk) c.args.out.now c.take_close.new.out c.take_close.result) c.named.ensures c.take_close.ensures.disk)
+returns-in-Close-clause-disk g c = rw c.in-Close.is (subst (λ (i : Serial). EventWrites {T = Unit {0}} (on_close c.args.frame.now i (store_of c.args.store.now c.args.packs.now (g.D.Disk.moment c.args.disk.now).seen)).written c.args.packs.now (g.D.Disk.moment c.args.disk.now) (g.D.Disk.moment c.take_close.new.disk) c.args.out.now c.take_close.new.out c.take_close.result) c.named-in-Close.ensures c.take_close.ensures.disk)
 
 pub returns-in_default-clause-gives : goal.returns-in_default-clause-gives
 returns-in_default-clause-gives g c =
     let s : Store = store_of c.args.store.now c.args.packs.now (g.D.Disk.moment c.args.disk.now).seen in
-    store_stays _ s c.args.out.now (others_quiet c.args.frame.now (mending_by c.args.tables.now c.args.users.now s) c.args.from c.args.body s c.in_default.not-OpenSs c.in_default.not-Op c.in_default.not-Close c.in_default.not-ClosedOk c.in_default.not-LookSs c.in_default.not-Pull)
+    store_stays _ s c.args.out.now (others_quiet c.args.frame.now (mending_by c.args.tables.now c.args.users.now s) c.args.from c.args.body s c.in_default.not-OpenSs c.in_default.not-Op c.in_default.not-Close c.in_default.not-ClosedOk c.in_default.not-LookSs c.in_default.not-Pull c.in_default.not-ReadHeld c.in_default.not-Want)
 
 pub returns-in_default-clause-disk : goal.returns-in_default-clause-disk
 returns-in_default-clause-disk g c =
     let s : Store = store_of c.args.store.now c.args.packs.now (g.D.Disk.moment c.args.disk.now).seen in
-    untouched _ c.args.packs.now (g.D.Disk.moment c.args.disk.now) c.args.out.now c.args.out.now tt (ap (λ (o : Outcome Store). o.written) (others_quiet c.args.frame.now (mending_by c.args.tables.now c.args.users.now s) c.args.from c.args.body s c.in_default.not-OpenSs c.in_default.not-Op c.in_default.not-Close c.in_default.not-ClosedOk c.in_default.not-LookSs c.in_default.not-Pull)) c.requires.settled (g.met.D.Disk.only_now c.args.disk.now)
+    untouched _ c.args.packs.now (g.D.Disk.moment c.args.disk.now) c.args.out.now c.args.out.now tt (ap (λ (o : Outcome Store). o.written) (others_quiet c.args.frame.now (mending_by c.args.tables.now c.args.users.now s) c.args.from c.args.body s c.in_default.not-OpenSs c.in_default.not-Op c.in_default.not-Close c.in_default.not-ClosedOk c.in_default.not-LookSs c.in_default.not-Pull c.in_default.not-ReadHeld c.in_default.not-Want)) c.requires.settled (g.met.D.Disk.only_now c.args.disk.now)
 
 pub returns-in_ok-work-in-Op-clause-gives : goal.returns-in_ok-work-in-Op-clause-gives
 returns-in_ok-work-in-Op-clause-gives g c =
@@ -84,7 +104,7 @@ pub returns-in-ClosedOk-clause-unfit : goal.returns-in-ClosedOk-clause-unfit
 returns-in-ClosedOk-clause-unfit g c so can = c.take_closed_ok.ensures.fit so
 
 pub returns-in-Close-clause-unfit : goal.returns-in-Close-clause-unfit
-returns-in-Close-clause-unfit g c = rw c.in-Close.is (subst (λ (i : Serial). c.take_close.result ≡ Err Unfit → CanCloseAt c.args.frame.now (groups_of c.args.packs.now) i (store_of c.args.store.now c.args.packs.now (g.D.Disk.moment c.args.disk.now).seen) → ⊥) c.named.ensures c.take_close.ensures.unfit)
+returns-in-Close-clause-unfit g c = rw c.in-Close.is (subst (λ (i : Serial). c.take_close.result ≡ Err Unfit → CanCloseAt c.args.frame.now (groups_of c.args.packs.now) i (store_of c.args.store.now c.args.packs.now (g.D.Disk.moment c.args.disk.now).seen) → ⊥) c.named-in-Close.ensures c.take_close.ensures.unfit)
 
 pub returns-in_err-work-in-Op-clause-unfit : goal.returns-in_err-work-in-Op-clause-unfit
 returns-in_err-work-in-Op-clause-unfit g c =

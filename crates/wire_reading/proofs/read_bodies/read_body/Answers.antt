@@ -97,3 +97,11 @@ returns-in-23 c = rw c.in-23.is c.read_page.ensures
 pub returns-in-24 : goal.returns-in-24
 unfolding body_kinds
 returns-in-24 c = rw c.in-24.is c.read_have.ensures
+
+pub returns-in-25 : goal.returns-in-25
+unfolding body_kinds
+returns-in-25 c = rw c.in-25.is c.read_want.ensures
+
+pub returns-in-26 : goal.returns-in-26
+unfolding body_kinds
+returns-in-26 c = rw c.in-26.is c.read_delta.ensures

@@ -106,3 +106,18 @@ returns-in-Page c = rw c.in-Page.is c.put_page.ensures
 
 pub returns-in-Have : goal.returns-in-Have
 returns-in-Have c = rw c.in-Have.is c.put_have.ensures
+
+pub returns-in-ReadHeld : goal.returns-in-ReadHeld
+returns-in-ReadHeld c = rw c.in-ReadHeld.is c.put_read_held.ensures
+
+pub returns-in-AsHeld : goal.returns-in-AsHeld
+returns-in-AsHeld c = rw c.in-AsHeld.is c.put_held_done.ensures
+
+pub returns-in-Want : goal.returns-in-Want
+returns-in-Want c = rw c.in-Want.is c.put_want.ensures
+
+pub put_delta-requires : goal.put_delta-requires
+put_delta-requires c = rw c.in-Delta.is at c.requires
+
+pub returns-in-Delta : goal.returns-in-Delta
+returns-in-Delta c = rw c.in-Delta.is c.put_delta.ensures

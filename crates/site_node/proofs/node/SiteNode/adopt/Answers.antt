@@ -26,9 +26,8 @@ returns-clause-step g c = on_ok c.adopt_pull.result (Moves (adopted_now c.choose
     c.adopt_pull.ensures.step
 
 pub returns-clause-disk : goal.returns-clause-disk
-returns-clause-disk g c = adopted_written {T = Unit {0}} c.in-Some.epoch c.in-Some-choose.pull c.args.self.now c.enter.new.frame c.choose.new.self (g.D.Disk.moment c.args.disk.now) (g.D.Disk.moment c.adopt_pull.new.disk) c.args.out.now c.adopt_pull.new.out c.adopt_pull.result c.requires c.in-Some.ensures (entered_frame c.args.self.now c.enter.new.frame c.boot.result c.in-Some.epoch c.enter.ensures c.boot.ensures) c.in-Some-choose.ensures.chosen c.choose.ensures.left
-    (c.adopt_pull.ensures.disk (chosen_complete (view_of c.args.self.now (g.D.Disk.moment c.args.disk.now).seen) c.in-Some-choose.pull (c.in-Some-choose.ensures.chosen (g.D.Disk.moment c.args.disk.now).seen c.requires.shown)))
+returns-clause-disk g c = adopted_written {T = Unit {0}} c.in-Some.epoch c.in-Some-choose.pull c.args.self.now c.enter.new.frame c.choose.new.self (g.D.Disk.moment c.args.disk.now) (g.D.Disk.moment c.adopt_pull.new.disk) c.args.out.now c.adopt_pull.new.out c.adopt_pull.result c.requires c.in-Some.ensures (entered_frame c.args.self.now c.enter.new.frame c.boot.result c.in-Some.epoch c.enter.ensures c.boot.ensures) c.in-Some-choose.ensures.chosen c.choose.ensures.left c.adopt_pull.ensures.disk
 
 pub returns-clause-unfit : goal.returns-clause-unfit
-returns-clause-unfit g c so can = c.adopt_pull.ensures.unfit so
+returns-clause-unfit g c so can = c.adopt_pull.ensures.unfit so c.in-Some-choose.ensures.sized (chosen_complete (view_of c.args.self.now (g.D.Disk.moment c.args.disk.now).seen) c.in-Some-choose.pull (c.in-Some-choose.ensures.chosen (g.D.Disk.moment c.args.disk.now).seen c.requires.shown))
     (chosen_keeps c.in-Some-choose.pull c.args.self.now c.enter.new.frame c.choose.new.self (g.D.Disk.moment c.args.disk.now).seen (c.in-Some-choose.ensures.chosen (g.D.Disk.moment c.args.disk.now).seen c.requires.shown) (c.choose.ensures.left (g.D.Disk.moment c.args.disk.now).seen c.requires.shown) can)

@@ -20,5 +20,8 @@ returns-in-Adopt-clause-chosen c = λ image h. (taken_now c.args.self.now c.loop
 pub returns-in-Adopt-clause-left : goal.returns-in-Adopt-clause-left
 returns-in-Adopt-clause-left c = λ image h. left_so c.args.self.now c.loop-place.self c.take.new.self c.loop-place.invariant.rest ∙ ap (λ ps. record c.args.self.now { pulls = ps }) (taken_now c.args.self.now c.loop-place.self c.loop-place.place image c.pull_at-seen.result c.take.new.self c.take.result (choosing c.args.self.now c.loop-place.self c.loop-place.place image c.loop-place.invariant.rest (c.loop-place.invariant.choice image h)) (c.pull_at-seen.ensures.shown image (shown_now c.args.self.now c.loop-place.self image c.loop-place.invariant.rest h)) c.in-Adopt.is c.take.ensures.taken c.take.ensures.left).1
 
+pub returns-in-Adopt-clause-sized : goal.returns-in-Adopt-clause-sized
+returns-in-Adopt-clause-sized c = c.take.ensures.sized
+
 pub loop-place-smaller : goal.loop-place-smaller
 loop-place-smaller c = fewer_left c.loop-place.self.pulls c.drop_pull.new.self c.loop-place.place c.pull_at-seen.result.file c.pull_at-seen.ensures.rising c.pull_at-seen.ensures.file c.drop_pull.ensures (omega (arith, c.loop-place-test.true, c.len.ensures))

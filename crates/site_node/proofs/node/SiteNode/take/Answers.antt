@@ -1,9 +1,11 @@
 use Rattle.std.proofs.Common.{◌≡◌, subst, sym}
+use Rattle.std.specs.Prelude.{Err, OnOk}
 use Rattle.disk_model.proofs.Moments.{on_ok}
 use Rattle.site_parts.specs.Faults.{fault_of_epoch}
 use Rattle.site_node.specs.Taking.{IsSpent, in_epoch_takes, taken}
 use Rattle.site_node.specs.Views.{Moves, view_of}
-use Rattle.site_parts.specs.declared.fault.NodeFault.TheVariants.{NoMemory, NoNumber}
+use Rattle.site_node.specs.Writing.{EventWrites}
+use Rattle.site_parts.specs.declared.fault.NodeFault.TheVariants.{NoMemory, NoNumber, Unfit}
 use Rattle.site_parts.proofs.Cuts.{epoch_off, failed_still, untouched, written_as}
 use Rattle.site_node.proofs.Moving.{moves_work}
 use Rattle.site_node.proofs.Takes.{inside_written, taken_as, taken_inside}
@@ -41,10 +43,11 @@ returns-in-Joined-clause-step g c = taken_as c.args.self.now.frame.config c.args
 pub returns-in_default-clause-step : goal.returns-in_default-clause-step
 returns-in_default-clause-step g c = on_ok c.take_in_epoch.result (Moves (in_epoch_takes c.args.self.now.frame.config c.args.self.now.frame.me c.args.packet.from c.args.packet.body) c.args.self.now (g.D.Disk.moment c.args.disk.now) c.take_in_epoch.new.self (g.D.Disk.moment c.take_in_epoch.new.disk) c.args.out.now c.take_in_epoch.new.out) (Moves (taken c.args.self.now.frame.config c.args.self.now.frame.me c.args.links.now c.args.packet) c.args.self.now (g.D.Disk.moment c.args.disk.now) c.take_in_epoch.new.self (g.D.Disk.moment c.take_in_epoch.new.disk) c.args.out.now c.take_in_epoch.new.out)
     (λ w. taken_inside c.args.self.now.frame.config c.args.self.now.frame.me c.args.links.now c.args.packet c.args.self.now c.take_in_epoch.new.self (g.D.Disk.moment c.args.disk.now) (g.D.Disk.moment c.take_in_epoch.new.disk) c.args.out.now c.take_in_epoch.new.out c.in_default.not-Poll c.in_default.not-Promise c.in_default.not-Refuse c.in_default.not-Install c.in_default.not-Joined w)
-    c.take_in_epoch.ensures.step
+    (subst (λ b. OnOk c.take_in_epoch.result (Moves (in_epoch_takes c.args.self.now.frame.config c.args.self.now.frame.me c.args.packet.from b) c.args.self.now (g.D.Disk.moment c.args.disk.now) c.take_in_epoch.new.self (g.D.Disk.moment c.take_in_epoch.new.disk) c.args.out.now c.take_in_epoch.new.out)) c.into_body.ensures c.take_in_epoch.ensures.step)
 
 pub returns-in_default-clause-disk : goal.returns-in_default-clause-disk
-returns-in_default-clause-disk g c = written_as _ _ _ _ _ _ _ _ (inside_written c.args.self.now.frame.config c.args.self.now.frame.me c.args.links.now c.args.packet (view_of c.args.self.now (g.D.Disk.moment c.args.disk.now).seen) c.in_default.not-Poll c.in_default.not-Promise c.in_default.not-Refuse c.in_default.not-Install c.in_default.not-Joined) c.take_in_epoch.ensures.disk
+returns-in_default-clause-disk g c = written_as _ _ _ _ _ _ _ _ (inside_written c.args.self.now.frame.config c.args.self.now.frame.me c.args.links.now c.args.packet (view_of c.args.self.now (g.D.Disk.moment c.args.disk.now).seen) c.in_default.not-Poll c.in_default.not-Promise c.in_default.not-Refuse c.in_default.not-Install c.in_default.not-Joined)
+    (subst (λ b. EventWrites (in_epoch_takes c.args.self.now.frame.config c.args.self.now.frame.me c.args.packet.from b (view_of c.args.self.now (g.D.Disk.moment c.args.disk.now).seen)).written c.args.self.now.packs (g.D.Disk.moment c.args.disk.now) (g.D.Disk.moment c.take_in_epoch.new.disk) c.args.out.now c.take_in_epoch.new.out c.take_in_epoch.result) c.into_body.ensures c.take_in_epoch.ensures.disk)
 
 pub returns-in_ok-take_poll-in-Poll-clause-disk : goal.returns-in_ok-take_poll-in-Poll-clause-disk
 returns-in_ok-take_poll-in-Poll-clause-disk g c = untouched _ c.args.self.now.packs (g.D.Disk.moment c.args.disk.now) c.args.out.now c.take_poll.new.out tt (forms_none c.args.self.now.frame.config c.args.self.now.frame.me c.args.links.now c.args.packet body.Poll (view_of c.args.self.now (g.D.Disk.moment c.args.disk.now).seen) c.in-Poll.is tt) c.requires.settled (g.met.D.Disk.only_now c.args.disk.now)
@@ -83,7 +86,7 @@ pub returns-in_err-take_install-in-Install-clause-spent : goal.returns-in_err-ta
 returns-in_err-take_install-in-Install-clause-spent g c = if_err c.from_residual-in_err-take_install-in-Install.result NoMemory (λ f. f ≡ NoNumber → IsSpent c.args.packet.body) c.from_residual-in_err-take_install-in-Install.ensures.1 (λ h. absurd (memory_numbered h))
 
 pub returns-in_default-clause-unfit : goal.returns-in_default-clause-unfit
-returns-in_default-clause-unfit g c = c.take_in_epoch.ensures.unfit
+returns-in_default-clause-unfit g c = subst (λ b. c.take_in_epoch.result ≡ Err Unfit → CanTakeIn c.args.self.now.frame.config c.args.self.now.frame.me (groups_of c.args.self.now.packs) c.args.self.now.packs.site c.args.packet.from b (view_of c.args.self.now (g.D.Disk.moment c.args.disk.now).seen) c.args.self.now.epochs.epoch → ⊥) c.into_body.ensures c.take_in_epoch.ensures.unfit
 
 pub returns-in_err-take_poll-in-Poll-clause-unfit : goal.returns-in_err-take_poll-in-Poll-clause-unfit
 returns-in_err-take_poll-in-Poll-clause-unfit g c so can = memory_fit c.from_residual.result c.from_residual.ensures.1 so

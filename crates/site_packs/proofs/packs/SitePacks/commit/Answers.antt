@@ -6,9 +6,10 @@ use Rattle.disk_model.specs.Moments.{LeavesOnly, TellsMany}
 use Rattle.disk_model.proofs.ReadRuns.{leaves_same, leaves_joins, reads_alone, reads_then, reads_exact}
 use Rattle.file_content.specs.Pages.{pages_of}
 use Rattle.inode_pack.specs.declared.pack_fault.PackFault.{PackFault}
-use Rattle.inode_pack.specs.Committing.{needed, commit_answer}
-use Rattle.inode_pack.specs.Marked.{marked}
-use Rattle.inode_pack.proofs.Marked.{needed_marked}
+use Rattle.inode_pack.specs.of_new_contents.Changed.{needed}
+use Rattle.inode_pack.specs.Committing.{commit_answer}
+use Rattle.inode_pack.specs.of_new_contents.Marked.{marked}
+use Rattle.inode_pack.proofs.of_new_contents.Marked.{needed_marked}
 use Rattle.role_steps.specs.Tables.{with_row}
 use Rattle.role_steps.specs.Storage.{copy_key}
 use Rattle.site_packs.specs.Copies.{copies_on}
@@ -41,7 +42,7 @@ store-requires-clause-fills g c =
     let are = subst (λ (q : PacksState). ArePacks 0 0 q.site q.packs) c.self.view_is c.self.invariant in
     let admitted = c.in-Ok.ensures.admitted in
     let plan = admitted.plan in
-    subst (λ (l : List ℕ). FillsAt (pack_in c.args.file.group p.packs) c.in-Ok.admitted.plan.ino c.args.content.now c.in-Ok.admitted.marks l) (sym c.admit.ensures.seen)
+    subst (λ (l : List ℕ). FillsAt (pack_in c.args.file.group p.packs) c.in-Ok.admitted.plan.ino c.args.content.now (marked c.args.content.now c.in-Ok.admitted.marks) l) (sym c.admit.ensures.seen)
     (fills_at p seen c.args.file c.in-Ok.admitted.plan.at c.in-Ok.admitted.plan.ino c.args.content.now c.in-Ok.admitted.marks are c.requires.stands.shown plan.inside plan.place plan.own plan.whole.low plan.whole.high admitted.keeps)
 
 pub store-requires-clause-room : goal.store-requires-clause-room

@@ -6,8 +6,9 @@ use Rattle.disk_model.proofs.Moments.{leaves_weaker}
 use Rattle.pack_slots.specs.of_inode_switch.View.{Replaced}
 use Rattle.inode_pack.specs.Pack.{PackState}
 use Rattle.pack_slots.specs.Copies.{copy_of, named_pages}
-use Rattle.inode_pack.specs.Marked.{marked}
-use Rattle.inode_pack.specs.Committing.{new_version, needed, blocks_over, commit_calls, commit_answer, MayBeLeft as MayBeLeftIn}
+use Rattle.inode_pack.specs.of_new_contents.Marked.{marked}
+use Rattle.inode_pack.specs.of_new_contents.Changed.{needed}
+use Rattle.inode_pack.specs.Committing.{new_version, blocks_over, commit_calls, commit_answer, MayBeLeft as MayBeLeftIn}
 use Rattle.role_steps.specs.Tables.{with_row}
 use Rattle.role_steps.specs.Storage.{copy_key}
 use Rattle.site_packs.specs.Copies.{copies_on}
@@ -48,7 +49,7 @@ commit-requires-clause-rests g c =
     let inside : at < length c.self.inside.packs.items = subst (λ (l : List PackState). at < length l) (sym items) c.requires.inside in
     let place : slice_get p.packs at ≡ Some pack = subst (λ (l : List PackState). slice_get l at ≡ Some pack) items (slice_get_read c.self.inside.packs.items (length c.self.inside.packs.items) at pack refl inside c.index_mut.ensures.value) in
     let is : pack_in file.group p.packs ≡ Some pack = sym c.requires.place ∙ place in
-    let fills : Fills pack c.args.ino c.args.content.now c.args.marks.now old = subst (λ (o : Option PackState). FillsAt o c.args.ino c.args.content.now c.args.marks.now old) is c.requires.fills in
+    let fills : Fills pack c.args.ino c.args.content.now (marked c.args.content.now c.args.marks.now) old = subst (λ (o : Option PackState). FillsAt o c.args.ino c.args.content.now (marked c.args.content.now c.args.marks.now) old) is c.requires.fills in
     fills.rests
 
 pub returns-clause-any_moment : goal.returns-clause-any_moment
@@ -64,9 +65,9 @@ returns-clause-any_moment g c =
     let inside : at < length c.self.inside.packs.items = subst (λ (l : List PackState). at < length l) (sym items) c.requires.inside in
     let place : slice_get p.packs at ≡ Some pack = subst (λ (l : List PackState). slice_get l at ≡ Some pack) items (slice_get_read c.self.inside.packs.items (length c.self.inside.packs.items) at pack refl inside c.index_mut.ensures.value) in
     let is : pack_in file.group p.packs ≡ Some pack = sym c.requires.place ∙ place in
-    let fills : Fills pack file.ino c.args.content.now c.args.marks.now old = subst (λ (n : ℕ). Fills pack n c.args.content.now c.args.marks.now old) c.requires.own (subst (λ (o : Option PackState). FillsAt o c.args.ino c.args.content.now c.args.marks.now old) is c.requires.fills) in
+    let fills : Fills pack file.ino c.args.content.now (marked c.args.content.now c.args.marks.now) old = subst (λ (n : ℕ). Fills pack n c.args.content.now (marked c.args.content.now c.args.marks.now) old) c.requires.own (subst (λ (o : Option PackState). FillsAt o c.args.ino c.args.content.now (marked c.args.content.now c.args.marks.now) old) is c.requires.fills) in
     leaves_weaker M c.args.disk.now c.commit.new.disk (MayBeLeftIn pack file.ino (new_version pack.base file.ino c.args.version (marked c.args.content.now c.args.marks.now) old) old) (MayBeLeft p (copy_made file c.args.version c.args.content.now) old)
-    (left p old at file pack c.args.version c.args.content.now c.args.marks.now are c.requires.stands.shown place is c.requires.whole.low c.requires.whole.high (omega arith) c.requires.whole.version fills)
+    (left p old at file pack c.args.version c.args.content.now (marked c.args.content.now c.args.marks.now) are c.requires.stands.shown place is c.requires.whole.low c.requires.whole.high (omega arith) c.requires.whole.version fills)
     (subst (λ (n : ℕ). LeavesOnly (M c.args.disk.now) (M c.commit.new.disk) (MayBeLeftIn pack n (new_version pack.base n c.args.version (marked c.args.content.now c.args.marks.now) old) old)) c.requires.own c.commit.ensures.any_moment)
 
 pub returns-clause-copies : goal.returns-clause-copies
@@ -82,12 +83,12 @@ returns-clause-copies g c =
     let inside : at < length c.self.inside.packs.items = subst (λ (l : List PackState). at < length l) (sym items) c.requires.inside in
     let place : slice_get p.packs at ≡ Some pack = subst (λ (l : List PackState). slice_get l at ≡ Some pack) items (slice_get_read c.self.inside.packs.items (length c.self.inside.packs.items) at pack refl inside c.index_mut.ensures.value) in
     let is : pack_in file.group p.packs ≡ Some pack = sym c.requires.place ∙ place in
-    let fills : Fills pack file.ino c.args.content.now c.args.marks.now old = subst (λ (n : ℕ). Fills pack n c.args.content.now c.args.marks.now old) c.requires.own (subst (λ (o : Option PackState). FillsAt o c.args.ino c.args.content.now c.args.marks.now old) is c.requires.fills) in
+    let fills : Fills pack file.ino c.args.content.now (marked c.args.content.now c.args.marks.now) old = subst (λ (n : ℕ). Fills pack n c.args.content.now (marked c.args.content.now c.args.marks.now) old) c.requires.own (subst (λ (o : Option PackState). FillsAt o c.args.ino c.args.content.now (marked c.args.content.now c.args.marks.now) old) is c.requires.fills) in
     let new = (M c.commit.new.disk).seen in
     let torn = (c.commit.ensures.any_moment.each new (g.met.D.Disk.counts_now c.commit.new.disk (M c.args.disk.now).now new c.commit.ensures.any_moment.later (g.met.D.Disk.reads_an_image c.commit.new.disk))).outside in
     on_ok_map c.commit.result (Replaced pack.base file.ino (new_version pack.base file.ino c.args.version (marked c.args.content.now c.args.marks.now) old) old new)
     (copies_on (groups_of p) new ≡ with_row copy_key (copy_made file c.args.version c.args.content.now) (copies_on (groups_of p) old))
-    (replaced p old at file pack c.args.version c.args.content.now c.args.marks.now are c.requires.stands.shown place is c.requires.whole.low c.requires.whole.high (omega arith) c.requires.whole.version fills new torn)
+    (replaced p old at file pack c.args.version c.args.content.now (marked c.args.content.now c.args.marks.now) are c.requires.stands.shown place is c.requires.whole.low c.requires.whole.high (omega arith) c.requires.whole.version fills new torn)
     (subst (λ (n : ℕ). OnOk c.commit.result (Replaced pack.base n (new_version pack.base n c.args.version (marked c.args.content.now c.args.marks.now) old) old new)) c.requires.own c.commit.ensures.replaced)
 
 pub invariant_of-self : goal.invariant_of-self
@@ -172,8 +173,8 @@ returns-clause-only g c =
     let inside : at < length c.self.inside.packs.items = subst (λ (l : List PackState). at < length l) (sym items) c.requires.inside in
     let place : slice_get p.packs at ≡ Some pack = subst (λ (l : List PackState). slice_get l at ≡ Some pack) items (slice_get_read c.self.inside.packs.items (length c.self.inside.packs.items) at pack refl inside c.index_mut.ensures.value) in
     let is : pack_in file.group p.packs ≡ Some pack = sym c.requires.place ∙ place in
-    let fills : Fills pack file.ino c.args.content.now c.args.marks.now old = subst (λ (n : ℕ). Fills pack n c.args.content.now c.args.marks.now old) c.requires.own (subst (λ (o : Option PackState). FillsAt o c.args.ino c.args.content.now c.args.marks.now old) is c.requires.fills) in
-    only_of_store c.commit.result (needed (marked c.args.content.now c.args.marks.now)) (length (named_pages pack.copies)) (room p old file.group) c.requires.room (room_is p old at file pack c.args.version c.args.content.now c.args.marks.now are c.requires.stands.shown place is c.requires.whole.low c.requires.whole.high (omega arith) c.requires.whole.version fills) (λ pages free. (c.commit.ensures.no_space pages free).0)
+    let fills : Fills pack file.ino c.args.content.now (marked c.args.content.now c.args.marks.now) old = subst (λ (n : ℕ). Fills pack n c.args.content.now (marked c.args.content.now c.args.marks.now) old) c.requires.own (subst (λ (o : Option PackState). FillsAt o c.args.ino c.args.content.now (marked c.args.content.now c.args.marks.now) old) is c.requires.fills) in
+    only_of_store c.commit.result (needed (marked c.args.content.now c.args.marks.now)) (length (named_pages pack.copies)) (room p old file.group) c.requires.room (room_is p old at file pack c.args.version c.args.content.now (marked c.args.content.now c.args.marks.now) are c.requires.stands.shown place is c.requires.whole.low c.requires.whole.high (omega arith) c.requires.whole.version fills) (λ pages free. (c.commit.ensures.no_space pages free).0)
 
 pub returns-clause-tells : goal.returns-clause-tells
 returns-clause-tells g c =
@@ -188,14 +189,14 @@ returns-clause-tells g c =
     let inside : at < length c.self.inside.packs.items = subst (λ (l : List PackState). at < length l) (sym items) c.requires.inside in
     let place : slice_get p.packs at ≡ Some pack = subst (λ (l : List PackState). slice_get l at ≡ Some pack) items (slice_get_read c.self.inside.packs.items (length c.self.inside.packs.items) at pack refl inside c.index_mut.ensures.value) in
     let is : pack_in file.group p.packs ≡ Some pack = sym c.requires.place ∙ place in
-    let fills : Fills pack file.ino c.args.content.now c.args.marks.now old = subst (λ (n : ℕ). Fills pack n c.args.content.now c.args.marks.now old) c.requires.own (subst (λ (o : Option PackState). FillsAt o c.args.ino c.args.content.now c.args.marks.now old) is c.requires.fills) in
+    let fills : Fills pack file.ino c.args.content.now (marked c.args.content.now c.args.marks.now) old = subst (λ (n : ℕ). Fills pack n c.args.content.now (marked c.args.content.now c.args.marks.now) old) c.requires.own (subst (λ (o : Option PackState). FillsAt o c.args.ino c.args.content.now (marked c.args.content.now c.args.marks.now) old) is c.requires.fills) in
     let w = marked c.args.content.now c.args.marks.now in
     let blocks = blocks_over (copy_of pack.copies c.args.ino) w in
     let there : blocks ≡ blocks_at (pack_in file.group p.packs) c.args.ino w = sym (ap (λ (o : Option PackState). blocks_at o c.args.ino w) is) in
     let before = (M c.args.disk.now).passing in
     let after = (M c.commit.new.disk).passing in
     subst (λ (n : ℕ). TellsMany (store_calls n (copy_at p old file) c.commit.result) before after (commit_answer c.commit.result)) there
-    (subst (λ (n : ℕ). TellsMany n before after (commit_answer c.commit.result)) (calls_same blocks (copy_of pack.copies file.ino) (copy_at p old file) c.commit.result (had_copy p old at file pack c.args.version c.args.content.now c.args.marks.now are c.requires.stands.shown place is c.requires.whole.low c.requires.whole.high (omega arith) c.requires.whole.version fills))
+    (subst (λ (n : ℕ). TellsMany n before after (commit_answer c.commit.result)) (calls_same blocks (copy_of pack.copies file.ino) (copy_at p old file) c.commit.result (had_copy p old at file pack c.args.version c.args.content.now (marked c.args.content.now c.args.marks.now) are c.requires.stands.shown place is c.requires.whole.low c.requires.whole.high (omega arith) c.requires.whole.version fills))
     (subst (λ (n : ℕ). TellsMany (commit_calls blocks (copy_of pack.copies n) c.commit.result) before after (commit_answer c.commit.result)) c.requires.own c.commit.ensures.tells))
 
 pub returns-clause-none : goal.returns-clause-none
@@ -228,7 +229,7 @@ returns-clause-cut g c passed told =
     let inside : at < length c.self.inside.packs.items = subst (λ (l : List PackState). at < length l) (sym items) c.requires.inside in
     let place : slice_get p.packs at ≡ Some pack = subst (λ (l : List PackState). slice_get l at ≡ Some pack) items (slice_get_read c.self.inside.packs.items (length c.self.inside.packs.items) at pack refl inside c.index_mut.ensures.value) in
     let is : pack_in file.group p.packs ≡ Some pack = sym c.requires.place ∙ place in
-    let fills : Fills pack file.ino c.args.content.now c.args.marks.now old = subst (λ (n : ℕ). Fills pack n c.args.content.now c.args.marks.now old) c.requires.own (subst (λ (o : Option PackState). FillsAt o c.args.ino c.args.content.now c.args.marks.now old) is c.requires.fills) in
+    let fills : Fills pack file.ino c.args.content.now (marked c.args.content.now c.args.marks.now) old = subst (λ (n : ℕ). Fills pack n c.args.content.now (marked c.args.content.now c.args.marks.now) old) c.requires.own (subst (λ (o : Option PackState). FillsAt o c.args.ino c.args.content.now (marked c.args.content.now c.args.marks.now) old) is c.requires.fills) in
     let w = marked c.args.content.now c.args.marks.now in
     let how = (M c.args.disk.now).how in
     let new = (M c.commit.new.disk).left in
@@ -237,5 +238,5 @@ returns-clause-cut g c passed told =
     let made = copy_made file c.args.version c.args.content.now in
     subst (λ (n : ℕ). OnErr (commit_answer c.commit.result) (IsCut p made n how passed old new)) there
     (on_commit c.commit.result (IsCutCommit pack file.ino (new_version pack.base file.ino c.args.version w old) blocks how passed old new) (IsCut p made blocks how passed old new)
-    (cut_left p old at file pack c.args.version c.args.content.now c.args.marks.now are c.requires.stands.shown place is c.requires.whole.low c.requires.whole.high (omega arith) c.requires.whole.version fills blocks how passed new)
+    (cut_left p old at file pack c.args.version c.args.content.now (marked c.args.content.now c.args.marks.now) are c.requires.stands.shown place is c.requires.whole.low c.requires.whole.high (omega arith) c.requires.whole.version fills blocks how passed new)
     (subst (λ (n : ℕ). OnErr (commit_answer c.commit.result) (IsCutCommit pack n (new_version pack.base n c.args.version w old) blocks how passed old new)) c.requires.own (c.commit.ensures.cut passed told)))

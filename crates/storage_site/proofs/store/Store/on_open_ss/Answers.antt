@@ -4,6 +4,7 @@ use Rattle.role_steps.specs.Tables.{row}
 use Rattle.role_steps.specs.Views.{serial_key}
 use Rattle.role_steps.specs.Storage.{StoreRequest, instance_key}
 use Rattle.role_steps.specs.declared.instances.Instance.{Instance}
+use Rattle.store_instances.specs.Stores.{StoreState}
 use Rattle.storage_site.proofs.Opens.{again_opened, new_opened}
 use Rattle.storage_site.specs.Fitting.{CanOpen}
 use Rattle.store_instances.proofs.Fits.{memory_fit, unfit_at}
@@ -11,20 +12,20 @@ use Rattle.storage_site.proofs.store.Store.on_open_ss.Goals as goal
 
 pub returns-in_ok-open_again-in-Some-clause-gives : goal.returns-in_ok-open_again-in-Some-clause-gives
 returns-in_ok-open_again-in-Some-clause-gives g c =
-    let xs : List Instance = c.args.self.now in
+    let r : StoreState = c.args.self.now in
     let image : List ℕ = (g.D.Disk.moment c.args.disk.now).seen in
-    let there : row instance_key (serial_key c.args.asked.inst) xs ≡ Some c.in-Some.row.now = ap (λ (q : StoreRequest). row instance_key (serial_key q.inst) xs) (sym c.asked.view_is) ∙ (sym c.find.ensures ∙ ap (λ o. option_copied o) c.in-Some.is) in
-    again_opened c.args.frame.now c.args.asked xs xs c.args.packs.now image image c.args.out.now c.open_again.new.out c.in-Some.row.now there refl refl c.in_ok-open_again-in-Some.ensures.packets c.in_ok-open_again-in-Some.ensures.records
+    let there : row instance_key (serial_key c.args.asked.inst) r.instances ≡ Some c.in-Some.row.now = ap (λ (q : StoreRequest). row instance_key (serial_key q.inst) r.instances) (sym c.asked.view_is) ∙ (sym c.find.ensures ∙ ap (λ o. option_copied o) c.in-Some.is) in
+    again_opened c.args.frame.now c.args.asked r r c.args.packs.now image image c.args.out.now c.open_again.new.out c.in-Some.row.now there refl refl c.in_ok-open_again-in-Some.ensures.packets c.in_ok-open_again-in-Some.ensures.records
 
 pub open_new-requires-clause-absent : goal.open_new-requires-clause-absent
 open_new-requires-clause-absent g c =
-    ap (λ (q : StoreRequest). row instance_key (serial_key q.inst) c.args.self.now) (sym c.asked.view_is) ∙ (sym c.find.ensures ∙ ap (λ o. option_copied o) c.in-None.is)
+    ap (λ (q : StoreRequest). row instance_key (serial_key q.inst) c.args.self.now.instances) (sym c.asked.view_is) ∙ (sym c.find.ensures ∙ ap (λ o. option_copied o) c.in-None.is)
 
 pub returns-in_ok-open_new-in-None-clause-gives : goal.returns-in_ok-open_new-in-None-clause-gives
 returns-in_ok-open_new-in-None-clause-gives g c =
-    let xs : List Instance = c.args.self.now in
-    let absent : row instance_key (serial_key c.args.asked.inst) xs ≡ None = ap (λ (q : StoreRequest). row instance_key (serial_key q.inst) xs) (sym c.asked.view_is) ∙ (sym c.find.ensures ∙ ap (λ o. option_copied o) c.in-None.is) in
-    new_opened c.args.frame.now c.args.asked xs c.open_new.new.self c.args.packs.now (g.D.Disk.moment c.args.disk.now).seen (g.D.Disk.moment c.open_new.new.disk).seen c.args.out.now c.open_new.new.out absent c.in_ok-open_new-in-None.ensures.gives
+    let r : StoreState = c.args.self.now in
+    let absent : row instance_key (serial_key c.args.asked.inst) r.instances ≡ None = ap (λ (q : StoreRequest). row instance_key (serial_key q.inst) r.instances) (sym c.asked.view_is) ∙ (sym c.find.ensures ∙ ap (λ o. option_copied o) c.in-None.is) in
+    new_opened c.args.frame.now c.args.asked r c.open_new.new.self c.args.packs.now (g.D.Disk.moment c.args.disk.now).seen (g.D.Disk.moment c.open_new.new.disk).seen c.args.out.now c.open_new.new.out absent c.in_ok-open_new-in-None.ensures.gives
 
 pub returns-in_err-open_again-in-Some-clause-unfit : goal.returns-in_err-open_again-in-Some-clause-unfit
 returns-in_err-open_again-in-Some-clause-unfit g c so can = memory_fit c.from_residual.result c.from_residual.ensures.1 so

@@ -8,7 +8,7 @@ use Rattle.store_instances.proofs.Fits.{memory_fit, refused_read}
 use Rattle.storage_site.proofs.store.Store.open_copy.Goals as goal
 
 pub begin-requires-clause-absent : goal.begin-requires-clause-absent
-begin-requires-clause-absent g c = ap (λ (i : Instance). row instance_key (instance_key i) c.args.self.now) c.begun-new.ensures ∙ c.requires.absent
+begin-requires-clause-absent g c = ap (λ (i : Instance). row instance_key (instance_key i) c.args.self.now.instances) c.begun-new.ensures ∙ c.requires.absent
 
 pub begin-requires-clause-stands : goal.begin-requires-clause-stands
 begin-requires-clause-stands g c = ap (λ (i : Instance). is_open i.stage) c.begun-new.ensures

@@ -12,4 +12,6 @@ invariant_of-self-in-Ok c = (
 )
 
 pub returns-in-Ok : goal.returns-in-Ok
-returns-in-Ok c = rw (← c.self.view_is) (c.in-Ok.ensures.rows ∙ sym (latest_new instance_key c.args.new c.self.inside.rows.items (rw (← c.self.view_is) at c.requires.absent)))
+returns-in-Ok c =
+    rw (← c.self.view_is)
+    (ap (λ (ys : List Instance). record { instances = ys; steps = c.self.inside.steps }) (c.in-Ok.ensures.rows ∙ sym (latest_new instance_key c.args.new c.self.inside.rows.items (rw (← c.self.view_is) at c.requires.absent))))

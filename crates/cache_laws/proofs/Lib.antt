@@ -1,0 +1,3 @@
+mod Lists
+pub mod Staying
+pub mod Finding

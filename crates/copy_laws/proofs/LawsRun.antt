@@ -1,0 +1,46 @@
+-- The laws of what was told on which the law of stamps rests are laws of every run.
+use Rattle.std.proofs.Common.{ℕ, List, [], ◌∷◌, inl, inr}
+use Rattle.locus_ids.specs.declared.ids.EpochId.{EpochId}
+use Rattle.locus_ids.specs.declared.config.Config.{Config}
+use Rattle.locus_ids.specs.declared.sites.Members.{Members}
+use Rattle.schedule_lines.specs.declared.line.ScheduleLine.{ScheduleLine}
+use Rattle.the_run.specs.Joins.{Joined}
+use Rattle.the_run.specs.Worlds.{Line}
+use Rattle.the_run.specs.Runs.{run_in}
+use Rattle.the_run.proofs.OneList.{one_list}
+use Rattle.vector_laws.specs.Written.{past_of}
+use Rattle.vector_laws.proofs.HistorySited.{run_sited}
+use Rattle.kept_laws.proofs.of_pack_laws.InstanceAgree.{run_agrees}
+use Rattle.kept_laws.proofs.of_pack_laws.InodeFitsRun.{run_fits}
+use Rattle.kept_laws.specs.of_lock_laws.Joins.{WasJoined}
+use Rattle.kept_laws.proofs.of_lock_laws.JoinsRun.{run_joins_once}
+use Rattle.kept_laws.proofs.of_lock_laws.FactsRun.{run_goes}
+use Rattle.kept_laws.proofs.of_pack_laws.PacksRun.{run_packs}
+use Rattle.kept_laws.proofs.of_make_laws.RunningOneSite.{run_one_site}
+use Rattle.kept_laws.proofs.of_make_laws.RunningRefusals.{run_plain_grants}
+use Rattle.kept_laws.proofs.of_make_laws.FreshRun.{run_fresh}
+use Rattle.kept_laws.proofs.of_make_laws.Modes.{run_reserved, run_modes}
+use Rattle.kept_laws.proofs.of_make_laws.LockedRun.{run_locked}
+use Rattle.kept_laws.specs.StampLaws.{Laws}
+
+joined_line : (s : ℕ) (id : EpochId) (m : Members) (trace : List Line) → WasJoined (past_of trace) s id m → Joined s id m trace
+joined_line s id m [] h = absurd h
+joined_line s id m (x ∷ xs) (inl h) = inl h
+joined_line s id m (x ∷ xs) (inr h) = inr (joined_line s id m xs h)
+
+pub run_laws : (c : Config) (lines : List ScheduleLine) → Laws c (past_of (run_in c lines).trace)
+run_laws c lines = record {
+  joins = run_joins_once c lines;
+  lists = λ s t id m n a b. one_list c lines s t id m n (joined_line s id m (run_in c lines).trace a) (joined_line t id n (run_in c lines).trace b);
+  goes = run_goes c lines;
+  agree = run_agrees c lines;
+  sites = run_one_site c lines;
+  stand = run_plain_grants c lines;
+  locked = run_locked c lines;
+  fresh = run_fresh c lines;
+  reserved = run_reserved c lines;
+  makes = run_modes c lines;
+  packs = (run_packs c lines).told;
+  fit = run_fits c lines;
+  sited = (run_sited c lines).commits;
+}

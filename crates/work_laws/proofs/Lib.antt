@@ -1,0 +1,3 @@
+pub mod PageLists
+pub mod Effects
+pub mod Working

@@ -1,0 +1,2 @@
+pub mod Working
+pub use Rattle.stored_versions.specs as of_stored_versions
