@@ -88,7 +88,9 @@ impl Storage {
         let file = FileId { group: 0, ino };
         let numbers = all_pages(rt, self.alloc, content);
         let came = LaidPages {
-            size: content.len() as u32,
+            size: u32::try_from(content.len())
+                .ok()
+                .expect(rt, "a long content"),
             numbers: numbers.as_slice(),
             bytes: content,
         };
@@ -318,7 +320,8 @@ pub fn request<R: Abort>(
 fn all_pages<R: Abort>(rt: &R, alloc: Global, content: &[u8]) -> PageNumbers {
     let mut numbers = PageNumbers::new(alloc);
     for page in 0..content.len().div_ceil(PAGE_BYTES) {
-        numbers.push(page as u16).expect(rt, "no memory");
+        let number = u16::try_from(page).ok().expect(rt, "a long content");
+        numbers.push(number).expect(rt, "no memory");
     }
     numbers
 }

@@ -84,7 +84,9 @@ impl Mending {
             vector: copy.vector,
         };
         let came = LaidPages {
-            size: content.len() as u32,
+            size: u32::try_from(content.len())
+                .ok()
+                .expect(rt, "a long content"),
             numbers: first_page(content.as_slice()),
             bytes: content.as_slice(),
         };
