@@ -15,6 +15,8 @@ mod pack_tests;
 #[cfg(test)]
 mod packs;
 #[cfg(test)]
+mod read_fault_tests;
+#[cfg(test)]
 mod shadow_tests;
 #[cfg(test)]
 mod site_label_tests;

@@ -139,3 +139,30 @@ fn other_bytes_are_no_label(rt: HostRuntime) {
         boot_of(&rt, rt.alloc(), &bytes) == Err(LabelFault::Spent),
     );
 }
+
+/// What a boot answers where so many reads pass, and the number that it leaves.
+fn boot_within<R: Abort>(rt: &R, alloc: Global, reads: u32) -> (Result<u32, LabelFault>, u32) {
+    let mut disk = new_disk(rt, alloc);
+    holds(rt, disk.len() >= 1_024);
+    Label::format(&mut disk, third_site(rt)).expect(rt, "a fault");
+    disk.fail_read(reads);
+    disk.sync().expect(rt, "a fault");
+    holds(rt, disk.len() >= 1_024);
+    let answer = Label::boot(&mut disk, third_site(rt));
+    disk.crash(Leave::New);
+    holds(rt, disk.len() >= 1_024);
+    let left = Label::number(&mut disk, third_site(rt)).expect(rt, "no label");
+    (answer, left)
+}
+
+#[test]
+fn a_boot_fails_at_each_read_and_leaves_the_number(rt: HostRuntime) {
+    // Each half is read once.
+    for (reads, answer, left) in [
+        (0, Err(LabelFault::Disk), 1),
+        (1, Err(LabelFault::Disk), 1),
+        (2, Ok(2), 2),
+    ] {
+        holds(&rt, boot_within(&rt, rt.alloc(), reads) == (answer, left));
+    }
+}

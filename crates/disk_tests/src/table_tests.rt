@@ -21,7 +21,7 @@ use std::process::Abort;
 const BORDERS: [u16; 6] = [0, 59, 60, 571, 572, 1_083];
 
 /// So many whole pages. Each has its number in its first two bytes, and this byte elsewhere.
-fn numbered<R: Abort>(rt: &R, alloc: Global, pages: usize, byte: u8) -> Bytes
+pub fn numbered<R: Abort>(rt: &R, alloc: Global, pages: usize, byte: u8) -> Bytes
     ensures { length result ≤ content_bytes_max }
 {
     assert!(rt; pages <= 1_084);
@@ -34,7 +34,13 @@ fn numbered<R: Abort>(rt: &R, alloc: Global, pages: usize, byte: u8) -> Bytes
 }
 
 /// What a page of an inode's version has beside its number; none where its number is another one.
-fn byte_of<D: Disk, R: Abort>(rt: &R, pack: &Pack, disk: &mut D, ino: Ino, page: u16) -> Option<u8>
+pub fn byte_of<D: Disk, R: Abort>(
+    rt: &R,
+    pack: &Pack,
+    disk: &mut D,
+    ino: Ino,
+    page: u16,
+) -> Option<u8>
     requires { Stands pack.now (D.moment disk.old) }
     ensures { Stands pack.now (D.moment disk.new) }
 {
@@ -50,7 +56,7 @@ fn byte_of<D: Disk, R: Abort>(rt: &R, pack: &Pack, disk: &mut D, ino: Ino, page:
 }
 
 /// Mounts the pack.
-fn mount<R: Abort>(rt: &R, alloc: Global, disk: &mut ScriptDisk) -> Result<Pack, MountFault>
+pub fn mount<R: Abort>(rt: &R, alloc: Global, disk: &mut ScriptDisk) -> Result<Pack, MountFault>
     ensures { IfOk result (λ pack. Stands pack (moment disk.new)) }
 {
     settle(rt, disk);
@@ -308,7 +314,7 @@ fn both_tables_are_written_ascending_behind_all_pages(rt: HostRuntime) {
 }
 
 /// Writes two bytes.
-fn put<R: Abort>(rt: &R, disk: &mut ScriptDisk, at: u32, bytes: &[u8; 2]) {
+pub fn put<R: Abort>(rt: &R, disk: &mut ScriptDisk, at: u32, bytes: &[u8; 2]) {
     holds(rt, at < disk.len().saturating_sub(1));
     disk.write_at(at, bytes).expect(rt, "a fault");
 }
@@ -360,12 +366,13 @@ fn a_mount_reads_each_table_of_the_slots_that_count_once(rt: HostRuntime) {
 
 /// The same two inodes, and inode 4 with two versions of 61 pages, both slots of which are open: the older one's table is 2, and
 /// the one that counts has table 3.
-fn two_open_slots<R: Abort>(rt: &R, alloc: Global) -> ScriptDisk {
+pub fn two_open_slots<R: Abort>(rt: &R, alloc: Global) -> ScriptDisk {
     let mut disk = two_tables(rt, alloc);
     let mut pack = mount(rt, alloc, &mut disk).expect(rt, "no pack");
     let content = numbered(rt, alloc, 61, 7);
     let ino = Ino::new(4).expect(rt, "no inode");
     adopt(rt, &mut pack, &mut disk, ino, &content);
+    let content = numbered(rt, alloc, 61, 9);
     adopt(rt, &mut pack, &mut disk, ino, &content);
     put(rt, &mut disk, slot_at(BASE, ino, Half::First), &[0xA5, 0]);
     disk

@@ -91,22 +91,46 @@ fn start<'a, R: Abort>(rt: &R, bytes: &'a [u8], n: usize) -> &'a [u8] {
     &bytes[..n]
 }
 
-/// The bytes with 0xFF at a place.
-fn changed<R: Abort>(rt: &R, alloc: Global, bytes: &[u8], n: usize) -> Bytes {
+/// What a byte is replaced by: 0xFF, and each byte that differs from it in one bit.
+fn others(byte: u8) -> [u8; 9] {
+    [
+        0xFF,
+        byte ^ 1,
+        byte ^ 2,
+        byte ^ 4,
+        byte ^ 8,
+        byte ^ 0x10,
+        byte ^ 0x20,
+        byte ^ 0x40,
+        byte ^ 0x80,
+    ]
+}
+
+/// The bytes with another one at a place.
+fn changed<R: Abort>(rt: &R, alloc: Global, bytes: &[u8], n: usize, byte: u8) -> Bytes {
     assert!(rt; n < bytes.len());
     let mut changed = Bytes::from_slice(alloc, &bytes[..n]).expect(rt, "no memory");
-    changed.push(0xFF).expect(rt, "no memory");
+    changed.push(byte).expect(rt, "no memory");
     changed.append(&bytes[n + 1..]).expect(rt, "no memory");
     changed
 }
 
-/// Whether what stands before a place is refused where it ends, and whether 0xFF at that place gives no packet, or one that
+/// Whether these bytes are no packet, or one that has the same bytes again.
+fn is_none_or_has_them_again<R: Abort>(rt: &R, alloc: Global, bytes: &[u8]) -> bool {
+    fault(rt, alloc, bytes).is_some() || has_them_again(rt, alloc, bytes)
+}
+
+/// Whether what stands before a place is refused where it ends, and whether each other byte at that place gives no packet, or one that
 /// has the same bytes again.
 fn holds_at<R: Abort>(rt: &R, alloc: Global, bytes: &[u8], n: usize) -> bool {
-    let changed = changed(rt, alloc, bytes, n);
+    assert!(rt; n < bytes.len());
+    for byte in others(bytes[n]) {
+        let changed = changed(rt, alloc, bytes, n, byte);
+        if !is_none_or_has_them_again(rt, alloc, changed.as_slice()) {
+            return false;
+        }
+    }
     fault(rt, alloc, start(rt, bytes, n)) == Some(cut_at(n))
-        && (fault(rt, alloc, changed.as_slice()).is_some()
-            || has_them_again(rt, alloc, changed.as_slice()))
 }
 
 /// The bytes are those of a packet, which has the same again, and no others are near them.
