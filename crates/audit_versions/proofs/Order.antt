@@ -3,6 +3,7 @@ use Rattle.std.proofs.Common.{ℕ, suc, ◌<◌, ◌≤◌, ◌≡◌, refl, sym
 use Rattle.std.proofs.lemmas.Bool.{cases_Bool}
 use Rattle.std.specs.List.{list_any, filter}
 use Rattle.plain_facts.proofs.Tests.{both_true, and_true, true_false, false_true, not_true, or_second, or_other, false_unless}
+use Rattle.locus_ids.specs.Sizes.{sites_max}
 use Rattle.locus_ids.specs.declared.ids.FileId.{FileId}
 use Rattle.locus_ids.specs.declared.ids.Stamp.{Stamp}
 use Rattle.commit_graph.specs.declared.history.Version.{Version}
@@ -29,7 +30,7 @@ pub counters_stay : (file : FileId) (v : Version) (older : List Version) → is_
 counters_stay file v older r a e site = sym (counter_stays file a v older site (apart file v older r a e))
 
 pub vector_stays : (file : FileId) (v : Version) (older : List Version) → is_regular (v ∷ older) ≡ true → (a : Stamp) → is_in older file a ≡ true → vector_of (v ∷ older) file a ≡ vector_of older file a
-vector_stays file v older r a e = map_same (counter (v ∷ older) file a) (counter older file a) (numbers_from 1 16) (counters_stay file v older r a e)
+vector_stays file v older r a e = map_same (counter (v ∷ older) file a) (counter older file a) (numbers_from 1 sites_max) (counters_stay file v older r a e)
 
 pub ancestors_stay : (file : FileId) (v : Version) (older : List Version) → is_regular (v ∷ older) ≡ true → (a b : Stamp) → is_in older file b ≡ true → is_ancestor (v ∷ older) file a b ≡ is_ancestor older file a b
 ancestors_stay file v older r a b e = ancestor_stays file v older a b (apart file v older r b e)

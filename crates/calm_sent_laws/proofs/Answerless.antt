@@ -21,25 +21,23 @@ use Rattle.wire_messages.specs.declared.body.Granted.{Granted}
 use Rattle.wire_messages.specs.declared.body.LookAnswer.{LookAnswer}
 use Rattle.wire_messages.specs.declared.packet.Packet.{Packet}
 use Rattle.wire_messages.specs.declared.body.Body.TheVariants as body
-use Rattle.role_steps.specs.Looks.{LookRequest}
 use Rattle.role_steps.specs.OperationEffects.{Mending, effect_of}
 use Rattle.role_steps.specs.Operations.{acts, acts_committed, commits_owing, last_committed, commit_op, executes_effect, executes, op_again, by_number, on_op_at, on_op_of, on_op, on_read_held}
 use Rattle.role_steps.specs.Own.{Every}
-use Rattle.role_steps.specs.Pulling.{on_notify, on_page, on_delta, pull_repeats}
+use Rattle.role_steps.specs.Pulling.{pull_repeats}
 use Rattle.role_steps.specs.Requests.{users_repeats}
-use Rattle.role_steps.specs.Storage.{StoreRequest, instance_of, is_open, opened_packets, own_ino, opens, opens_made, on_open_ss_of, on_open_ss, is_spent, commits, next_stamp, next_vector, ends_at, on_closed_ok_of, on_closed_ok, on_look_ss, on_pull, on_want}
+use Rattle.role_steps.specs.Storage.{StoreRequest, instance_of, is_open, opened_packets, own_ino, opens, opens_made, on_open_ss_of, on_open_ss, is_spent, commits, next_stamp, next_vector, ends_at, on_closed_ok_of, on_closed_ok}
 use Rattle.role_steps.specs.Using.{on_call, on_open_done, on_op_done, on_as_held, on_close_done, on_look_done}
 use Rattle.role_steps.specs.Views.{Frame, Store, Users, Outcome, quiet, sends, and_then, to_some, to_sync, sync_site}
-use Rattle.role_steps.specs.declared.copies.FileCopy.{FileCopy}
 use Rattle.role_steps.specs.declared.instances.Instance.{Instance}
 use Rattle.role_steps.specs.declared.instances.Stage.{Stage}
 use Rattle.role_steps.specs.declared.pulls.Pull.{Pull}
 use Rattle.role_steps.specs.declared.instances.Stage.TheVariants as stage
 use Rattle.role_steps.proofs.Sending.{every_cond}
 use Rattle.role_steps.proofs.HeldReads.{held_read_sent}
-use Rattle.epoch_laws.specs.of_law_walks.Kinds.{IsOfReader, IsUserRequest, IsOfUser}
+use Rattle.epoch_laws.specs.of_law_walks.Kinds.{IsOfReader, IsStoreAnswer, IsUserRequest, IsOfUser}
 use Rattle.epoch_laws.specs.of_law_walks.Laws.{Law, body_law, ReadersKeep, UsersKeep}
-use Rattle.epoch_laws.proofs.of_law_walks.RoleWalks.{on_look_ss_walk, on_pull_walk, on_want_walk, on_notify_walk, on_page_walk, on_delta_walk, pull_repeats_walk, users_repeats_walk, on_call_walk, on_open_done_walk, on_op_done_walk, on_as_held_walk, on_close_done_walk, on_look_done_walk}
+use Rattle.epoch_laws.proofs.of_law_walks.RoleWalks.{pull_repeats_walk, users_repeats_walk, on_call_walk, on_open_done_walk, on_op_done_walk, on_as_held_walk, on_close_done_walk, on_look_done_walk}
 
 -- the body answers neither a report nor an open, and closes no instance
 abbrev pub AnswersNone : Body → Type 0
@@ -185,34 +183,22 @@ reader_answers_none (body.Pull file stamp page) h = tt
 reader_answers_none (body.Want file wanted own) h = tt
 reader_answers_none _ h = absurd h
 
-abbrev answering : Law
+abbrev pub answering : Law
 answering = body_law AnswersNone (λ t. Unit {0}) (λ w. Unit {0})
 
 users : (f : Frame) → UsersKeep answering f
 users f = record { asks = λ group to b h e. request_answers_none b h; sends = λ to b h. user_answers_none b h; tells = λ t h. tt; unwritten = tt }
 
-readers : (f : Frame) → ReadersKeep answering f
+pub readers : (f : Frame) → ReadersKeep answering f
 readers f = record { sends = λ to b h. reader_answers_none b h; unwritten = tt }
 
 -- ---- looks and pulls ----
 
-pub on_look_ss_answerless : (f : Frame) (us : ℕ) (l : LookRequest) (stamp : Stamp) (s : Store) → AllAnswerless (on_look_ss f us l stamp s)
-on_look_ss_answerless f us l stamp s = (on_look_ss_walk answering f (readers f) us l stamp s).0
-
-pub on_pull_answerless : (f : Frame) (from : ℕ) (file : FileId) (stamp : Stamp) (page : ℕ) (s : Store) → AllAnswerless (on_pull f from file stamp page s)
-on_pull_answerless f from file stamp page s = (on_pull_walk answering f (readers f) from file stamp page (λ bytes. tt) s).0
-
-pub on_want_answerless : (f : Frame) (from : ℕ) (file : FileId) (wanted own : Stamp) (s : Store) → AllAnswerless (on_want f from file wanted own s)
-on_want_answerless f from file wanted own s = (on_want_walk answering f (readers f) from file wanted own (λ pages. tt) s).0
-
-pub on_notify_answerless : (f : Frame) (from : ℕ) (o : Option FileCopy) (p : Pull) (ps : List Pull) → AllAnswerless (on_notify f from o p ps)
-on_notify_answerless f from o p ps = (on_notify_walk answering f (readers f) from o p tt ps).0
-
-pub on_page_answerless : (f : Frame) (file : FileId) (stamp : Stamp) (page : ℕ) (bytes : List ℕ) (ps : List Pull) → AllAnswerless (on_page f file stamp page bytes ps)
-on_page_answerless f file stamp page bytes ps = (on_page_walk answering f (readers f) file stamp page bytes ps).0
-
-pub on_delta_answerless : (f : Frame) (own : Option FileCopy) (file : FileId) (stamp : Stamp) (pages : List ℕ) (ps : List Pull) → AllAnswerless (on_delta f own file stamp pages ps)
-on_delta_answerless f own file stamp pages ps = (on_delta_walk answering f (readers f) own file stamp pages ps).0
+pub back : (b : Body) → IsStoreAnswer b → AnswersNone b
+back (body.Page file stamp page bytes) h = tt
+back (body.Delta file wanted pages) h = tt
+back (body.Have file stamp) h = tt
+back _ h = absurd h
 
 pub pull_repeats_answerless : (f : Frame) (ps : List Pull) → Every Answerless (pull_repeats f ps)
 pull_repeats_answerless f ps = pull_repeats_walk answering f (readers f) ps

@@ -6,7 +6,7 @@ use Rattle.trace_book.specs.declared.call.Call.TheVariants as call
 use Rattle.wire_messages.specs.declared.body.Body.{Body}
 use Rattle.wire_messages.specs.declared.body.Body.TheVariants as body
 use Rattle.wire_messages.specs.declared.packet.Packet.{Packet}
-use Rattle.role_steps.specs.Adoption.{notes_own_at, notes_own, table_group, is_ready, adopts_pull, without_pull, adopts_first, with_adopted, fits_own}
+use Rattle.role_steps.specs.Adoption.{with_store, notes_own_at, notes_own, table_group, is_ready, adopts_pull, without_pull, adopts_first, with_adopted, fits_own}
 use Rattle.role_steps.specs.Epochs.{frame_in, own_groups}
 use Rattle.role_steps.specs.Mends.{mending, kept_stamps, has_mend_in, wants_mend, starts_mend_of, starts_mend, starts_mends_in, row_file}
 use Rattle.role_steps.specs.Opens.{on_opened}
@@ -15,17 +15,19 @@ use Rattle.role_steps.specs.Reports.{on_report, on_closed, on_have, on_have_of}
 use Rattle.role_steps.specs.Storage.{copy_of, instance_of}
 use Rattle.role_steps.specs.Tables.{row, first_that, without_row}
 use Rattle.role_steps.specs.Versions.{file_row}
-use Rattle.role_steps.specs.Views.{Frame, SiteView, Outcome, quiet}
+use Rattle.role_steps.specs.Views.{Frame, SiteView, Outcome, quiet, within}
 use Rattle.role_steps.specs.declared.instances.Instance.{Instance}
 use Rattle.role_steps.specs.declared.pulls.Pull.{Pull}
 use Rattle.role_steps.specs.declared.rounds.InEpoch.{InEpoch}
 use Rattle.role_steps.specs.declared.synchronizing.FileRow.{FileRow}
 use Rattle.role_steps.specs.declared.synchronizing.SyncTable.{SyncTable}
 use Rattle.the_run.specs.Kept.{Among}
-use Rattle.the_run.specs.Steps.{from_user, group_of, at_table_of, is_opened_in, takes_inside, takes_framed, adopts_of, tries_at, starts_mends_of}
+use Rattle.the_run.specs.Steps.{from_user, group_of, with_pulls, at_table_of, is_opened_in, takes_inside, takes_framed, adopts_of, tries_at, starts_mends_of}
 use Rattle.the_run.proofs.Boots.{at_each}
 use Rattle.one_tree_laws.proofs.Rising.{first_among, row_key, every_among}
-use Rattle.calm_sent_laws.proofs.Answerless.{sync_answerless, on_open_ss_answerless, on_closed_ok_answerless, on_look_ss_answerless, on_pull_answerless, on_op_answerless, on_notify_answerless, on_page_answerless, on_call_answerless, on_open_done_answerless, on_op_done_answerless, on_close_done_answerless, on_look_done_answerless, on_delta_answerless, on_read_held_answerless, on_want_answerless, on_as_held_answerless}
+use Rattle.one_tree_laws.specs.of_vector_laws.of_fact_walks.Roles.{IsForTable, IsForStore, IsForUser}
+use Rattle.one_tree_laws.proofs.of_vector_laws.of_fact_walks.Roles.{by_role, readers_by, pulls_by}
+use Rattle.calm_sent_laws.proofs.Answerless.{sync_answerless, on_open_ss_answerless, on_closed_ok_answerless, on_op_answerless, on_call_answerless, on_open_done_answerless, on_op_done_answerless, on_close_done_answerless, on_look_done_answerless, on_read_held_answerless, on_as_held_answerless, answering, readers, back}
 use Rattle.calm_sent_laws.proofs.Closing.{Begun, IsBegun, on_close_closes}
 use Rattle.calm_sent_laws.proofs.Reporting.{on_open_stands, on_look_stands, on_report_stands, on_closed_stands, on_have_stands, have_of_stands}
 use Rattle.calm_sent_laws.proofs.Tables.{LooksAnswerless, TableStands, on_opened_stands}
@@ -168,9 +170,41 @@ module _ (R S : Known) (B : Begun) (c : Config) (me : ℕ) where
   with_fine f e g test v same here step h k = at_table_fine f e g (first_that test v.tables) v same here
       (λ t is. (let a : Among t v.tables = first_among test v.tables t is in (rising_found t v.tables h.rising a, a))) step h k
 
-  pub inside_fine : (e : InEpoch) (from : ℕ) (x : Body) (v : SiteView) → v.epoch ≡ Some e → Brings R S e x → HasBegun B v → Orderly v → Heard R S c me v → Fine R S B c me v (takes_inside (frame_in c me v.boot e) from x v)
-  inside_fine e from (body.Report group copies) v here b d h k = group_fine (frame_in c me v.boot e) e (on_report (frame_in c me v.boot e) from copies) group v refl here (on_report_stands (frame_in c me v.boot e) from copies) h k
-  inside_fine e from (body.ReportOk group) v here b d h k = part_fine R S B c me v (takes_inside (frame_in c me v.boot e) from (body.ReportOk group) v) h (record { reports = answered; instances = k.instances }) refl refl refl refl refl tt
+  tables_fine : (e : InEpoch) (from : ℕ) (x : Body) (v : SiteView) → IsForTable x → v.epoch ≡ Some e → Brings R S e x → HasBegun B v → Orderly v → Heard R S c me v → Fine R S B c me v (takes_inside (frame_in c me v.boot e) from x v)
+  tables_fine e from (body.Report group copies) v is here b d h k = group_fine (frame_in c me v.boot e) e (on_report (frame_in c me v.boot e) from copies) group v refl here (on_report_stands (frame_in c me v.boot e) from copies) h k
+  tables_fine e from (body.Open serial call process request file how) v is here b d h k = group_fine (frame_in c me v.boot e) e _ file.group v refl here (on_open_stands (frame_in c me v.boot e) from (record { serial = serial; call = call; process = process; request = request; file = file; how = how })) h k
+  tables_fine e from (body.Opened inst answer) v is here b d h k = with_fine (frame_in c me v.boot e) e (on_opened (frame_in c me v.boot e) inst answer) (is_opened_in inst) v refl here (on_opened_stands (frame_in c me v.boot e) inst answer) h k
+  tables_fine e from (body.Closed inst made) v is here b d h k = with_fine (frame_in c me v.boot e) e (on_closed (frame_in c me v.boot e) from inst made) (is_opened_in inst) v refl here (on_closed_stands (frame_in c me v.boot e) from inst made) h k
+  tables_fine e from (body.Look call process request take file what) v is here b d h k = group_fine (frame_in c me v.boot e) e _ file.group v refl here (on_look_stands (frame_in c me v.boot e) from (record { call = call; process = process; request = request; take = take; file = file; what = what })) h k
+  tables_fine e from (body.Have file stamp) v is here b d h k = group_fine (frame_in c me v.boot e) e (on_have from file stamp) file.group v refl here (on_have_stands (frame_in c me v.boot e) from file stamp) h k
+  tables_fine e from _ v is here b d h k = absurd is
+
+  stores_fine : (e : InEpoch) (from : ℕ) (x : Body) (v : SiteView) → IsForStore x → v.epoch ≡ Some e → Brings R S e x → HasBegun B v → Orderly v → Heard R S c me v → Fine R S B c me v (takes_inside (frame_in c me v.boot e) from x v)
+  stores_fine e from (body.OpenSs inst file mode set kind base vector parents) v is here b d h k = part_fine R S B c me v _ h (record { reports = k.reports; instances = k.instances }) refl refl refl refl refl (on_open_ss_answerless (frame_in c me v.boot e) _ v.store)
+  stores_fine e from (body.Op serial n o seen) v is here b d h k = part_fine R S B c me v _ h (record { reports = k.reports; instances = k.instances }) refl refl refl refl refl (on_op_answerless (frame_in c me v.boot e) (mending v (group_of (instance_of v.store (from_user from serial)))) (from_user from serial) n o seen v.store)
+  stores_fine e from (body.ReadHeld serial n at len) v is here b d h k = part_fine R S B c me v _ h (record { reports = k.reports; instances = k.instances }) refl refl refl refl refl (on_read_held_answerless (frame_in c me v.boot e) (from_user from serial) n at len v.store)
+  stores_fine e from (body.Close serial) v is here b d h k = part_with R S B c me v (takes_inside (frame_in c me v.boot e) from (body.Close serial) v) h (record { reports = k.reports; instances = k.instances }) refl refl refl refl refl
+      (λ now. all_close B c me (takes_inside (frame_in c me v.boot e) from (body.Close serial) v).view e _ now here (on_close_closes B (frame_in c me v.boot e) (from_user from serial) v.store (d e here)))
+  stores_fine e from (body.ClosedOk inst) v is here b d h k = part_fine R S B c me v _ h (record { reports = k.reports; instances = k.instances }) refl refl refl refl refl (on_closed_ok_answerless (frame_in c me v.boot e) inst v.store)
+  stores_fine e from _ v is here b d h k = absurd is
+
+  users_fine : (e : InEpoch) (from : ℕ) (x : Body) (v : SiteView) → IsForUser x → v.epoch ≡ Some e → Brings R S e x → HasBegun B v → Orderly v → Heard R S c me v → Fine R S B c me v (takes_inside (frame_in c me v.boot e) from x v)
+  users_fine e from (body.OpenDone serial answer) v is here b d h k = part_fine R S B c me v _ h
+      (record { reports = k.reports; instances = on_open_done_holds (In S v.epoch) (frame_in c me v.boot e) (kept_stamps v) serial answer v.users (subst (λ (o : Option InEpoch). Grants (In S o) serial answer) (sym here) b) k.instances }) refl refl refl refl refl
+      (on_open_done_answerless (frame_in c me v.boot e) (kept_stamps v) serial answer v.users)
+  users_fine e from (body.OpDone serial n result) v is here b d h k = part_fine R S B c me v _ h
+      (record { reports = k.reports; instances = on_op_done_holds (In S v.epoch) (frame_in c me v.boot e) serial n result v.users k.instances }) refl refl refl refl refl (on_op_done_answerless (frame_in c me v.boot e) serial n result v.users)
+  users_fine e from (body.AsHeld serial n len) v is here b d h k = part_fine R S B c me v _ h
+      (record { reports = k.reports; instances = on_as_held_holds (In S v.epoch) (frame_in c me v.boot e) serial n v.users k.instances }) refl refl refl refl refl (on_as_held_answerless (frame_in c me v.boot e) serial n v.users)
+  users_fine e from (body.CloseDone serial answer) v is here b d h k = part_fine R S B c me v _ h
+      (record { reports = k.reports; instances = on_close_done_holds (In S v.epoch) (frame_in c me v.boot e) serial answer v.users k.instances }) refl refl refl refl refl (on_close_done_answerless (frame_in c me v.boot e) serial answer v.users)
+  users_fine e from (body.LookDone call request take answer) v is here b d h k = part_fine R S B c me v _ h
+      (record { reports = k.reports; instances = on_look_done_holds (In S v.epoch) (frame_in c me v.boot e) call request take answer v.users k.instances }) refl refl refl refl refl (on_look_done_answerless (frame_in c me v.boot e) call request take answer v.users)
+  users_fine e from _ v is here b d h k = absurd is
+
+  -- a report that is answered isn't sent again
+  reported_fine : (e : InEpoch) (from group : ℕ) (v : SiteView) → v.epoch ≡ Some e → R e group → Orderly v → Heard R S c me v → Fine R S B c me v (takes_inside (frame_in c me v.boot e) from (body.ReportOk group) v)
+  reported_fine e from group v here b h k = part_fine R S B c me v (takes_inside (frame_in c me v.boot e) from (body.ReportOk group) v) h (record { reports = answered; instances = k.instances }) refl refl refl refl refl tt
     where
       left : List ℕ
       left = without_row (λ (g : ℕ). g) group v.reports
@@ -184,39 +218,24 @@ module _ (R S : Known) (B : Begun) (c : Config) (me : ℕ) where
 
       answered : ReportsIn R c me left v.epoch
       answered = subst (ReportsIn R c me left) (sym here) (each (subst (ReportsIn R c me v.reports) here k.reports))
-  inside_fine e from (body.Open serial call process request file how) v here b d h k = group_fine (frame_in c me v.boot e) e _ file.group v refl here (on_open_stands (frame_in c me v.boot e) from (record { serial = serial; call = call; process = process; request = request; file = file; how = how })) h k
-  inside_fine e from (body.OpenSs inst file mode set kind base vector parents) v here b d h k = part_fine R S B c me v _ h (record { reports = k.reports; instances = k.instances }) refl refl refl refl refl (on_open_ss_answerless (frame_in c me v.boot e) _ v.store)
-  inside_fine e from (body.Opened inst answer) v here b d h k = with_fine (frame_in c me v.boot e) e (on_opened (frame_in c me v.boot e) inst answer) (is_opened_in inst) v refl here (on_opened_stands (frame_in c me v.boot e) inst answer) h k
-  inside_fine e from (body.OpenDone serial answer) v here b d h k = part_fine R S B c me v _ h
-      (record { reports = k.reports; instances = on_open_done_holds (In S v.epoch) (frame_in c me v.boot e) (kept_stamps v) serial answer v.users (subst (λ (o : Option InEpoch). Grants (In S o) serial answer) (sym here) b) k.instances }) refl refl refl refl refl
-      (on_open_done_answerless (frame_in c me v.boot e) (kept_stamps v) serial answer v.users)
-  inside_fine e from (body.Op serial n o seen) v here b d h k = part_fine R S B c me v _ h (record { reports = k.reports; instances = k.instances }) refl refl refl refl refl (on_op_answerless (frame_in c me v.boot e) (mending v (group_of (instance_of v.store (from_user from serial)))) (from_user from serial) n o seen v.store)
-  inside_fine e from (body.ReadHeld serial n at len) v here b d h k = part_fine R S B c me v _ h (record { reports = k.reports; instances = k.instances }) refl refl refl refl refl (on_read_held_answerless (frame_in c me v.boot e) (from_user from serial) n at len v.store)
-  inside_fine e from (body.OpDone serial n result) v here b d h k = part_fine R S B c me v _ h
-      (record { reports = k.reports; instances = on_op_done_holds (In S v.epoch) (frame_in c me v.boot e) serial n result v.users k.instances }) refl refl refl refl refl (on_op_done_answerless (frame_in c me v.boot e) serial n result v.users)
-  inside_fine e from (body.AsHeld serial n len) v here b d h k = part_fine R S B c me v _ h
-      (record { reports = k.reports; instances = on_as_held_holds (In S v.epoch) (frame_in c me v.boot e) serial n v.users k.instances }) refl refl refl refl refl (on_as_held_answerless (frame_in c me v.boot e) serial n v.users)
-  inside_fine e from (body.Close serial) v here b d h k = part_with R S B c me v (takes_inside (frame_in c me v.boot e) from (body.Close serial) v) h (record { reports = k.reports; instances = k.instances }) refl refl refl refl refl
-      (λ now. all_close B c me (takes_inside (frame_in c me v.boot e) from (body.Close serial) v).view e _ now here (on_close_closes B (frame_in c me v.boot e) (from_user from serial) v.store (d e here)))
-  inside_fine e from (body.Closed inst made) v here b d h k = with_fine (frame_in c me v.boot e) e (on_closed (frame_in c me v.boot e) from inst made) (is_opened_in inst) v refl here (on_closed_stands (frame_in c me v.boot e) from inst made) h k
-  inside_fine e from (body.ClosedOk inst) v here b d h k = part_fine R S B c me v _ h (record { reports = k.reports; instances = k.instances }) refl refl refl refl refl (on_closed_ok_answerless (frame_in c me v.boot e) inst v.store)
-  inside_fine e from (body.CloseDone serial answer) v here b d h k = part_fine R S B c me v _ h
-      (record { reports = k.reports; instances = on_close_done_holds (In S v.epoch) (frame_in c me v.boot e) serial answer v.users k.instances }) refl refl refl refl refl (on_close_done_answerless (frame_in c me v.boot e) serial answer v.users)
-  inside_fine e from (body.Look call process request take file what) v here b d h k = group_fine (frame_in c me v.boot e) e _ file.group v refl here (on_look_stands (frame_in c me v.boot e) from (record { call = call; process = process; request = request; take = take; file = file; what = what })) h k
-  inside_fine e from (body.LookSs us call process request take file what serve) v here b d h k = part_fine R S B c me v _ h (record { reports = k.reports; instances = k.instances }) refl refl refl refl refl (on_look_ss_answerless (frame_in c me v.boot e) us (record { call = call; process = process; request = request; take = take; file = file; what = what }) serve v.store)
-  inside_fine e from (body.LookDone call request take answer) v here b d h k = part_fine R S B c me v _ h
-      (record { reports = k.reports; instances = on_look_done_holds (In S v.epoch) (frame_in c me v.boot e) call request take answer v.users k.instances }) refl refl refl refl refl (on_look_done_answerless (frame_in c me v.boot e) call request take answer v.users)
-  inside_fine e from (body.Notify file kind set size stamp vector holder) v here b d h k = part_fine R S B c me v _ h (record { reports = k.reports; instances = k.instances }) refl refl refl refl refl (on_notify_answerless (frame_in c me v.boot e) from (copy_of v.store file) (record { file = file; kind = kind; set = set; size = size; stamp = stamp; vector = vector; holder = holder; base = None; wanted = None; content = [] }) v.pulls)
-  inside_fine e from (body.Pull file stamp page) v here b d h k = part_fine R S B c me v _ h (record { reports = k.reports; instances = k.instances }) refl refl refl refl refl (on_pull_answerless (frame_in c me v.boot e) from file stamp page v.store)
-  inside_fine e from (body.Want file wanted own) v here b d h k = part_fine R S B c me v _ h (record { reports = k.reports; instances = k.instances }) refl refl refl refl refl (on_want_answerless (frame_in c me v.boot e) from file wanted own v.store)
-  inside_fine e from (body.Page file stamp page bytes) v here b d h k = part_fine R S B c me v _ h (record { reports = k.reports; instances = k.instances }) refl refl refl refl refl (on_page_answerless (frame_in c me v.boot e) file stamp page bytes v.pulls)
-  inside_fine e from (body.Delta file wanted pages) v here b d h k = part_fine R S B c me v _ h (record { reports = k.reports; instances = k.instances }) refl refl refl refl refl (on_delta_answerless (frame_in c me v.boot e) (copy_of v.store file) file wanted pages v.pulls)
-  inside_fine e from (body.Have file stamp) v here b d h k = group_fine (frame_in c me v.boot e) e (on_have from file stamp) file.group v refl here (on_have_stands (frame_in c me v.boot e) from file stamp) h k
-  inside_fine e from body.Poll v here b d h k = quiet_fine R S B c me v h k
-  inside_fine e from (body.Promise reach) v here b d h k = quiet_fine R S B c me v h k
-  inside_fine e from (body.Refuse promised) v here b d h k = quiet_fine R S B c me v h k
-  inside_fine e from (body.Install members) v here b d h k = quiet_fine R S B c me v h k
-  inside_fine e from body.Joined v here b d h k = quiet_fine R S B c me v h k
+
+  pub inside_fine : (e : InEpoch) (from : ℕ) (x : Body) (v : SiteView) → v.epoch ≡ Some e → Brings R S e x → HasBegun B v → Orderly v → Heard R S c me v → Fine R S B c me v (takes_inside (frame_in c me v.boot e) from x v)
+  inside_fine e from x v here b d h k =
+      by_role Q f from v (record {
+        tables = λ y is brings. tables_fine e from y v is here brings d h k;
+        stores = λ y is brings. stores_fine e from y v is here brings d h k;
+        readers = readers_by Q answering f from v (readers f) back (λ y o is same p brings. part_fine R S B c me v (within (with_store v) o) h (record { reports = k.reports; instances = k.instances }) refl refl refl refl refl p.0);
+        users = λ y is brings. users_fine e from y v is here brings d h k;
+        pulls = pulls_by Q answering f from v (readers f) back (λ y o is p brings. part_fine R S B c me v (within (with_pulls v) o) h (record { reports = k.reports; instances = k.instances }) refl refl refl refl refl p.0);
+        reported = λ group brings. reported_fine e from group v here brings h k;
+        forming = λ y is brings. quiet_fine R S B c me v h k;
+      }) x b
+    where
+      f : Frame
+      f = frame_in c me v.boot e
+
+      Q : Body → Outcome SiteView → Type 0
+      Q y o = Brings R S e y → Fine R S B c me v o
 
   pub framed_fine : (p : Packet) (o : Option InEpoch) (v : SiteView) → v.epoch ≡ o → ((e : InEpoch) → v.epoch ≡ Some e → Brings R S e p.body) → HasBegun B v → Orderly v → Heard R S c me v → Fine R S B c me v (takes_framed c me p o v)
   framed_fine p None v here b d h k = quiet_fine R S B c me v h k

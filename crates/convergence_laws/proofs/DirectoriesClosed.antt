@@ -38,7 +38,7 @@ use Rattle.tree_laws.specs.Tables.{AskedFact, IsGrantedNow, MakeAsked, RowFact, 
 use Rattle.tree_laws.proofs.Alone.{asking}
 use Rattle.tree_laws.proofs.Names.{same_call_own}
 use Rattle.tree_laws.proofs.Waiting.{IsIt, accepted, asking_waits}
-use Rattle.order_laws.proofs.Standing.{same_file_eq}
+use Rattle.pull_laws.proofs.of_order_laws.Standing.{same_file_eq}
 use Rattle.pull_laws.proofs.of_sync_laws.Members.{members_name_boots, table_boot}
 use Rattle.pull_laws.proofs.of_one_tree_laws.RemoveSeen.{found_some}
 use Rattle.calm_laws.proofs.of_fit_laws.EntryFacts.{IsPlain}

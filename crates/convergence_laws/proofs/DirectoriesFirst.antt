@@ -30,7 +30,7 @@ use Rattle.tree_laws.specs.Packets.{file_in}
 use Rattle.tree_laws.specs.Printed.{entries}
 use Rattle.tree_laws.specs.Tables.{FilesFact, StartedFiles, TableFact, row_stamp}
 use Rattle.tree_laws.proofs.Rows.{followed_rows}
-use Rattle.order_laws.proofs.ProcessSynchronizing.{sync_same}
+use Rattle.pull_laws.proofs.of_order_laws.ProcessSynchronizing.{sync_same}
 use Rattle.pull_laws.specs.of_holding_laws.Held.{IsBelowKept}
 use Rattle.pull_laws.proofs.of_holding_laws.Below.{commits_new}
 use Rattle.pull_laws.proofs.of_holding_laws.Holding.{below_kept}

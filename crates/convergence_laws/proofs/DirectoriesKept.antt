@@ -35,7 +35,7 @@ use Rattle.tree_laws.specs.Instances.{HasAtLeast, IsKnown, IsStarted, held_in, i
 use Rattle.tree_laws.specs.Past.{WasGranted}
 use Rattle.tree_laws.specs.Printed.{entries, onto_entries}
 use Rattle.tree_laws.proofs.Rows.{followed_rows}
-use Rattle.order_laws.proofs.Keeping.{EndsIn, ends_in, file_eq, known_same, published_same}
+use Rattle.pull_laws.proofs.of_order_laws.Keeping.{EndsIn, ends_in, file_eq, known_same, published_same}
 use Rattle.pull_laws.specs.of_holding_laws.Held.{StandsOnHeld}
 use Rattle.pull_laws.proofs.of_holding_laws.Ancestors.{ancestor_own}
 use Rattle.pull_laws.proofs.of_holding_laws.Below.{commits_new, packs_hold}

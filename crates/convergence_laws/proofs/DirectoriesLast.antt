@@ -35,8 +35,8 @@ use Rattle.tree_laws.specs.Printed.{entries}
 use Rattle.tree_laws.specs.Tables.{AskedFact, IsGrantedNow, MakeAsked, RowFact, StageFact, TableFact}
 use Rattle.tree_laws.proofs.Mending.{mends_at_sync}
 use Rattle.tree_laws.proofs.Rows.{followed_rows}
-use Rattle.order_laws.proofs.Standing.{same_file_eq}
-use Rattle.order_laws.proofs.ProcessSynchronizing.{sync_same}
+use Rattle.pull_laws.proofs.of_order_laws.Standing.{same_file_eq}
+use Rattle.pull_laws.proofs.of_order_laws.ProcessSynchronizing.{sync_same}
 use Rattle.calm_laws.proofs.of_fit_laws.EntryFacts.{IsPlain}
 use Rattle.calm_laws.proofs.of_rest_laws.MendStepNumbered.{files_numbered}
 use Rattle.calm_laws.proofs.of_rest_laws.MendStepPlaces.{mend_place}

@@ -35,11 +35,11 @@ use Rattle.lawful_trace.specs.Tables.{begun}
 use Rattle.tree_laws.specs.Following.{IsFollowed}
 use Rattle.tree_laws.specs.Past.{WasGranted}
 use Rattle.tree_laws.specs.Printed.{entries}
-use Rattle.order_laws.proofs.Standing.{same_file_eq}
+use Rattle.pull_laws.proofs.of_order_laws.Standing.{same_file_eq}
 use Rattle.pull_laws.proofs.of_store_laws.ScriptNaming.{script_by, BeganOpening, BeganSo, openers_begin}
 use Rattle.pull_laws.proofs.of_one_tree_laws.RemovePlaced.{GrantedSo, Placed, granted_placed}
 use Rattle.pull_laws.proofs.of_holding_laws.MendMends.{IsMendCall}
-use Rattle.order_laws.specs.Joining.{PacksAreOfSites}
+use Rattle.pull_laws.specs.of_order_laws.Joining.{PacksAreOfSites}
 use Rattle.convergence_laws.proofs.DirectoriesOpeners.{opening_there}
 
 -- ---- the script ----

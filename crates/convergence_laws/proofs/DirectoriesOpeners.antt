@@ -46,9 +46,9 @@ use Rattle.tree_laws.proofs.Fresh.{numbered}
 use Rattle.tree_laws.proofs.Names.{same_call_eq, same_call_own}
 use Rattle.tree_laws.proofs.Rows.{followed_rows}
 use Rattle.tree_laws.proofs.Waiting.{asking_waits}
-use Rattle.order_laws.specs.Joining.{PacksAreOfSites}
-use Rattle.order_laws.proofs.Joining.{boot_low}
-use Rattle.order_laws.proofs.Standing.{same_file_eq}
+use Rattle.pull_laws.specs.of_order_laws.Joining.{PacksAreOfSites}
+use Rattle.pull_laws.proofs.of_order_laws.Joining.{boot_low}
+use Rattle.pull_laws.proofs.of_order_laws.Standing.{same_file_eq}
 use Rattle.pull_laws.proofs.of_store_laws.Begun.{granted_in}
 use Rattle.pull_laws.proofs.of_store_laws.ScriptEnding.{GivesNone}
 use Rattle.pull_laws.proofs.of_store_laws.ScriptEndingCalls.{NotOpen, has_by, wants_end}

@@ -32,7 +32,7 @@ use Rattle.tree_laws.proofs.Names.{same_call_eq}
 use Rattle.tree_laws.proofs.Naming.{steady_left}
 use Rattle.tree_laws.proofs.Reopening.{FromSteady, reopens_from}
 use Rattle.tree_laws.proofs.Scripts.{named_stays}
-use Rattle.order_laws.proofs.ProcessOneDescriptor.{left_record}
+use Rattle.pull_laws.proofs.of_order_laws.ProcessOneDescriptor.{left_record}
 use Rattle.pull_laws.proofs.of_store_laws.Begun.{granted_in}
 use Rattle.pull_laws.proofs.of_store_laws.ScriptNaming.{Opens, named_opens}
 

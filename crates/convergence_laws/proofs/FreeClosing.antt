@@ -18,7 +18,7 @@ use Rattle.locus_ids.specs.declared.ids.Mode.TheVariants as mode
 use Rattle.locus_ids.specs.declared.ids.Serial.{Serial}
 use Rattle.locus_ids.specs.declared.ids.Stamp.{Stamp}
 use Rattle.locus_ids.specs.declared.refusal.Refusal.TheVariants as refusal
-use Rattle.order_laws.proofs.Standing.{same_file_eq}
+use Rattle.pull_laws.proofs.of_order_laws.Standing.{same_file_eq}
 use Rattle.pull_laws.proofs.of_store_laws.Tabled.{latest_same}
 use Rattle.role_steps.proofs.of_plain_facts.Options.{none_some, some_same}
 use Rattle.role_steps.proofs.of_plain_facts.Tests.{true_false}

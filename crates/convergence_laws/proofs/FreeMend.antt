@@ -13,7 +13,7 @@ use Rattle.convergence_laws.specs.Offers.{is_above}
 use Rattle.locus_ids.specs.declared.config.Config.{Config}
 use Rattle.locus_ids.specs.declared.ids.FileId.{FileId}
 use Rattle.locus_ids.specs.declared.ids.Stamp.{Stamp}
-use Rattle.order_laws.proofs.Standing.{same_file_eq}
+use Rattle.pull_laws.proofs.of_order_laws.Standing.{same_file_eq}
 use Rattle.pull_laws.proofs.of_sync_laws.Notices.{rows_found}
 use Rattle.pull_laws.specs.of_one_tree_laws.Places.{InsideFact}
 use Rattle.role_steps.proofs.of_plain_facts.Tests.{true_false}

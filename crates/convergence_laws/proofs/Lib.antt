@@ -80,3 +80,4 @@ pub mod Wanting
 pub use Rattle.calm_laws.proofs as of_calm_laws
 pub use Rattle.orderly_laws.proofs as of_orderly_laws
 pub use Rattle.pull_laws.proofs as of_pull_laws
+pub use Rattle.pull_laws.proofs.of_bound_laws as of_bound_laws

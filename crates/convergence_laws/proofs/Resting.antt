@@ -14,7 +14,7 @@ use Rattle.locus_ids.specs.declared.ids.FileId.{FileId}
 use Rattle.locus_ids.specs.declared.ids.Serial.{Serial}
 use Rattle.locus_ids.specs.declared.ids.Stamp.{Stamp}
 use Rattle.locus_ids.specs.declared.sites.Sites.{Sites}
-use Rattle.order_laws.proofs.Keeping.{EndsIn, IsNew, PublishesNone, ends_in, file_eq, kept_by, published_same}
+use Rattle.pull_laws.proofs.of_order_laws.Keeping.{EndsIn, IsNew, PublishesNone, ends_in, file_eq, kept_by, published_same}
 use Rattle.pull_laws.proofs.Falling.{past_earlier, written_later}
 use Rattle.pull_laws.proofs.Under.{known_under}
 use Rattle.pull_laws.proofs.of_holding_laws.Begun.{open_in_group}

@@ -23,7 +23,7 @@ use Rattle.locus_ids.specs.declared.ids.FileId.{FileId}
 use Rattle.locus_ids.specs.declared.ids.Stamp.{Stamp}
 use Rattle.locus_ids.specs.declared.sites.Members.{Members}
 use Rattle.locus_ids.specs.declared.sites.Sites.{Sites}
-use Rattle.order_laws.proofs.ProcessSynchronizing.{sync_same}
+use Rattle.pull_laws.proofs.of_order_laws.ProcessSynchronizing.{sync_same}
 use Rattle.promises.specs.Convergence.{CopiesConverge, IsAtRest, LackedRoom}
 use Rattle.pull_laws.specs.of_one_tree_laws.Places.{InsideFact}
 use Rattle.pull_laws.specs.of_row_laws.Shown.{trace_of}

@@ -33,7 +33,7 @@ use Rattle.tree_laws.specs.Packets.{file_in}
 use Rattle.tree_laws.specs.Printed.{entries}
 use Rattle.tree_laws.specs.Tables.{FileFact, FilesFact, StartedFiles, TableFact, VersionFact, row_stamp}
 use Rattle.tree_laws.proofs.Rows.{followed_rows}
-use Rattle.order_laws.proofs.ProcessSynchronizing.{sync_same}
+use Rattle.pull_laws.proofs.of_order_laws.ProcessSynchronizing.{sync_same}
 use Rattle.pull_laws.specs.of_one_tree_laws.Places.{InsideFact}
 use Rattle.pull_laws.specs.of_one_tree_laws.Rest.{Past}
 use Rattle.calm_laws.proofs.of_rest_laws.MendStepNumbered.{files_numbered}

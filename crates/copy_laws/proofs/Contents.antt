@@ -27,8 +27,8 @@ use Rattle.tree_model.specs.Histories.{format_version, format_versions, history,
 use Rattle.vector_laws.specs.Held.{copies_on}
 use Rattle.vector_laws.specs.HistoryCommits.{commits_of, real_parents, with_record, with_told}
 use Rattle.vector_laws.specs.Written.{past_of}
-use Rattle.tree_laws.specs.Printed.{entries, onto_entries}
-use Rattle.tree_laws.specs.Stores.{CopiesAreHeld, copy_for}
+use Rattle.rest_laws.specs.of_tree_laws.Printed.{entries, onto_entries}
+use Rattle.rest_laws.specs.of_tree_laws.Stores.{CopiesAreHeld, copy_for}
 use Rattle.rest_laws.specs.of_one_tree_laws.Places.{PlaceFact, SiteIn, WorldFact}
 use Rattle.rest_laws.specs.of_order_laws.Joining.{PacksAreOfSites}
 use Rattle.rest_laws.specs.of_row_laws.Voids.{LinesFit}

@@ -1,16 +1,13 @@
 -- What the law of stamps carries of sites and packets is kept by all that happens: it can stand beside other facts.
-use Rattle.std.proofs.Common.{◌≡◌, ℕ, ◌+◌, ◌≤◌, ◌==◌, nat_lt, Bool, true, false, cond, List, [], ◌∷◌, map, filter, length, Option, Some, None, refl, sym, ◌∙◌, ap, subst, inl, inr, arith, ◌-◌}
-use Rattle.std.proofs.lemmas.Bool.Decides.{nat_tests}
-use Rattle.role_steps.proofs.of_plain_facts.Numbers.{equal}
-use Rattle.role_steps.proofs.of_plain_facts.Options.{some_same as some_eq}
+use Rattle.std.proofs.Common.{◌≡◌, ℕ, ◌≤◌, List, [], ◌∷◌, map, Option, Some, None, refl, sym, ◌∙◌, ap, subst, inl, inr, arith, ◌-◌}
 use Rattle.locus_ids.specs.declared.ids.FileId.{FileId}
 use Rattle.locus_ids.specs.declared.config.Config.{Config}
-use Rattle.locus_ids.specs.Sizes.{inode_span, sites_max}
+use Rattle.locus_ids.specs.Sizes.{inode_span}
 use Rattle.trace_book.specs.declared.record.Record.TheVariants as says
 use Rattle.trace_book.specs.declared.record.StopCause.TheVariants as cause
 use Rattle.role_steps.specs.Own.{Every}
 use Rattle.role_steps.specs.Tables.{row}
-use Rattle.role_steps.specs.Views.{SiteView, Told, Shown, Event, Calls, Receives, Ticks, Parts, Merges, GivesUp, all_sites, file_key}
+use Rattle.role_steps.specs.Views.{SiteView, Told, Shown, Event, Calls, Receives, Ticks, Parts, Merges, GivesUp, file_key}
 use Rattle.role_steps.specs.Storage.{copy_key, instance_key}
 use Rattle.role_steps.specs.Epochs.{frame_in}
 use Rattle.role_steps.specs.declared.copies.FileCopy.{FileCopy}
@@ -18,10 +15,9 @@ use Rattle.role_steps.specs.declared.instances.Instance.{Instance}
 use Rattle.role_steps.specs.declared.instances.Stage.TheVariants as stage
 use Rattle.role_steps.specs.declared.rounds.InEpoch.{InEpoch}
 use Rattle.role_steps.proofs.Sending.{every_map}
-use Rattle.role_steps.proofs.Counted.{CountsFrom, sites_count}
 use Rattle.the_run.specs.Disks.{boots}
 use Rattle.the_run.specs.Steps.{epoch_id, step}
-use Rattle.the_run.specs.Worlds.{World, Place, Running, Numbered, Line, number_of, links_of, place_at, place_in, place_site, script_of, disk_of, passed, acts, fresh, root_copy, formatted, first_place, first_world}
+use Rattle.the_run.specs.Worlds.{World, Running, Numbered, Line, number_of, links_of, place_at, script_of, disk_of, passed, acts, fresh, root_copy, formatted, first_world}
 use Rattle.the_run.specs.Runs.{packet_record}
 use Rattle.the_run.specs.Kept.{WasSent, IsOwn, Kept}
 use Rattle.the_run.proofs.Boots.{boots_reached}
@@ -37,19 +33,20 @@ use Rattle.vector_laws.proofs.StepFacts.{EventFact, step_fact}
 use Rattle.vector_laws.proofs.SyncFacts.{FoundAt, row_at, seen_none}
 use Rattle.vector_laws.proofs.Held.{boots_copies}
 use Rattle.vector_laws.specs.HistoryCommits.{IsSite}
-use Rattle.kept_laws.specs.of_lock_laws.Facts.{NumberedFact as LockNumbered, WorldFact as LockWorld}
-use Rattle.kept_laws.specs.of_make_laws.RunningStores.{InstanceSo, Stands}
-use Rattle.kept_laws.proofs.of_make_laws.RunningStandRun.{Orderly, Standing, standing_kept, first_standing, stores_stand}
-use Rattle.kept_laws.specs.StampCommits.{stood, Here}
-use Rattle.kept_laws.specs.StampLaws.{Laws}
-use Rattle.kept_laws.specs.StampCovering.{CopyCounts}
-use Rattle.kept_laws.proofs.StampOutcomes.{Idle}
-use Rattle.kept_laws.proofs.StampStoreCovers.{Knows}
-use Rattle.kept_laws.proofs.StampCommitCovers.{key_file}
-use Rattle.kept_laws.proofs.StampStepCovers.{Known, Arrives, EventArrives, step_fine}
-use Rattle.kept_laws.proofs.StampWriteSteps.{step_owes}
-use Rattle.kept_laws.proofs.StampStamps.{Commits, joins_low, one_vector}
-use Rattle.kept_laws.proofs.StampCoversRun.{PlaceCovers, NumberedBoth, WorldCovers, Where, running_place, stops_covers, told_covers, Does, acts_covers, as_covers}
+use Rattle.rest_laws.specs.of_kept_laws.of_lock_laws.Facts.{NumberedFact as LockNumbered, WorldFact as LockWorld}
+use Rattle.rest_laws.specs.of_kept_laws.of_make_laws.RunningStores.{InstanceSo, Stands}
+use Rattle.rest_laws.proofs.of_kept_laws.of_make_laws.RunningStandRun.{Orderly, Standing, standing_kept, first_standing, stores_stand}
+use Rattle.rest_laws.specs.of_kept_laws.StampCommits.{stood, Here}
+use Rattle.rest_laws.specs.of_kept_laws.StampLaws.{Laws}
+use Rattle.rest_laws.specs.of_kept_laws.StampCovering.{CopyCounts}
+use Rattle.rest_laws.proofs.of_kept_laws.StampOutcomes.{Idle}
+use Rattle.rest_laws.proofs.of_kept_laws.StampStoreCovers.{Knows}
+use Rattle.rest_laws.proofs.of_kept_laws.StampCommitCovers.{key_file}
+use Rattle.rest_laws.proofs.of_kept_laws.StampStepCovers.{Known, Arrives, EventArrives, step_fine}
+use Rattle.rest_laws.proofs.of_kept_laws.StampWriteSteps.{step_owes}
+use Rattle.rest_laws.proofs.of_kept_laws.StampStamps.{Commits, joins_low, one_vector}
+use Rattle.rest_laws.proofs.of_kept_laws.StampCoversRun.{PlaceCovers, NumberedBoth, WorldCovers, Where, running_place, stops_covers, told_covers, Does, acts_covers, as_covers}
+use Rattle.run_laws.proofs.of_law_walks.FirstWorld.{first_places}
 
 -- ---- what is known of a site when an event comes ----
 
@@ -204,9 +201,6 @@ all_kept c = record {
 
 -- ---- the first world ----
 
-none_place : (p : Place) → ◌≡◌ {A = Option Place} None (Some p) → ⊥
-none_place p e = cc
-
 one_not_zero : ◌≡◌ {A = ℕ} 1 0 → ⊥
 one_not_zero e = cc
 
@@ -220,30 +214,13 @@ first_site c t site = running_place c [] t (fresh 1 (formatted c t)) site
     (record { copies = every_map (CopyFact []) (root_copy c) _ (λ g. record { root = refl; site = refl; number = refl; none = seen_none }); pulls = tt; inside = refl })
     (record { boot = one_not_zero; disk = λ file small. none_counts t file (row copy_key (file_key file) (formatted c t)) (row_at (λ (x : FileCopy). x.file.ino ≡ 1) copy_key (file_key file) (formatted c t) (every_map (λ (x : FileCopy). x.file.ino ≡ 1) (root_copy c) _ (λ g. refl))) (omega (arith, small)); inside = (refl, refl) })
 
-first_places : (c : Config) (ss : List ℕ) (s : ℕ) (p : Place) → Every IsSite ss → place_in (row place_site s (map (first_place c) ss)) ≡ Some p → PlaceCovers c [] s p
-first_places c [] s p h e = absurd (none_place p e)
-first_places c (t ∷ ts) s p h e =
-    (elim (t == s) as (λ b. (t == s) ≡ b → place_in (elim b [ true ↦ Some (first_place c t) | false ↦ row place_site s (map (first_place c) ts) ]) ≡ Some p → PlaceCovers c [] s p) [
-      | true ↦ λ q f. subst (λ (n : ℕ). PlaceCovers c [] n p) (equal t s q) (subst (PlaceCovers c [] t) (some_eq (Running (fresh 1 (formatted c t))) p f) (first_site c t h.0))
-      | false ↦ λ q f. first_places c ts s p h.1 f
-    ]) refl e
-
-kept_sites : (P : ℕ → Type 0) (test : ℕ → Bool) (xs : List ℕ) → Every P xs → Every P (filter test xs)
-kept_sites P test [] h = tt
-kept_sites P test (x ∷ xs) h = elim (test x) as (λ b. Every P (cond b (x ∷ filter test xs) (filter test xs))) [ true ↦ (h.0, kept_sites P test xs h.1) | false ↦ kept_sites P test xs h.1 ]
-
--- the numbers from this one on, up to sixteen
-sites_from : (low : ℕ) (xs : List ℕ) → CountsFrom low xs → 1 ≤ low → low + length xs ≤ sites_max + 1 → Every IsSite xs
-sites_from low [] r h g = tt
-sites_from low (x ∷ xs) r h g = (record { low = (let e : x ≡ low = r.0 in omega (arith, e, h)); high = (let e : x ≡ low = r.0 in omega (arith, e, g)) }, sites_from (low + 1) xs r.1 (omega (arith, h)) (omega (arith, g)))
-
 first_covers : (c : Config) → WorldCovers c (first_world c)
 first_covers c = record {
   numbered = tt;
   once = λ file. tt;
   fit = λ s file n m. absurd m;
   synced = λ e key file r. absurd r;
-  places = λ s p here. first_places c _ s p (kept_sites IsSite (λ t. nat_lt t (c.sites + 1)) all_sites (sites_from 1 all_sites sites_count (omega arith) (omega arith))) here;
+  places = first_places c (PlaceCovers c []) (λ s own. first_site c s (record { low = own.0.0; high = own.0.1 }));
   packets = tt;
   underway = tt;
 }

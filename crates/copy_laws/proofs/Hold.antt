@@ -5,11 +5,11 @@ use Rattle.schedule_lines.specs.declared.line.ScheduleLine.{ScheduleLine}
 use Rattle.the_run.specs.Runs.{run_in}
 use Rattle.vector_laws.proofs.Held.{run_copies}
 use Rattle.vector_laws.proofs.FactsRun.{run_numbered}
-use Rattle.kept_laws.proofs.of_pack_laws.InstanceAgree.{run_agrees}
-use Rattle.kept_laws.proofs.of_pack_laws.InodeFitsRun.{run_fits}
-use Rattle.kept_laws.proofs.RootsRun.{run_roots}
-use Rattle.kept_laws.proofs.NamesRun.{run_named}
-use Rattle.kept_laws.proofs.Hold.{run_kept_hold}
+use Rattle.rest_laws.proofs.of_kept_laws.of_pack_laws.InstanceAgree.{run_agrees}
+use Rattle.rest_laws.proofs.of_kept_laws.of_pack_laws.InodeFitsRun.{run_fits}
+use Rattle.rest_laws.proofs.of_kept_laws.RootsRun.{run_roots}
+use Rattle.rest_laws.proofs.of_kept_laws.NamesRun.{run_named}
+use Rattle.rest_laws.proofs.of_kept_laws.Hold.{run_kept_hold}
 use Rattle.rest_laws.specs.of_order_laws.Joining.{PacksAreOfSites}
 use Rattle.rest_laws.specs.of_row_laws.Voids.{LinesFit}
 use Rattle.copy_laws.specs.Hold.{VersionsAndCopiesHold, VersionsStand}

@@ -10,18 +10,18 @@ use Rattle.the_run.specs.Runs.{run_in}
 use Rattle.the_run.proofs.OneList.{one_list}
 use Rattle.vector_laws.specs.Written.{past_of}
 use Rattle.vector_laws.proofs.HistorySited.{run_sited}
-use Rattle.kept_laws.proofs.of_pack_laws.InstanceAgree.{run_agrees}
-use Rattle.kept_laws.proofs.of_pack_laws.InodeFitsRun.{run_fits}
-use Rattle.kept_laws.specs.of_lock_laws.Joins.{WasJoined}
-use Rattle.kept_laws.proofs.of_lock_laws.JoinsRun.{run_joins_once}
-use Rattle.kept_laws.proofs.of_lock_laws.FactsRun.{run_goes}
-use Rattle.kept_laws.proofs.of_pack_laws.PacksRun.{run_packs}
-use Rattle.kept_laws.proofs.of_make_laws.RunningOneSite.{run_one_site}
-use Rattle.kept_laws.proofs.of_make_laws.RunningRefusals.{run_plain_grants}
-use Rattle.kept_laws.proofs.of_make_laws.FreshRun.{run_fresh}
-use Rattle.kept_laws.proofs.of_make_laws.Modes.{run_reserved, run_modes}
-use Rattle.kept_laws.proofs.of_make_laws.LockedRun.{run_locked}
-use Rattle.kept_laws.specs.StampLaws.{Laws}
+use Rattle.rest_laws.proofs.of_kept_laws.of_pack_laws.InstanceAgree.{run_agrees}
+use Rattle.rest_laws.proofs.of_kept_laws.of_pack_laws.InodeFitsRun.{run_fits}
+use Rattle.rest_laws.specs.of_kept_laws.of_lock_laws.Joins.{WasJoined}
+use Rattle.rest_laws.proofs.of_kept_laws.of_lock_laws.JoinsRun.{run_joins_once}
+use Rattle.rest_laws.proofs.of_kept_laws.of_lock_laws.FactsRun.{run_goes}
+use Rattle.rest_laws.proofs.of_kept_laws.of_pack_laws.PacksRun.{run_packs}
+use Rattle.rest_laws.proofs.of_kept_laws.of_make_laws.RunningOneSite.{run_one_site}
+use Rattle.rest_laws.proofs.of_kept_laws.of_make_laws.RunningRefusals.{run_plain_grants}
+use Rattle.rest_laws.proofs.of_kept_laws.of_make_laws.FreshRun.{run_fresh}
+use Rattle.rest_laws.proofs.of_kept_laws.of_make_laws.Modes.{run_reserved, run_modes}
+use Rattle.rest_laws.proofs.of_kept_laws.of_make_laws.LockedRun.{run_locked}
+use Rattle.rest_laws.specs.of_kept_laws.StampLaws.{Laws}
 
 joined_line : (s : ℕ) (id : EpochId) (m : Members) (trace : List Line) → WasJoined (past_of trace) s id m → Joined s id m trace
 joined_line s id m [] h = absurd h

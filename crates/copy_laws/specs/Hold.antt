@@ -4,9 +4,9 @@ use Rattle.the_run.specs.Worlds.{World}
 use Rattle.vector_laws.specs.Held.{CopiesAreTold}
 use Rattle.vector_laws.specs.Written.{past_of, CommitsAreNumbered}
 use Rattle.vector_laws.specs.HistoryCommits.{NumbersFit}
-use Rattle.kept_laws.specs.Known.{NamesAreVersions}
-use Rattle.kept_laws.specs.Roots.{RootsFollow}
-use Rattle.kept_laws.specs.Kept.{KeptVersionsHold}
+use Rattle.rest_laws.specs.of_kept_laws.Known.{NamesAreVersions}
+use Rattle.rest_laws.specs.of_kept_laws.Roots.{RootsFollow}
+use Rattle.rest_laws.specs.of_kept_laws.Kept.{KeptVersionsHold}
 use Rattle.copy_laws.specs.Contents.{CopiesHaveContents}
 
 pub record VersionsStand (c : Config) (w : World) : Type 0 where

@@ -32,7 +32,7 @@ use Rattle.tree_laws.specs.Following.{IsFollowed}
 use Rattle.tree_laws.specs.Instances.{instance_now}
 use Rattle.tree_laws.specs.Printed.{entries}
 use Rattle.tree_laws.proofs.Descriptors.{uses_from}
-use Rattle.order_laws.proofs.ProcessBegun.{comes_from}
+use Rattle.rest_laws.proofs.of_order_laws.ProcessBegun.{comes_from}
 use Rattle.rest_laws.proofs.of_store_laws.ScriptFitted.{Began, began}
 use Rattle.rest_laws.proofs.of_store_laws.AnswerAskers.{op_had}
 use Rattle.fit_laws.proofs.CalmAskingInserting.{unpacked}

@@ -58,8 +58,8 @@ use Rattle.tree_laws.proofs.Alone.{asking}
 use Rattle.tree_laws.proofs.Answered.{asker_unnamed}
 use Rattle.tree_laws.proofs.CarriedLooks.{one_epoch}
 use Rattle.tree_laws.proofs.Holding.{Script}
-use Rattle.order_laws.specs.Joining.{PacksAreOfSites}
-use Rattle.order_laws.proofs.Lists.{all_then}
+use Rattle.rest_laws.specs.of_order_laws.Joining.{PacksAreOfSites}
+use Rattle.rest_laws.proofs.of_order_laws.Lists.{all_then}
 use Rattle.rest_laws.proofs.of_store_laws.Places.{open_is}
 use Rattle.rest_laws.specs.StoreStepKnown.{IsKnownCall}
 use Rattle.rest_laws.proofs.StoreStepCounters.{counter_low}

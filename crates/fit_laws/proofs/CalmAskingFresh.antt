@@ -33,7 +33,7 @@ use Rattle.tree_laws.proofs.Alone.{asking}
 use Rattle.tree_laws.proofs.Answered.{asker_unnamed}
 use Rattle.tree_laws.proofs.Owing.{InGroup, found_every, in_group}
 use Rattle.tree_laws.proofs.Owners.{granted_same}
-use Rattle.order_laws.specs.Joining.{PacksAreOfSites}
+use Rattle.rest_laws.specs.of_order_laws.Joining.{PacksAreOfSites}
 use Rattle.rest_laws.proofs.of_store_laws.AnswerAnswering.{acter_in}
 use Rattle.rest_laws.proofs.of_store_laws.AnswerDone.{done_named}
 use Rattle.rest_laws.proofs.of_one_tree_laws.RemovePlaced.{DoneSo, Taken, done_placed, taken_so}

@@ -29,8 +29,8 @@ use Rattle.tree_laws.proofs.Grants.{Had, before_record, open_named}
 use Rattle.tree_laws.proofs.Kinship.{Ends, GoesOnTold, StaysOpen, open_stays, tree_epoch_is}
 use Rattle.tree_laws.proofs.Names.{same_epoch_eq, same_serial_eq, same_epoch_own, same_serial_own}
 use Rattle.tree_laws.proofs.Opened.{ActsOn, CommitsOn, GrantsIt}
-use Rattle.order_laws.proofs.ProcessCounted.{acts_now}
-use Rattle.order_laws.proofs.ProcessOpen.{granted_begins}
+use Rattle.rest_laws.proofs.of_order_laws.ProcessCounted.{acts_now}
+use Rattle.rest_laws.proofs.of_order_laws.ProcessOpen.{granted_begins}
 use Rattle.rest_laws.proofs.of_holding_laws.Distinct.{open_now}
 use Rattle.rest_laws.proofs.of_holding_laws.Released.{released_shut}
 use Rattle.rest_laws.proofs.of_store_laws.AnswerDone.{open_grant}

@@ -28,7 +28,7 @@ use Rattle.tree_model.specs.Working.{effect_on, operated_by, work_after}
 use Rattle.tree_laws.specs.Following.{IsFollowed}
 use Rattle.tree_laws.specs.Instances.{instance_now}
 use Rattle.tree_laws.specs.Printed.{entries}
-use Rattle.order_laws.proofs.Standing.{acted_keeps}
+use Rattle.rest_laws.proofs.of_order_laws.Standing.{acted_keeps}
 use Rattle.rest_laws.proofs.of_holding_laws.Turning.{acted_last}
 use Rattle.fit_laws.proofs.CalmAskingInstances.{Keeps, keeps}
 

@@ -32,8 +32,8 @@ use Rattle.tree_laws.specs.Following.{IsFollowed}
 use Rattle.tree_laws.specs.Instances.{instance_now}
 use Rattle.tree_laws.specs.Printed.{entries}
 use Rattle.tree_laws.proofs.Descriptors.{IsUser}
-use Rattle.order_laws.proofs.ProcessGranting.{GrantIs, granted_is}
-use Rattle.order_laws.proofs.ProcessHad.{begun_user}
+use Rattle.rest_laws.proofs.of_order_laws.ProcessGranting.{GrantIs, granted_is}
+use Rattle.rest_laws.proofs.of_order_laws.ProcessHad.{begun_user}
 use Rattle.rest_laws.proofs.of_store_laws.Places.{open_is}
 use Rattle.rest_laws.proofs.of_store_laws.ScriptFitted.{Began, began}
 use Rattle.rest_laws.proofs.of_store_laws.ScriptLasting.{OpensSo, open_so}

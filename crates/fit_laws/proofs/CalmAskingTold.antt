@@ -36,7 +36,7 @@ use Rattle.tree_laws.specs.Printed.{entries}
 use Rattle.tree_laws.proofs.Asking.{StepRecord}
 use Rattle.tree_laws.proofs.Awaiting.{by_own, by_owner, last_same}
 use Rattle.tree_laws.proofs.Hearing.{Hears, hears, wants_as_asked}
-use Rattle.order_laws.proofs.Standing.{same_file_eq}
+use Rattle.rest_laws.proofs.of_order_laws.Standing.{same_file_eq}
 use Rattle.rest_laws.proofs.of_store_laws.AnswerAnswering.{acter_in}
 use Rattle.fit_laws.proofs.CalmAskingSources.{Source, stands}
 

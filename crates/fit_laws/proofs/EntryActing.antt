@@ -52,10 +52,10 @@ use Rattle.tree_laws.proofs.CarriedLooks.{one_epoch}
 use Rattle.tree_laws.proofs.Descriptors.{IsUser, are_users}
 use Rattle.tree_laws.proofs.Fresh.{IsNamed}
 use Rattle.tree_laws.proofs.Holding.{Script}
-use Rattle.order_laws.specs.Joining.{PacksAreOfSites}
-use Rattle.order_laws.proofs.Standing.{same_file_eq}
-use Rattle.order_laws.proofs.ProcessBegun.{comes_from}
-use Rattle.order_laws.proofs.ProcessGranting.{GrantIs, granted_is}
+use Rattle.rest_laws.specs.of_order_laws.Joining.{PacksAreOfSites}
+use Rattle.rest_laws.proofs.of_order_laws.Standing.{same_file_eq}
+use Rattle.rest_laws.proofs.of_order_laws.ProcessBegun.{comes_from}
+use Rattle.rest_laws.proofs.of_order_laws.ProcessGranting.{GrantIs, granted_is}
 use Rattle.rest_laws.proofs.of_store_laws.ScriptFitted.{Began, began}
 use Rattle.rest_laws.proofs.of_store_laws.ScriptNaming.{Opens, RereadsIn, script_by}
 use Rattle.rest_laws.proofs.of_store_laws.Places.{GrantedSo as IsGrantedSo, instance_granted, open_is}

@@ -30,7 +30,7 @@ use Rattle.dir_reconcile.proofs.Directories.{all_joined, dir_joined}
 use Rattle.dir_reconcile.proofs.Revived.{dir_rescued}
 use Rattle.file_content.specs.Pages.{pages_replaced}
 use Rattle.file_effects.specs.Effects.{As, Deed, Effect, Mends, Removes, effect, in_directory, is_worded, on_directory, puts, tells}
-use Rattle.order_laws.proofs.Lists.{all_found}
+use Rattle.rest_laws.proofs.of_order_laws.Lists.{all_found}
 
 -- each entry has a number and a kind of this sort
 abbrev pub AllNamed : (ℕ → Kind → Type 0) → List Entry → Type 0

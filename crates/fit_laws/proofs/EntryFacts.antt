@@ -38,7 +38,7 @@ use Rattle.tree_laws.proofs.Histories.{stands_more}
 use Rattle.tree_laws.proofs.Origins.{kind_same}
 use Rattle.tree_laws.proofs.Scripts as scripts
 use Rattle.tree_laws.proofs.Scripts.{in_stays}
-use Rattle.order_laws.proofs.Lists.{all_then}
+use Rattle.rest_laws.proofs.of_order_laws.Lists.{all_then}
 use Rattle.rest_laws.proofs.of_holding_laws.OneVersionHomes.{no_root}
 use Rattle.fit_laws.specs.EntryEntries.{EntriesName, IsEntered, IsMail, MakesMessage, NamesFile}
 

@@ -33,12 +33,12 @@ use Rattle.tree_laws.specs.Printed.{entries, onto_entries}
 use Rattle.tree_laws.proofs.CarriedLooks.{one_epoch}
 use Rattle.tree_laws.proofs.Histories.{stands_more}
 use Rattle.tree_laws.proofs.Rows.{followed_rows}
-use Rattle.order_laws.specs.Joining.{PacksAreOfSites}
-use Rattle.order_laws.proofs.Knowing.{versions_stand}
-use Rattle.order_laws.proofs.Lists.{all_found}
+use Rattle.rest_laws.specs.of_order_laws.Joining.{PacksAreOfSites}
+use Rattle.rest_laws.proofs.of_order_laws.Knowing.{versions_stand}
+use Rattle.rest_laws.proofs.of_order_laws.Lists.{all_found}
 use Rattle.rest_laws.specs.of_holding_laws.Held.{StandsOnHeld}
 use Rattle.rest_laws.proofs.of_holding_laws.Holding.{stands_on_held}
-use Rattle.order_laws.proofs.ProcessGranting.{released_named}
+use Rattle.rest_laws.proofs.of_order_laws.ProcessGranting.{released_named}
 use Rattle.rest_laws.proofs.of_holding_laws.OneVersionFirsts.{MakesFirst, makes_first}
 use Rattle.rest_laws.proofs.of_holding_laws.OneVersionHomes.{no_root}
 use Rattle.rest_laws.proofs.of_store_laws.Places.{open_is}

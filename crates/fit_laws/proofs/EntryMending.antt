@@ -30,7 +30,7 @@ use Rattle.tree_laws.specs.Printed.{entries, onto_entries}
 use Rattle.tree_laws.specs.Users.{BringsFor, WaitingFact, own_call, taken_whole}
 use Rattle.tree_laws.specs.Calls.{log}
 use Rattle.tree_laws.proofs.Scripts.{named_stays}
-use Rattle.order_laws.specs.Joining.{PacksAreOfSites}
+use Rattle.rest_laws.specs.of_order_laws.Joining.{PacksAreOfSites}
 use Rattle.rest_laws.specs.of_one_tree_laws.Places.{InsideFact}
 use Rattle.fit_laws.specs.EntryEntries.{EntriesName}
 use Rattle.fit_laws.proofs.EntryFacts.{With}

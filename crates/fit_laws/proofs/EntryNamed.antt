@@ -74,10 +74,10 @@ use Rattle.tree_laws.proofs.Kinship.{tree_epoch_is}
 use Rattle.tree_laws.proofs.Owing.{InGroup, found_every, in_group}
 use Rattle.tree_laws.proofs.Names.{same_epoch_eq}
 use Rattle.tree_laws.proofs.Scripts.{in_stays}
-use Rattle.order_laws.specs.Joining.{PacksAreOfSites}
-use Rattle.order_laws.proofs.Keeping.{file_eq}
-use Rattle.order_laws.proofs.Lists.{all_filtered, all_more, all_then, all_without}
-use Rattle.order_laws.proofs.Standing.{newest, same_file_eq}
+use Rattle.rest_laws.specs.of_order_laws.Joining.{PacksAreOfSites}
+use Rattle.rest_laws.proofs.of_order_laws.Keeping.{file_eq}
+use Rattle.rest_laws.proofs.of_order_laws.Lists.{all_filtered, all_more, all_then, all_without}
+use Rattle.rest_laws.proofs.of_order_laws.Standing.{newest, same_file_eq}
 use Rattle.rest_laws.proofs.of_holding_laws.Distinct.{open_now}
 use Rattle.rest_laws.proofs.of_holding_laws.Made.{filter_one}
 use Rattle.rest_laws.proofs.of_holding_laws.OneVersionFirsts.{MakesFirst, commit_called, makes_first}

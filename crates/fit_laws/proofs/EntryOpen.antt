@@ -29,8 +29,8 @@ use Rattle.tree_laws.specs.Following.{IsFollowed}
 use Rattle.tree_laws.specs.Instances.{instance_now}
 use Rattle.tree_laws.specs.Printed.{entries}
 use Rattle.tree_laws.proofs.Fresh.{IsNamed}
-use Rattle.order_laws.specs.Joining.{PacksAreOfSites}
-use Rattle.order_laws.proofs.Lists.{all_found, all_then}
+use Rattle.rest_laws.specs.of_order_laws.Joining.{PacksAreOfSites}
+use Rattle.rest_laws.proofs.of_order_laws.Lists.{all_found, all_then}
 use Rattle.rest_laws.proofs.of_holding_laws.OneVersionFirsts.{IsFirst, MakesFirst, makes_first, uncalled}
 use Rattle.fit_laws.specs.EntryEntries.{EntriesName, IsLeftMessage, MakesMessage, NamesFile}
 use Rattle.fit_laws.proofs.EntryActing.{inserted_first, inserted_named}

@@ -40,5 +40,6 @@ pub mod CalmAskingOpened
 pub mod CalmAskingAsking
 pub mod CalmAskingFresh
 pub mod CalmAskingDoing
-pub use Rattle.order_laws.proofs as of_order_laws
+pub use Rattle.rest_laws.proofs.of_order_laws as of_order_laws
 pub use Rattle.rest_laws.proofs as of_rest_laws
+pub use Rattle.rest_laws.proofs.of_kept_laws as of_kept_laws

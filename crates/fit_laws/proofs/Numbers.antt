@@ -16,7 +16,7 @@ use Rattle.rest_laws.specs.of_pack_laws.Making.{IsOwnNumber, NotEmpty, Originate
 use Rattle.rest_laws.specs.of_pack_laws.Packs.{ToldPacked}
 use Rattle.tree_model.specs.Histories.{format_version, format_versions, history}
 use Rattle.tree_laws.specs.Printed.{entries, onto_entries}
-use Rattle.order_laws.proofs.Standing.{same_file_eq}
+use Rattle.rest_laws.proofs.of_order_laws.Standing.{same_file_eq}
 use Rattle.rest_laws.specs.of_one_tree_laws.Rest.{EachRest, RestTold}
 use Rattle.fit_laws.specs.Inodes.{IsInodeNumber}
 

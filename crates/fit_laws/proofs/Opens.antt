@@ -31,7 +31,7 @@ use Rattle.the_run.specs.Kept.{WasSent}
 use Rattle.the_run.specs.Runs.{run_in}
 use Rattle.the_run.specs.Worlds.{Numbered}
 use Rattle.rest_laws.specs.of_row_laws.Voids.{LinesFit}
-use Rattle.order_laws.specs.Joining.{PacksAreOfSites}
+use Rattle.rest_laws.specs.of_order_laws.Joining.{PacksAreOfSites}
 use Rattle.tree_laws.specs.Packets.{BodyFact}
 use Rattle.rest_laws.proofs.of_one_tree_laws.Run.{sent_fact}
 use Rattle.fit_laws.specs.Opens.{OpensForSite}

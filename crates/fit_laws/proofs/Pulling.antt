@@ -28,7 +28,7 @@ use Rattle.tree_laws.specs.Instances.{IsVersion as IsOfFile}
 use Rattle.tree_laws.specs.Doing.{StoreHeld}
 use Rattle.tree_laws.specs.Packets.{BodyFact}
 use Rattle.tree_laws.specs.Stores.{PullFact}
-use Rattle.order_laws.specs.Joining.{PacksAreOfSites}
+use Rattle.rest_laws.specs.of_order_laws.Joining.{PacksAreOfSites}
 use Rattle.rest_laws.specs.of_one_tree_laws.Places.{InsideFact}
 use Rattle.rest_laws.specs.of_one_tree_laws.Rest.{Past}
 use Rattle.rest_laws.proofs.of_one_tree_laws.Run.{sent_fact}

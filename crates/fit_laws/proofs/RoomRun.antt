@@ -1,5 +1,5 @@
 -- In every run the packs of each site have room.
-use Rattle.std.proofs.Common.{◌≡◌, ◌≤◌, ℕ, ◌+◌, ◌==◌, nat_lt, Bool, true, false, cond, List, [], ◌∷◌, length, map, filter, Option, None, Some, refl, sym, ◌∙◌, ap, subst, arith}
+use Rattle.std.proofs.Common.{◌≡◌, ◌≤◌, ℕ, ◌+◌, ◌==◌, Bool, true, false, cond, List, [], ◌∷◌, length, map, Option, None, Some, refl, sym, ◌∙◌, ap, subst, arith}
 use Rattle.locus_ids.specs.declared.config.Config.{Config}
 use Rattle.locus_ids.specs.declared.ids.Serial.{Serial}
 use Rattle.locus_ids.specs.declared.sites.Links.{Links}
@@ -7,11 +7,10 @@ use Rattle.locus_ids.specs.Sizes.{pack_pages}
 use Rattle.schedule_lines.specs.declared.line.ScheduleLine.{ScheduleLine}
 use Rattle.trace_book.specs.declared.record.Record.TheVariants as says
 use Rattle.wire_messages.specs.declared.packet.Packet.{Packet}
-use Rattle.role_steps.specs.Own.{Every}
 use Rattle.role_steps.specs.Epochs.{frame_in}
 use Rattle.role_steps.specs.Storage.{copy_key, copy_pages, changed_pages, instance_key, instance_of}
 use Rattle.role_steps.specs.Tables.{row, total, with_row}
-use Rattle.role_steps.specs.Views.{DiskWrite, Event, Frame, Outcome, Receives, Shown, SiteView, Store, Ticks, Told, all_sites, serial_key}
+use Rattle.role_steps.specs.Views.{DiskWrite, Event, Frame, Outcome, Receives, Shown, SiteView, Store, Ticks, Told, serial_key}
 use Rattle.role_steps.specs.declared.copies.FileCopy.{FileCopy}
 use Rattle.role_steps.specs.declared.instances.Instance.{Instance}
 use Rattle.role_steps.specs.declared.instances.Stage.TheVariants as stage
@@ -19,14 +18,14 @@ use Rattle.role_steps.specs.declared.rounds.InEpoch.{InEpoch}
 use Rattle.the_run.specs.Disks.{Armed, Booted, CutOff, Disk, Whole, boots, cut_disk, is_on_disk}
 use Rattle.the_run.specs.Runs.{boots_as, packet_record, rearms, run_in}
 use Rattle.the_run.specs.Steps.{step}
-use Rattle.the_run.specs.Worlds.{Line, Place, PlaceRow, Running, Stopped, World, acts, arms, cut_told, disk_of, first_place, first_world, formatted, fresh, happened, links_of, place_at, place_in, place_site, puts, root_copy, script_of, stops_with}
+use Rattle.the_run.specs.Worlds.{Line, Place, Running, Stopped, World, acts, arms, cut_told, disk_of, first_world, formatted, fresh, happened, links_of, place_at, puts, root_copy, script_of, stops_with}
 use Rattle.the_run.proofs.Boots.{acts_cases, at_each}
 use Rattle.the_run.proofs.Events.{happened_keeps, puts_other, puts_same}
 use Rattle.rest_laws.specs.of_row_laws.ByLine.{KeptIn}
 use Rattle.rest_laws.specs.of_row_laws.Voids.{LinesFit}
 use Rattle.rest_laws.proofs.of_row_laws.ByLine.{every_line}
 use Rattle.rest_laws.proofs.of_vector_laws.Held.{KeepsCopies, boots_copies}
-use Rattle.order_laws.specs.Joining.{PacksAreOfSites}
+use Rattle.rest_laws.specs.of_order_laws.Joining.{PacksAreOfSites}
 use Rattle.tree_laws.specs.Doing.{FrameFact, StoreHeld}
 use Rattle.tree_laws.specs.Stores.{Ascends, InstanceFact, StageFact}
 use Rattle.rest_laws.specs.of_one_tree_laws.Places.{SiteFact, SiteIn, WorldFact}
@@ -38,6 +37,7 @@ use Rattle.rest_laws.proofs.of_one_tree_laws.Run.{arrives_fact, event_fact, firs
 use Rattle.rest_laws.proofs.of_one_tree_laws.Staying.{stays}
 use Rattle.rest_laws.proofs.of_one_tree_laws.Worlds.{Holds}
 use Rattle.rest_laws.proofs.Roles.{roles_do}
+use Rattle.rest_laws.proofs.of_vector_laws.of_law_walks.FirstWorld.{first_places}
 use Rattle.fit_laws.specs.Room.{RoomFits}
 use Rattle.fit_laws.proofs.RoomSites.{SiteRooms, step_room}
 use Rattle.fit_laws.proofs.RoomStore.{FitsHere, StoreGood, WriteRoom}
@@ -185,19 +185,8 @@ formatted_fits c s g = nothing (total (copy_pages g) (formatted c s)) (root_page
     nothing : (n : ℕ) → n ≡ 0 → n + 0 ≤ pack_pages
     nothing n e = omega (arith, e)
 
-first_rows : (c : Config) (ss : List ℕ) → Every (λ (r : PlaceRow). PlaceRoom r.place) (map (first_place c) ss)
-first_rows c [] = tt
-first_rows c (s ∷ ss) = (formatted_fits c s, first_rows c ss)
-
-none_place : (p : Place) → ◌≡◌ {A = Option Place} None (Some p) → ⊥
-none_place p e = cc
-
-place_found : (xs : List PlaceRow) (s : ℕ) (p : Place) → Every (λ (r : PlaceRow). PlaceRoom r.place) xs → (o : Option PlaceRow) → row place_site s xs ≡ o → place_in o ≡ Some p → PlaceRoom p
-place_found xs s p h None e k = absurd (none_place p k)
-place_found xs s p h (Some r) e k = subst PlaceRoom (some_place r.place p k) (every_among (λ (x : PlaceRow). PlaceRoom x.place) r xs (row_key place_site s xs r e).0 h)
-
 pub first_room : (c : Config) → Roomy c (first_world c)
-first_room c r s p e = place_found (first_world c).places s p (first_rows c (filter (λ (t : ℕ). nat_lt t (c.sites + 1)) all_sites)) (row place_site s (first_world c).places) refl e
+first_room c r = first_places c (λ s. PlaceRoom) (λ s own. formatted_fits c s)
 
 -- ---- every run ----
 

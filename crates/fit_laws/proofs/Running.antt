@@ -8,7 +8,7 @@ use Rattle.role_steps.specs.declared.rounds.InEpoch.{InEpoch}
 use Rattle.the_run.specs.Runs.{run_in}
 use Rattle.the_run.specs.Worlds.{Running, place_at}
 use Rattle.rest_laws.specs.of_row_laws.Voids.{LinesFit}
-use Rattle.order_laws.specs.Joining.{PacksAreOfSites}
+use Rattle.rest_laws.specs.of_order_laws.Joining.{PacksAreOfSites}
 use Rattle.rest_laws.specs.of_one_tree_laws.Places.{InsideFact, SiteIn}
 use Rattle.fit_laws.specs.Storing.{AreStorable}
 use Rattle.fit_laws.proofs.RoomRun.{run_room}

@@ -28,7 +28,7 @@ use Rattle.tree_model.specs.Opening.{sites_made}
 use Rattle.tree_model.specs.Packs.{no_sites, packs_of}
 use Rattle.tree_laws.specs.Instances.{Stands}
 use Rattle.tree_laws.specs.Printed.{entries, onto_entries}
-use Rattle.order_laws.proofs.Standing.{same_file_eq}
+use Rattle.rest_laws.proofs.of_order_laws.Standing.{same_file_eq}
 use Rattle.rest_laws.specs.of_one_tree_laws.Rest.{EachRest, Past, RangeCall}
 use Rattle.rest_laws.specs.StoreStepKnown.{IsKnownCall}
 use Rattle.rest_laws.proofs.StoreStepKnown.{known_call}

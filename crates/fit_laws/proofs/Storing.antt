@@ -40,7 +40,7 @@ use Rattle.tree_laws.specs.Past.{BeginsIt, ReservesIt, WasBegun, WasReserved}
 use Rattle.tree_laws.specs.Instances.{held_in}
 use Rattle.tree_laws.specs.Printed.{entries}
 use Rattle.tree_laws.specs.Stores.{InstanceFact, LiesAs, RunsAs, StageFact, WorksAs, copy_for}
-use Rattle.order_laws.proofs.Lists.{all_found}
+use Rattle.rest_laws.proofs.of_order_laws.Lists.{all_found}
 use Rattle.rest_laws.specs.of_store_laws.Rests.{StandsOnHeld, StoreRests}
 use Rattle.rest_laws.proofs.of_store_laws.Raising.{joins_greatest, length_raised, raised_other, raised_same, sixteen}
 use Rattle.rest_laws.proofs.StoreStepCounters.{counter_low}

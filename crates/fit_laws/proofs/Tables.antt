@@ -13,7 +13,7 @@ use Rattle.role_steps.specs.declared.synchronizing.SyncTable.{SyncTable}
 use Rattle.the_run.specs.Runs.{run_in}
 use Rattle.the_run.specs.Worlds.{Line, Running, place_at}
 use Rattle.rest_laws.specs.of_row_laws.Voids.{LinesFit}
-use Rattle.order_laws.specs.Joining.{PacksAreOfSites}
+use Rattle.rest_laws.specs.of_order_laws.Joining.{PacksAreOfSites}
 use Rattle.tree_laws.specs.Packets.{file_in}
 use Rattle.tree_laws.specs.Tables.{FileFact, TableFact}
 use Rattle.rest_laws.specs.of_one_tree_laws.Places.{SiteIn, WorldFact}

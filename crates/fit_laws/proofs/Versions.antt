@@ -22,7 +22,7 @@ use Rattle.tree_model.specs.Histories.{format_stamp, format_version, format_vers
 use Rattle.tree_laws.specs.Following.{IsFollowed, MayTell}
 use Rattle.tree_laws.specs.Instances.{Stands}
 use Rattle.tree_laws.specs.Printed.{entries, onto_entries}
-use Rattle.order_laws.proofs.Standing.{same_file_eq, same_stamp_eq}
+use Rattle.rest_laws.proofs.of_order_laws.Standing.{same_file_eq, same_stamp_eq}
 use Rattle.rest_laws.specs.of_one_tree_laws.Rest.{EachRest, Past, RestTold}
 use Rattle.rest_laws.proofs.of_store_laws.Raising.{part_written}
 use Rattle.rest_laws.proofs.StoreStepCounters.{counter_low}

@@ -16,7 +16,7 @@ ghost use Rattle.tree_laws.specs.Following.{IsFollowed};
 ghost use Rattle.tree_laws.specs.Instances.{instance_now};
 ghost use Rattle.tree_laws.specs.Packets.{OpsNow};
 ghost use Rattle.tree_laws.specs.Printed.{entries};
-ghost use Rattle.order_laws.specs.Joining.{PacksAreOfSites};
+ghost use Rattle.rest_laws.specs.of_order_laws.Joining.{PacksAreOfSites};
 ghost use Rattle.rest_laws.specs.of_one_tree_laws.Rest.{Past};
 ghost use Rattle.fit_laws.specs.EntryEntries.{WasInserted};
 ghost use Rattle.fit_laws.specs.CalmAskingAsked.{IsDoable};

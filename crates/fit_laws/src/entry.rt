@@ -24,7 +24,7 @@ ghost use Rattle.tree_laws.specs.Calls.{Asks};
 ghost use Rattle.tree_laws.specs.Following.{IsFollowed};
 ghost use Rattle.tree_laws.specs.Instances.{instance_now};
 ghost use Rattle.tree_laws.specs.Printed.{entries};
-ghost use Rattle.order_laws.specs.Joining.{PacksAreOfSites};
+ghost use Rattle.rest_laws.specs.of_order_laws.Joining.{PacksAreOfSites};
 ghost use Rattle.fit_laws.specs.EntryEntries.{EntriesName, IsLeftMessage, NamesFile};
 
 /// Wherever all that was told came as it may, each entry of each version of a directory, and of what an open instance of a directory works on,

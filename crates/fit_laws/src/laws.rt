@@ -15,7 +15,7 @@ ghost use Rattle.the_run.specs.Kept.{WasSent};
 ghost use Rattle.the_run.specs.Steps.{step};
 ghost use Rattle.the_run.specs.Worlds.{Line, Numbered, Running, place_at};
 ghost use Rattle.rest_laws.specs.of_row_laws.Voids.{LinesFit};
-ghost use Rattle.order_laws.specs.Joining.{PacksAreOfSites};
+ghost use Rattle.rest_laws.specs.of_order_laws.Joining.{PacksAreOfSites};
 ghost use Rattle.tree_model.specs.Files.{version_of};
 ghost use Rattle.tree_laws.specs.Doing.{FrameFact, StoreHeld};
 ghost use Rattle.tree_laws.specs.Instances.{Stands};

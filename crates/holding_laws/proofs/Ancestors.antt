@@ -2,7 +2,7 @@
 -- list stands one that none of the list is above.
 use Rattle.std.proofs.Common.{◌≡◌, Bool, true, false, not, ◌&&◌, ◌||◌, cond, List, [], ◌∷◌, filter, refl, sym, ap, ◌∙◌, subst, ◌⊎◌, inl, inr}
 use Rattle.std.specs.List.{AllByRecursion, list_any}
-use Rattle.role_steps.proofs.of_plain_facts.Tests.{and_first, or_either, or_second, true_false}
+use Rattle.pack_laws.proofs.of_role_steps.of_plain_facts.Tests.{and_first, or_either, or_second, true_false}
 use Rattle.locus_ids.specs.declared.ids.FileId.{FileId}
 use Rattle.locus_ids.specs.declared.ids.Stamp.{Stamp}
 use Rattle.commit_graph.specs.declared.history.Version.{Version}

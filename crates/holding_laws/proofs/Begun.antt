@@ -1,9 +1,9 @@
 -- What was granted is begun by its storage site, or it is open as it was granted.
 use Rattle.std.proofs.Common.{◌≡◌, ℕ, ◌==◌, Bool, true, false, not, ◌&&◌, cond, List, [], ◌∷◌, ◌++◌, Option, Some, None, refl, sym, ap, ◌∙◌, subst, ◌⊎◌, inl, inr}
 use Rattle.std.specs.List.{find}
-use Rattle.role_steps.proofs.of_plain_facts.Numbers.{equal, equal_self}
-use Rattle.role_steps.proofs.of_plain_facts.Options.{none_some, some_same}
-use Rattle.role_steps.proofs.of_plain_facts.Tests.{and_first, and_second, true_false}
+use Rattle.pack_laws.proofs.of_role_steps.of_plain_facts.Numbers.{equal, equal_self}
+use Rattle.pack_laws.proofs.of_role_steps.of_plain_facts.Options.{none_some, some_same}
+use Rattle.pack_laws.proofs.of_role_steps.of_plain_facts.Tests.{and_first, and_second, true_false}
 use Rattle.locus_ids.specs.declared.config.Config.{Config}
 use Rattle.locus_ids.specs.declared.ids.CallId.{CallId}
 use Rattle.locus_ids.specs.declared.ids.EpochId.{EpochId}
@@ -17,29 +17,29 @@ use Rattle.commit_graph.specs.Versions.{same_file}
 use Rattle.trace_book.specs.Same.{same_epoch, same_serial}
 use Rattle.trace_book.specs.declared.record.Record.{Record}
 use Rattle.trace_book.specs.declared.record.Record.TheVariants as says
-use Rattle.file_effects.specs.Works.{begun}
-use Rattle.file_effects.specs.declared.work.Work.{Work}
-use Rattle.role_steps.specs.Views.{Told, Shown, Shuts}
-use Rattle.tree_laws.specs.of_the_run.Worlds.{Line}
+use Rattle.tree_model.specs.of_file_effects.Works.{begun}
+use Rattle.tree_model.specs.of_file_effects.declared.work.Work.{Work}
+use Rattle.pack_laws.specs.of_role_steps.Views.{Told, Shown, Shuts}
+use Rattle.order_laws.specs.of_tree_laws.of_the_run.Worlds.{Line}
 use Rattle.tree_model.specs.declared.instance.Instance.{Instance}
 use Rattle.tree_model.specs.Epochs.{is_in}
 use Rattle.tree_model.specs.Folds.{Trace}
 use Rattle.tree_model.specs.Histories.{history, stamped_content}
 use Rattle.tree_model.specs.State.{TreeState, held_at, instance_in, is_inside, is_named, is_writer}
 use Rattle.tree_model.specs.Tree.{grant_of, opened, tree_of}
-use Rattle.lawful_trace.specs.TreeRows.{granted_group}
-use Rattle.tree_laws.specs.Following.{CommitsInTime, IsFollowed, MakesInTime, MayTell}
-use Rattle.tree_laws.specs.Frames.{IsFresh}
-use Rattle.tree_laws.specs.Instances.{IsOpenAt, instance_now}
-use Rattle.tree_laws.specs.Past.{GrantRecord, Printed, ShutsIt, WasBegun, WasGranted, WasNamed, WasShut}
-use Rattle.tree_laws.specs.Printed.{entries, onto_entries}
-use Rattle.tree_laws.proofs.Grants.{in_tree_named, open_named}
-use Rattle.tree_laws.proofs.Histories.{content_same}
-use Rattle.tree_laws.proofs.Kinship.{StaysOpen, open_stays}
-use Rattle.tree_laws.proofs.Names.{same_epoch_eq, same_epoch_own, same_serial_eq, same_serial_own}
-use Rattle.tree_laws.proofs.Opened.{ActsOn, CommitsOn, EndsIt, GoesOn}
-use Rattle.tree_laws.proofs.Owing.{inside_is}
-use Rattle.tree_laws.proofs.Rows.{followed_rows}
+use Rattle.order_laws.specs.of_lawful_trace.TreeRows.{granted_group}
+use Rattle.order_laws.specs.of_tree_laws.Following.{CommitsInTime, IsFollowed, MakesInTime, MayTell}
+use Rattle.order_laws.specs.of_tree_laws.Frames.{IsFresh}
+use Rattle.order_laws.specs.of_tree_laws.Instances.{IsOpenAt, instance_now}
+use Rattle.order_laws.specs.of_tree_laws.Past.{GrantRecord, Printed, ShutsIt, WasBegun, WasGranted, WasNamed, WasShut}
+use Rattle.order_laws.specs.of_tree_laws.Printed.{entries, onto_entries}
+use Rattle.order_laws.proofs.of_tree_laws.Grants.{in_tree_named, open_named}
+use Rattle.order_laws.proofs.of_tree_laws.Histories.{content_same}
+use Rattle.order_laws.proofs.of_tree_laws.Kinship.{StaysOpen, open_stays}
+use Rattle.order_laws.proofs.of_tree_laws.Names.{same_epoch_eq, same_epoch_own, same_serial_eq, same_serial_own}
+use Rattle.order_laws.proofs.of_tree_laws.Opened.{ActsOn, CommitsOn, EndsIt, GoesOn}
+use Rattle.order_laws.proofs.of_tree_laws.Owing.{inside_is}
+use Rattle.order_laws.proofs.of_tree_laws.Rows.{followed_rows}
 use Rattle.order_laws.proofs.Alone.{rows_apart, tree_named}
 use Rattle.order_laws.proofs.Keeping.{changes_alone}
 use Rattle.order_laws.proofs.Lists.{all_found}

@@ -1,7 +1,7 @@
 -- What the laws of every run give of the records of a followed trace: commits are of new stamps, and versions lie in packs.
 use Rattle.std.proofs.Common.{◌≡◌, ℕ, ◌+◌, ◌==◌, Bool, true, false, ◌&&◌, ◌||◌, cond, List, [], ◌∷◌, refl, sym, ap, ◌∙◌, subst, arith, ◌⊎◌, inl, inr}
 use Rattle.std.proofs.lemmas.Bool.Decides.{nat_tests}
-use Rattle.role_steps.proofs.of_plain_facts.Tests.{and_second, or_either, or_first, or_second, true_false}
+use Rattle.pack_laws.proofs.of_role_steps.of_plain_facts.Tests.{and_second, or_either, or_first, or_second, true_false}
 use Rattle.locus_ids.specs.declared.config.Config.{Config}
 use Rattle.locus_ids.specs.declared.ids.FileId.{FileId}
 use Rattle.locus_ids.specs.declared.ids.Stamp.{Stamp}
@@ -9,20 +9,20 @@ use Rattle.locus_ids.specs.declared.sites.Sites.{Sites}
 use Rattle.commit_graph.specs.Counters.{counter, greatest, next_number}
 use Rattle.commit_graph.specs.declared.history.Version.{Version}
 use Rattle.commit_graph.specs.Versions.{is_in, is_version, same_file, same_stamp}
-use Rattle.conflict_flags.specs.Written.{NoneTwice}
+use Rattle.pack_laws.specs.of_conflict_flags.Written.{NoneTwice}
 use Rattle.trace_book.specs.declared.record.Record.{Record}
 use Rattle.trace_book.specs.declared.record.Record.TheVariants as says
-use Rattle.role_steps.specs.Own.{Every}
-use Rattle.role_steps.specs.Views.{Told, Shown}
-use Rattle.tree_laws.specs.of_the_run.Worlds.{Line}
+use Rattle.pack_laws.specs.of_role_steps.Own.{Every}
+use Rattle.pack_laws.specs.of_role_steps.Views.{Told, Shown}
+use Rattle.order_laws.specs.of_tree_laws.of_the_run.Worlds.{Line}
 use Rattle.pack_laws.specs.of_vector_laws.Written.{past_of}
 use Rattle.pack_laws.specs.of_vector_laws.HistoryCommits.{StampsAreOnce, commits_of, real_parents, with_record, with_told}
 use Rattle.pack_laws.specs.Packs.{RecordPacked, ToldPacked}
 use Rattle.tree_model.specs.Histories.{format_stamp, format_version, format_versions, history}
-use Rattle.lawful_trace.specs.TreeRows.{MayCommit}
-use Rattle.tree_laws.specs.Following.{IsFollowed, MayTell}
-use Rattle.tree_laws.specs.Frames.{IsFresh}
-use Rattle.tree_laws.specs.Printed.{entries, onto_entries}
+use Rattle.order_laws.specs.of_lawful_trace.TreeRows.{MayCommit}
+use Rattle.order_laws.specs.of_tree_laws.Following.{IsFollowed, MayTell}
+use Rattle.order_laws.specs.of_tree_laws.Frames.{IsFresh}
+use Rattle.order_laws.specs.of_tree_laws.Printed.{entries, onto_entries}
 use Rattle.order_laws.proofs.Keeping.{IsNew}
 use Rattle.order_laws.proofs.Standing.{same_stamp_eq}
 use Rattle.holding_laws.specs.Below.{LawsBelow}

@@ -1,9 +1,9 @@
 -- What some of a list pass once one is changed or taken out; and what a site brings when it joins.
 use Rattle.std.proofs.Common.{◌≡◌, ℕ, ◌==◌, Bool, true, false, not, ◌&&◌, ◌||◌, cond, List, [], ◌∷◌, filter, map, Some, refl, sym, ap, ◌∙◌, subst, ◌⊎◌, inl, inr}
 use Rattle.std.specs.List.{find, list_any}
-use Rattle.role_steps.proofs.of_plain_facts.Numbers.{equal, equal_self}
-use Rattle.role_steps.proofs.of_plain_facts.Options.{none_some, some_same}
-use Rattle.role_steps.proofs.of_plain_facts.Tests.{and_first, and_second, or_either, or_first, or_second, true_false}
+use Rattle.pack_laws.proofs.of_role_steps.of_plain_facts.Numbers.{equal, equal_self}
+use Rattle.pack_laws.proofs.of_role_steps.of_plain_facts.Options.{none_some, some_same}
+use Rattle.pack_laws.proofs.of_role_steps.of_plain_facts.Tests.{and_first, and_second, or_either, or_first, or_second, true_false}
 use Rattle.locus_ids.specs.declared.ids.Brought.{Brought}
 use Rattle.locus_ids.specs.declared.ids.FileId.{FileId}
 use Rattle.locus_ids.specs.declared.ids.Stamp.{Stamp}
@@ -15,8 +15,8 @@ use Rattle.tree_model.specs.declared.instance.Instance.{Instance}
 use Rattle.tree_model.specs.Lists.{change_first, without_first}
 use Rattle.tree_model.specs.Same.{same_brought}
 use Rattle.tree_model.specs.State.{copy_of, has_stamp, is_brought_below, is_writer, stamps_of, with_all, with_brought}
-use Rattle.lawful_trace.specs.TreeRows.{is_writing}
-use Rattle.tree_laws.proofs.Knowing.{Knows, knows_all}
+use Rattle.order_laws.specs.of_lawful_trace.TreeRows.{is_writing}
+use Rattle.order_laws.proofs.of_tree_laws.Knowing.{Knows, knows_all}
 use Rattle.order_laws.proofs.Standing.{same_stamp_eq}
 
 -- ---- some of a list ----

@@ -1,9 +1,9 @@
 -- What a site has of a file in an epoch: while it is inside, what it has now; and a site that has something there has joined.
 use Rattle.std.proofs.Common.{◌≡◌, ℕ, ◌==◌, Bool, true, false, ◌&&◌, ◌||◌, cond, List, [], ◌∷◌, ◌++◌, map, Option, Some, None, refl, sym, ap, ◌∙◌, subst}
 use Rattle.std.specs.Option.{is_none, option_map, option_or}
-use Rattle.role_steps.proofs.of_plain_facts.Numbers.{equal, equal_self}
-use Rattle.role_steps.proofs.of_plain_facts.Options.{none_some, some_same}
-use Rattle.role_steps.proofs.of_plain_facts.Tests.{and_first, and_second, or_second, true_false}
+use Rattle.pack_laws.proofs.of_role_steps.of_plain_facts.Numbers.{equal, equal_self}
+use Rattle.pack_laws.proofs.of_role_steps.of_plain_facts.Options.{none_some, some_same}
+use Rattle.pack_laws.proofs.of_role_steps.of_plain_facts.Tests.{and_first, and_second, or_second, true_false}
 use Rattle.locus_ids.specs.declared.config.Config.{Config}
 use Rattle.locus_ids.specs.declared.ids.EpochId.{EpochId}
 use Rattle.locus_ids.specs.declared.ids.FileId.{FileId}
@@ -22,8 +22,8 @@ use Rattle.tree_model.specs.Lists.{put_first}
 use Rattle.tree_model.specs.Packs.{has_pack}
 use Rattle.tree_model.specs.State.{TreeState, copy_of, held_at, held_of, is_copy_of, is_granted_here, is_inside, is_make, with_copy}
 use Rattle.tree_model.specs.Tree.{acted, copy_now, entered, grant_of, granted, has_now, joined, left, next, released, tree_of, with_root, without_make}
-use Rattle.tree_laws.proofs.Names.{same_epoch_eq, same_epoch_own}
-use Rattle.tree_laws.proofs.Owing.{inside_is}
+use Rattle.order_laws.proofs.of_tree_laws.Names.{same_epoch_eq, same_epoch_own}
+use Rattle.order_laws.proofs.of_tree_laws.Owing.{inside_is}
 use Rattle.order_laws.proofs.Alone.{tree_named}
 use Rattle.order_laws.proofs.Knowing.{tree_config}
 use Rattle.order_laws.proofs.Standing.{At}

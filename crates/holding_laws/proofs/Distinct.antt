@@ -2,9 +2,9 @@
 use Rattle.std.proofs.Common.{◌≡◌, ℕ, ◌==◌, Bool, true, false, not, ◌&&◌, cond, List, [], ◌∷◌, ◌++◌, Option, Some, None, refl, sym, ap, ◌∙◌, subst, ◌⊎◌, inl, inr}
 use Rattle.std.specs.List.{AllByRecursion, find, list_any}
 use Rattle.std.specs.Option.{is_none}
-use Rattle.role_steps.proofs.of_plain_facts.Numbers.{equal}
-use Rattle.role_steps.proofs.of_plain_facts.Options.{none_some, some_same}
-use Rattle.role_steps.proofs.of_plain_facts.Tests.{and_first, and_second, true_false}
+use Rattle.pack_laws.proofs.of_role_steps.of_plain_facts.Numbers.{equal}
+use Rattle.pack_laws.proofs.of_role_steps.of_plain_facts.Options.{none_some, some_same}
+use Rattle.pack_laws.proofs.of_role_steps.of_plain_facts.Tests.{and_first, and_second, true_false}
 use Rattle.locus_ids.specs.declared.config.Config.{Config}
 use Rattle.locus_ids.specs.declared.ids.CallId.{CallId}
 use Rattle.locus_ids.specs.declared.ids.EpochId.{EpochId}
@@ -16,8 +16,8 @@ use Rattle.commit_graph.specs.declared.history.Version.{Version}
 use Rattle.trace_book.specs.Same.{same_epoch, same_serial}
 use Rattle.trace_book.specs.declared.record.Record.{Record}
 use Rattle.trace_book.specs.declared.record.Record.TheVariants as says
-use Rattle.role_steps.specs.Views.{Told, Shown}
-use Rattle.tree_laws.specs.of_the_run.Worlds.{Line}
+use Rattle.pack_laws.specs.of_role_steps.Views.{Told, Shown}
+use Rattle.order_laws.specs.of_tree_laws.of_the_run.Worlds.{Line}
 use Rattle.tree_model.specs.declared.instance.Granted.{Granted}
 use Rattle.tree_model.specs.declared.instance.Instance.{Instance}
 use Rattle.tree_model.specs.Folds.{Trace}
@@ -27,15 +27,15 @@ use Rattle.tree_model.specs.Lists.{change_first, without_first}
 use Rattle.tree_model.specs.Opening.{open_refusal}
 use Rattle.tree_model.specs.State.{TreeState, instance_in, is_grant_of, is_granted, is_granted_here, is_inside, is_make, is_named, is_writer}
 use Rattle.tree_model.specs.Tree.{grant_of, joined, left, next, once_acted, once_committed, opened, tree_of, without_make}
-use Rattle.lawful_trace.specs.Lawful.{MayCome}
-use Rattle.lawful_trace.specs.TreeRows.{granted_group}
-use Rattle.tree_laws.specs.Following.{IsFollowed, MayTell, RowsAreLawful}
-use Rattle.tree_laws.specs.Instances.{instance_now}
-use Rattle.tree_laws.specs.Past.{WasNamed}
-use Rattle.tree_laws.specs.Printed.{entries, onto_entries}
-use Rattle.tree_laws.proofs.Grants.{Had, before_record, in_tree_named}
-use Rattle.tree_laws.proofs.Names.{same_epoch_eq, same_epoch_own, same_serial_eq, same_serial_own}
-use Rattle.tree_laws.proofs.Opened.{GrantsIt}
+use Rattle.order_laws.specs.of_lawful_trace.Lawful.{MayCome}
+use Rattle.order_laws.specs.of_lawful_trace.TreeRows.{granted_group}
+use Rattle.order_laws.specs.of_tree_laws.Following.{IsFollowed, MayTell, RowsAreLawful}
+use Rattle.order_laws.specs.of_tree_laws.Instances.{instance_now}
+use Rattle.order_laws.specs.of_tree_laws.Past.{WasNamed}
+use Rattle.order_laws.specs.of_tree_laws.Printed.{entries, onto_entries}
+use Rattle.order_laws.proofs.of_tree_laws.Grants.{Had, before_record, in_tree_named}
+use Rattle.order_laws.proofs.of_tree_laws.Names.{same_epoch_eq, same_epoch_own, same_serial_eq, same_serial_own}
+use Rattle.order_laws.proofs.of_tree_laws.Opened.{GrantsIt}
 use Rattle.order_laws.proofs.Alone.{tree_is, tree_named}
 use Rattle.order_laws.proofs.Lists.{all_changed, all_found, all_more, all_then, all_without, any_last, any_more}
 

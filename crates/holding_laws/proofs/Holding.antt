@@ -2,8 +2,8 @@
 use Rattle.std.proofs.Common.{◌≡◌, ℕ, ◌==◌, Bool, true, false, ◌&&◌, ◌||◌, cond, List, [], ◌∷◌, ◌++◌, Option, Some, None, refl, sym, ap, ◌∙◌, subst, ◌⊎◌, inl, inr}
 use Rattle.std.specs.List.{find, list_any}
 use Rattle.std.specs.Option.{is_none, option_map}
-use Rattle.role_steps.proofs.of_plain_facts.Numbers.{equal}
-use Rattle.role_steps.proofs.of_plain_facts.Tests.{and_first, and_second, true_false}
+use Rattle.pack_laws.proofs.of_role_steps.of_plain_facts.Numbers.{equal}
+use Rattle.pack_laws.proofs.of_role_steps.of_plain_facts.Tests.{and_first, and_second, true_false}
 use Rattle.locus_ids.specs.declared.config.Config.{Config}
 use Rattle.locus_ids.specs.declared.ids.EpochId.{EpochId}
 use Rattle.locus_ids.specs.declared.ids.FileId.{FileId}
@@ -12,7 +12,7 @@ use Rattle.locus_ids.specs.declared.ids.Stamp.{Stamp}
 use Rattle.locus_ids.specs.declared.sites.Members.{Members}
 use Rattle.trace_book.specs.Same.{same_epoch}
 use Rattle.trace_book.specs.declared.record.Record.TheVariants as says
-use Rattle.tree_laws.specs.of_the_run.Worlds.{Line}
+use Rattle.order_laws.specs.of_tree_laws.of_the_run.Worlds.{Line}
 use Rattle.tree_model.specs.declared.copy.HeldCopy.{HeldCopy}
 use Rattle.tree_model.specs.declared.instance.Instance.{Instance}
 use Rattle.tree_model.specs.Folds.{Trace}
@@ -20,14 +20,14 @@ use Rattle.tree_model.specs.Histories.{format_stamp, history}
 use Rattle.tree_model.specs.Packs.{has_pack}
 use Rattle.tree_model.specs.State.{copy_of, has_stamp, held_at, held_of, instance_in}
 use Rattle.tree_model.specs.Tree.{candidates, entered, tree_of, with_root}
-use Rattle.lawful_trace.specs.Lawful.{MayCome}
-use Rattle.lawful_trace.specs.SiteRows.{MayJoin}
-use Rattle.lawful_trace.specs.TreeRows.{granted_group}
-use Rattle.tree_laws.specs.Following.{IsFollowed, RowsAreLawful}
-use Rattle.tree_laws.specs.Instances.{IsKnown, held_in, instance_now}
-use Rattle.tree_laws.specs.Printed.{entries}
-use Rattle.tree_laws.specs.Tables.{IsAhead}
-use Rattle.tree_laws.proofs.Rows.{followed_rows}
+use Rattle.order_laws.specs.of_lawful_trace.Lawful.{MayCome}
+use Rattle.order_laws.specs.of_lawful_trace.SiteRows.{MayJoin}
+use Rattle.order_laws.specs.of_lawful_trace.TreeRows.{granted_group}
+use Rattle.order_laws.specs.of_tree_laws.Following.{IsFollowed, RowsAreLawful}
+use Rattle.order_laws.specs.of_tree_laws.Instances.{IsKnown, held_in, instance_now}
+use Rattle.order_laws.specs.of_tree_laws.Printed.{entries}
+use Rattle.order_laws.specs.of_tree_laws.Tables.{IsAhead}
+use Rattle.order_laws.proofs.of_tree_laws.Rows.{followed_rows}
 use Rattle.order_laws.specs.Joining.{PacksAreOfSites}
 use Rattle.order_laws.proofs.Alone.{tree_named}
 use Rattle.order_laws.proofs.Knowing.{tree_config}

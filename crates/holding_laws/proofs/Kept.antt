@@ -1,7 +1,7 @@
 -- While an instance isn't begun, what is kept of its file is what was kept at its grant.
 use Rattle.std.proofs.Common.{◌≡◌, ℕ, ◌==◌, Bool, true, false, List, ◌∷◌, Option, Some, None, refl, sym, ap, ◌∙◌, subst, ◌⊎◌, inl, inr, arith}
 use Rattle.std.proofs.lemmas.Bool.Decides.{nat_tests}
-use Rattle.role_steps.proofs.of_plain_facts.Numbers.{equal}
+use Rattle.pack_laws.proofs.of_role_steps.of_plain_facts.Numbers.{equal}
 use Rattle.locus_ids.specs.declared.config.Config.{Config}
 use Rattle.locus_ids.specs.declared.ids.CallId.{CallId}
 use Rattle.locus_ids.specs.declared.ids.EpochId.{EpochId}
@@ -13,17 +13,17 @@ use Rattle.commit_graph.specs.Grants.{is_read}
 use Rattle.commit_graph.specs.Versions.{same_file}
 use Rattle.trace_book.specs.declared.record.Record.{Record}
 use Rattle.trace_book.specs.declared.record.Record.TheVariants as says
-use Rattle.role_steps.specs.Views.{Told, Shown}
-use Rattle.tree_laws.specs.of_the_run.Worlds.{Line}
+use Rattle.pack_laws.specs.of_role_steps.Views.{Told, Shown}
+use Rattle.order_laws.specs.of_tree_laws.of_the_run.Worlds.{Line}
 use Rattle.tree_model.specs.declared.instance.Instance.{Instance}
 use Rattle.tree_model.specs.Folds.{Trace}
 use Rattle.tree_model.specs.State.{instance_in, is_named, stamps_of}
 use Rattle.tree_model.specs.Tree.{kept_in, published, tree_of}
-use Rattle.lawful_trace.specs.Lawful.{MayCome}
-use Rattle.tree_laws.specs.Following.{IsFollowed, MayTell, RowsAreLawful}
-use Rattle.tree_laws.specs.Past.{WasBegun, WasGranted, WasShut}
-use Rattle.tree_laws.specs.Printed.{entries, onto_entries}
-use Rattle.tree_laws.proofs.Rows.{followed_rows}
+use Rattle.order_laws.specs.of_lawful_trace.Lawful.{MayCome}
+use Rattle.order_laws.specs.of_tree_laws.Following.{IsFollowed, MayTell, RowsAreLawful}
+use Rattle.order_laws.specs.of_tree_laws.Past.{WasBegun, WasGranted, WasShut}
+use Rattle.order_laws.specs.of_tree_laws.Printed.{entries, onto_entries}
+use Rattle.order_laws.proofs.of_tree_laws.Rows.{followed_rows}
 use Rattle.order_laws.specs.Alone.{MayStandBy}
 use Rattle.order_laws.specs.Joining.{PacksAreOfSites}
 use Rattle.order_laws.specs.Keeping.{PassesBy}

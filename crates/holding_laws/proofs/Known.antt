@@ -2,9 +2,9 @@
 use Rattle.std.proofs.Common.{◌≡◌, ℕ, ◌==◌, Bool, true, false, ◌&&◌, cond, List, [], ◌∷◌, ◌++◌, filter, Option, Some, None, refl, sym, ap, ◌∙◌, subst, ◌⊎◌, inl, inr}
 use Rattle.std.specs.List.{list_any}
 use Rattle.std.specs.Option.{is_some, option_map}
-use Rattle.role_steps.proofs.of_plain_facts.Numbers.{equal, equal_self}
-use Rattle.role_steps.proofs.of_plain_facts.Options.{none_some, some_same}
-use Rattle.role_steps.proofs.of_plain_facts.Tests.{and_first, and_second, true_false}
+use Rattle.pack_laws.proofs.of_role_steps.of_plain_facts.Numbers.{equal, equal_self}
+use Rattle.pack_laws.proofs.of_role_steps.of_plain_facts.Options.{none_some, some_same}
+use Rattle.pack_laws.proofs.of_role_steps.of_plain_facts.Tests.{and_first, and_second, true_false}
 use Rattle.locus_ids.specs.declared.config.Config.{Config}
 use Rattle.locus_ids.specs.declared.ids.EpochId.{EpochId}
 use Rattle.locus_ids.specs.declared.ids.FileId.{FileId}
@@ -16,8 +16,8 @@ use Rattle.commit_graph.specs.Versions.{same_file}
 use Rattle.trace_book.specs.Same.{same_epoch}
 use Rattle.trace_book.specs.declared.record.Record.{Record}
 use Rattle.trace_book.specs.declared.record.Record.TheVariants as says
-use Rattle.role_steps.specs.Views.{Told, Shown}
-use Rattle.tree_laws.specs.of_the_run.Worlds.{Line}
+use Rattle.pack_laws.specs.of_role_steps.Views.{Told, Shown}
+use Rattle.order_laws.specs.of_tree_laws.of_the_run.Worlds.{Line}
 use Rattle.tree_model.specs.declared.copy.HeldCopy.{HeldCopy}
 use Rattle.tree_model.specs.declared.instance.Instance.{Instance}
 use Rattle.tree_model.specs.Epochs.{epoch_of, is_in}
@@ -29,15 +29,15 @@ use Rattle.tree_model.specs.Packs.{has_pack}
 use Rattle.tree_model.specs.Same.{same_version}
 use Rattle.tree_model.specs.State.{TreeState, copy_of, held_at, held_of, is_granted_here, is_inside, is_make, is_named, is_writer, with_all, with_brought}
 use Rattle.tree_model.specs.Tree.{acted, entered, grant_of, joined, left, next, once_acted, once_committed, opened, published, tree_of, with_root, without_make}
-use Rattle.lawful_trace.specs.Lawful.{MayCome}
-use Rattle.lawful_trace.specs.TreeRows.{MayCommit, MayRelease, is_writing}
-use Rattle.tree_laws.specs.Following.{IsFollowed, MayTell, RowsAreLawful}
-use Rattle.tree_laws.specs.Instances.{IsKnown, held_in}
-use Rattle.tree_laws.specs.Printed.{entries, onto_entries}
-use Rattle.tree_laws.proofs.Knowing.{Knows, known_stays}
-use Rattle.tree_laws.proofs.Names.{same_epoch_eq}
-use Rattle.tree_laws.proofs.Owing.{inside_is}
-use Rattle.tree_laws.proofs.Rows.{followed_rows}
+use Rattle.order_laws.specs.of_lawful_trace.Lawful.{MayCome}
+use Rattle.order_laws.specs.of_lawful_trace.TreeRows.{MayCommit, MayRelease, is_writing}
+use Rattle.order_laws.specs.of_tree_laws.Following.{IsFollowed, MayTell, RowsAreLawful}
+use Rattle.order_laws.specs.of_tree_laws.Instances.{IsKnown, held_in}
+use Rattle.order_laws.specs.of_tree_laws.Printed.{entries, onto_entries}
+use Rattle.order_laws.proofs.of_tree_laws.Knowing.{Knows, known_stays}
+use Rattle.order_laws.proofs.of_tree_laws.Names.{same_epoch_eq}
+use Rattle.order_laws.proofs.of_tree_laws.Owing.{inside_is}
+use Rattle.order_laws.proofs.of_tree_laws.Rows.{followed_rows}
 use Rattle.order_laws.proofs.Alone.{tree_is, tree_named}
 use Rattle.order_laws.proofs.Knowing.{tree_config}
 use Rattle.order_laws.proofs.Lists.{all_found, any_more}

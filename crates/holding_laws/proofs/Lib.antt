@@ -39,3 +39,4 @@ pub mod RoomRoomInstances
 pub mod RoomRoom
 pub mod RoomNarrow
 pub use Rattle.order_laws.proofs as of_order_laws
+pub use Rattle.order_laws.proofs.of_tree_laws as of_tree_laws

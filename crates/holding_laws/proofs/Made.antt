@@ -3,8 +3,8 @@
 use Rattle.std.proofs.Common.{◌≡◌, ℕ, ◌+◌, ◌==◌, ◌<◌, Bool, true, false, not, ◌&&◌, cond, List, [], ◌∷◌, filter, map, Option, Some, None, refl, sym, ap, ◌∙◌, subst, arith}
 use Rattle.std.specs.List.{AllByRecursion}
 use Rattle.std.specs.Option.{is_none}
-use Rattle.role_steps.proofs.of_plain_facts.Numbers.{equal}
-use Rattle.role_steps.proofs.of_plain_facts.Tests.{and_first}
+use Rattle.pack_laws.proofs.of_role_steps.of_plain_facts.Numbers.{equal}
+use Rattle.pack_laws.proofs.of_role_steps.of_plain_facts.Tests.{and_first}
 use Rattle.locus_ids.specs.declared.config.Config.{Config}
 use Rattle.locus_ids.specs.declared.ids.Brought.{Brought}
 use Rattle.locus_ids.specs.declared.ids.EpochId.{EpochId}
@@ -21,9 +21,9 @@ use Rattle.tree_model.specs.Histories.{format_stamp, format_version, format_vers
 use Rattle.tree_model.specs.State.{TreeState, held_at, kept_of, stamps_of}
 use Rattle.tree_model.specs.Tree.{tree_of}
 use Rattle.tree_model.specs.Working.{list_of, merges}
-use Rattle.lawful_trace.specs.Lawful.{MayCome}
-use Rattle.lawful_trace.specs.TreeRows.{MayCommit, is_writing}
-use Rattle.tree_laws.specs.Following.{RowsAreLawful}
+use Rattle.order_laws.specs.of_lawful_trace.Lawful.{MayCome}
+use Rattle.order_laws.specs.of_lawful_trace.TreeRows.{MayCommit, is_writing}
+use Rattle.order_laws.specs.of_tree_laws.Following.{RowsAreLawful}
 use Rattle.order_laws.proofs.Alone.{tree_named}
 use Rattle.order_laws.proofs.Keeping.{IsNew}
 use Rattle.order_laws.proofs.Knowing.{rows_sound}

@@ -1,6 +1,6 @@
 -- While a mend's instance isn't released, what its open was answered is what is kept of its file.
 use Rattle.std.proofs.Common.{◌≡◌, ℕ, ◌-◌, Bool, true, false, cond, List, [], ◌∷◌, ◌++◌, take, Option, Some, None, zero, suc, refl, sym, ◌∙◌, ap, subst, ◌⊎◌, inl, inr}
-use Rattle.role_steps.proofs.of_plain_facts.Tests.{and_first}
+use Rattle.pack_laws.proofs.of_role_steps.of_plain_facts.Tests.{and_first}
 use Rattle.locus_ids.specs.declared.config.Config.{Config}
 use Rattle.locus_ids.specs.declared.ids.CallId.{CallId}
 use Rattle.locus_ids.specs.declared.ids.EpochId.{EpochId}
@@ -16,24 +16,24 @@ use Rattle.trace_book.specs.declared.record.Record.{Record}
 use Rattle.trace_book.specs.declared.record.Record.TheVariants as says
 use Rattle.call_rules.specs.declared.answer.Answer.{Answer}
 use Rattle.call_rules.specs.declared.answer.Answer.TheVariants as answer
-use Rattle.role_steps.specs.Views.{Told, Shown, LooksAgain}
-use Rattle.tree_laws.specs.of_the_run.Worlds.{Line}
+use Rattle.pack_laws.specs.of_role_steps.Views.{Told, Shown, LooksAgain}
+use Rattle.order_laws.specs.of_tree_laws.of_the_run.Worlds.{Line}
 use Rattle.tree_model.specs.declared.accepted.Waiting.{Waiting}
 use Rattle.tree_model.specs.Calls.{call_named}
 use Rattle.tree_model.specs.Folds.{Trace}
 use Rattle.tree_model.specs.State.{instance_in}
 use Rattle.tree_model.specs.Tree.{kept_in, tree_of}
-use Rattle.lawful_trace.specs.Progress.{Answers, answers, answers_after, granted_answer, look_answer, close_answer, outcome_answer, wants_as}
-use Rattle.lawful_trace.specs.Tables.{begun, call_of_act, call_of_release, is_call}
-use Rattle.lawful_trace.specs.TreeRows.{IsCallIn, is_open_of}
-use Rattle.tree_laws.specs.Calls.{heard, heard_after}
-use Rattle.tree_laws.specs.Following.{IsFollowed, MayTell}
-use Rattle.tree_laws.specs.Past.{WasGranted, WasReleased}
-use Rattle.tree_laws.specs.Printed.{entries, onto_entries}
-use Rattle.tree_laws.proofs.Awaiting.{OpensIt, close_opens, look_opens, outcome_opens}
-use Rattle.tree_laws.proofs.Names.{same_call_eq}
-use Rattle.tree_laws.proofs.Rows.{followed_rows}
-use Rattle.tree_laws.proofs.Scripts.{named_stays}
+use Rattle.order_laws.specs.of_lawful_trace.Progress.{Answers, answers, answers_after, granted_answer, look_answer, close_answer, outcome_answer, wants_as}
+use Rattle.order_laws.specs.of_lawful_trace.Tables.{begun, call_of_act, call_of_release, is_call}
+use Rattle.order_laws.specs.of_lawful_trace.TreeRows.{IsCallIn, is_open_of}
+use Rattle.order_laws.specs.of_tree_laws.Calls.{heard, heard_after}
+use Rattle.order_laws.specs.of_tree_laws.Following.{IsFollowed, MayTell}
+use Rattle.order_laws.specs.of_tree_laws.Past.{WasGranted, WasReleased}
+use Rattle.order_laws.specs.of_tree_laws.Printed.{entries, onto_entries}
+use Rattle.order_laws.proofs.of_tree_laws.Awaiting.{OpensIt, close_opens, look_opens, outcome_opens}
+use Rattle.order_laws.proofs.of_tree_laws.Names.{same_call_eq}
+use Rattle.order_laws.proofs.of_tree_laws.Rows.{followed_rows}
+use Rattle.order_laws.proofs.of_tree_laws.Scripts.{named_stays}
 use Rattle.order_laws.specs.Joining.{PacksAreOfSites}
 use Rattle.order_laws.specs.Keeping.{PassesBy}
 use Rattle.order_laws.proofs.Keeping.{IsNew, kept_by}

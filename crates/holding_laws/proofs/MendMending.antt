@@ -1,6 +1,6 @@
 -- A call that asks to mend is a mend, has brought all that its open told, and these are what is kept of its file.
 use Rattle.std.proofs.Common.{◌≡◌, ℕ, Bool, List, [], ◌∷◌, Option, Some, None, refl, sym, ◌∙◌, ap, subst, ◌⊎◌, inl, inr}
-use Rattle.role_steps.proofs.of_plain_facts.Options.{some_same}
+use Rattle.pack_laws.proofs.of_role_steps.of_plain_facts.Options.{some_same}
 use Rattle.locus_ids.specs.declared.config.Config.{Config}
 use Rattle.locus_ids.specs.declared.config.Mount.{Mount}
 use Rattle.locus_ids.specs.declared.ids.CallId.{CallId}
@@ -24,18 +24,18 @@ use Rattle.call_rules.specs.declared.want.Want.TheVariants as want
 use Rattle.call_rules.specs.Closing.{Unchanged}
 use Rattle.call_rules.specs.Mending.{brings, mend_wants}
 use Rattle.call_rules.specs.Scripts.{wants, where_packed}
-use Rattle.tree_laws.specs.of_the_run.Worlds.{Line}
+use Rattle.order_laws.specs.of_tree_laws.of_the_run.Worlds.{Line}
 use Rattle.tree_model.specs.declared.accepted.Waiting.{Waiting}
 use Rattle.tree_model.specs.Folds.{Trace}
 use Rattle.tree_model.specs.Tree.{kept_in}
-use Rattle.lawful_trace.specs.Progress.{Answers, is_packed_in}
-use Rattle.lawful_trace.specs.Tables.{begun}
-use Rattle.lawful_trace.specs.TreeRows.{IsCallIn}
-use Rattle.tree_laws.specs.Calls.{Asks, log, script_as}
-use Rattle.tree_laws.specs.Following.{IsFollowed}
-use Rattle.tree_laws.specs.Past.{WasGranted, WasReleased}
-use Rattle.tree_laws.specs.Printed.{entries}
-use Rattle.tree_laws.specs.Users.{brought_of, taken_whole}
+use Rattle.order_laws.specs.of_lawful_trace.Progress.{Answers, is_packed_in}
+use Rattle.order_laws.specs.of_lawful_trace.Tables.{begun}
+use Rattle.order_laws.specs.of_lawful_trace.TreeRows.{IsCallIn}
+use Rattle.order_laws.specs.of_tree_laws.Calls.{Asks, log, script_as}
+use Rattle.order_laws.specs.of_tree_laws.Following.{IsFollowed}
+use Rattle.order_laws.specs.of_tree_laws.Past.{WasGranted, WasReleased}
+use Rattle.order_laws.specs.of_tree_laws.Printed.{entries}
+use Rattle.order_laws.specs.of_tree_laws.Users.{brought_of, taken_whole}
 use Rattle.order_laws.specs.Joining.{PacksAreOfSites}
 use Rattle.order_laws.specs.ProcessAsked.{IsOpenOf}
 use Rattle.order_laws.proofs.ProcessOpen.{asked_open}

@@ -1,7 +1,7 @@
 -- A call that opens to mend, or looks at whole contents, is a mend; and what it looks at is kept, as its open was answered.
 use Rattle.std.proofs.Common.{◌≡◌, ℕ, Bool, true, false, cond, ◌||◌, List, [], ◌∷◌, ◌++◌, Option, Some, None, refl, sym, ◌∙◌, ap, subst, ◌⊎◌, inl, inr, arith}
 use Rattle.std.proofs.lemmas.Bool.Decides.{nat_tests}
-use Rattle.role_steps.proofs.of_plain_facts.Tests.{true_false}
+use Rattle.pack_laws.proofs.of_role_steps.of_plain_facts.Tests.{true_false}
 use Rattle.locus_ids.specs.declared.config.Config.{Config}
 use Rattle.locus_ids.specs.declared.config.Mount.{Mount}
 use Rattle.locus_ids.specs.declared.ids.CallId.{CallId}
@@ -28,13 +28,13 @@ use Rattle.call_rules.specs.Scripts.{wants, where_packed}
 use Rattle.tree_model.specs.declared.accepted.Waiting.{Waiting}
 use Rattle.tree_model.specs.Folds.{Trace}
 use Rattle.tree_model.specs.State.{has_stamp}
-use Rattle.lawful_trace.specs.Progress.{Answers, is_packed_in, wants_as}
+use Rattle.order_laws.specs.of_lawful_trace.Progress.{Answers, is_packed_in, wants_as}
 use Rattle.call_rules.specs.Descriptors.{lowest_free}
-use Rattle.lawful_trace.specs.Tables.{descriptor}
-use Rattle.lawful_trace.specs.TreeRows.{is_open_of}
-use Rattle.tree_laws.specs.Calls.{script_as}
-use Rattle.tree_laws.specs.Holding.{Instances, IsOf, closed_by, had_after}
-use Rattle.tree_laws.proofs.Holding.{Safe, Script}
+use Rattle.order_laws.specs.of_lawful_trace.Tables.{descriptor}
+use Rattle.order_laws.specs.of_lawful_trace.TreeRows.{is_open_of}
+use Rattle.order_laws.specs.of_tree_laws.Calls.{script_as}
+use Rattle.order_laws.specs.of_tree_laws.Holding.{Instances, IsOf, closed_by, had_after}
+use Rattle.order_laws.proofs.of_tree_laws.Holding.{Safe, Script}
 use Rattle.order_laws.proofs.Standing.{same_file_eq}
 use Rattle.holding_laws.proofs.MendWants.{IsPlainLook, after_mend_so, give_up_so, mend_so, wants_so}
 

@@ -5,15 +5,15 @@ use Rattle.locus_ids.specs.declared.ids.EpochId.{EpochId}
 use Rattle.locus_ids.specs.declared.ids.FileId.{FileId}
 use Rattle.locus_ids.specs.declared.ids.Stamp.{Stamp}
 use Rattle.commit_graph.specs.Versions.{is_ancestor, same_stamp}
-use Rattle.tree_laws.specs.of_the_run.Worlds.{Line}
+use Rattle.order_laws.specs.of_tree_laws.of_the_run.Worlds.{Line}
 use Rattle.tree_model.specs.Histories.{history}
 use Rattle.tree_model.specs.State.{has_stamp}
 use Rattle.tree_model.specs.Tree.{kept_in}
-use Rattle.tree_laws.specs.Following.{IsFollowed}
-use Rattle.tree_laws.specs.Instances.{HasAtLeast, held_in}
-use Rattle.tree_laws.specs.Printed.{entries}
-use Rattle.tree_laws.specs.Tables.{IsAhead}
-use Rattle.tree_laws.proofs.Rows.{followed_rows}
+use Rattle.order_laws.specs.of_tree_laws.Following.{IsFollowed}
+use Rattle.order_laws.specs.of_tree_laws.Instances.{HasAtLeast, held_in}
+use Rattle.order_laws.specs.of_tree_laws.Printed.{entries}
+use Rattle.order_laws.specs.of_tree_laws.Tables.{IsAhead}
+use Rattle.order_laws.proofs.of_tree_laws.Rows.{followed_rows}
 use Rattle.order_laws.proofs.Standing.{same_stamp_eq}
 use Rattle.holding_laws.specs.Below.{LawsBelow}
 use Rattle.holding_laws.specs.Held.{IsBelowKept, IsKnownOrAhead}

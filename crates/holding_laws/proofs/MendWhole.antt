@@ -1,6 +1,6 @@
 -- Whole contents are asked of kept versions alone.
 use Rattle.std.proofs.Common.{◌≡◌, ℕ, Bool, true, false, cond, List, [], ◌∷◌, ◌++◌, Option, Some, None, refl, sym, ◌∙◌, ap, subst}
-use Rattle.role_steps.proofs.of_plain_facts.Options.{some_same}
+use Rattle.pack_laws.proofs.of_role_steps.of_plain_facts.Options.{some_same}
 use Rattle.locus_ids.specs.declared.config.Config.{Config}
 use Rattle.locus_ids.specs.declared.ids.CallId.{CallId}
 use Rattle.locus_ids.specs.declared.ids.EpochId.{EpochId}
@@ -19,24 +19,24 @@ use Rattle.call_rules.specs.declared.answer.Answer.TheVariants as answer
 use Rattle.call_rules.specs.declared.want.Want.TheVariants as want
 use Rattle.call_rules.specs.Mending.{brings}
 use Rattle.call_rules.specs.Scripts.{wants, where_packed}
-use Rattle.role_steps.specs.Views.{Told, Shown, Takes}
-use Rattle.tree_laws.specs.of_the_run.Worlds.{Line}
+use Rattle.pack_laws.specs.of_role_steps.Views.{Told, Shown, Takes}
+use Rattle.order_laws.specs.of_tree_laws.of_the_run.Worlds.{Line}
 use Rattle.tree_model.specs.declared.accepted.Waiting.{Waiting}
 use Rattle.tree_model.specs.State.{has_stamp}
 use Rattle.tree_model.specs.Tree.{kept_in}
-use Rattle.lawful_trace.specs.Progress.{Answers, is_packed_in}
-use Rattle.lawful_trace.specs.Tables.{begun}
-use Rattle.lawful_trace.specs.TreeRows.{IsCallIn}
-use Rattle.tree_laws.specs.Calls.{Asks, log, script, script_as}
-use Rattle.tree_laws.specs.Following.{IsFollowed, MayTell}
-use Rattle.tree_laws.specs.Holding.{Instances, has_instances}
-use Rattle.tree_laws.specs.Past.{WasReleased}
-use Rattle.tree_laws.specs.Printed.{entries}
-use Rattle.tree_laws.proofs.Awaiting.{OpensIt, all_have, named_before}
-use Rattle.tree_laws.proofs.Fresh.{IsNamed}
-use Rattle.tree_laws.proofs.Having.{IsSafe, safe_accept, safe_still, safe_take}
-use Rattle.tree_laws.proofs.Holding.{IsNew}
-use Rattle.tree_laws.proofs.Names.{same_call_eq}
+use Rattle.order_laws.specs.of_lawful_trace.Progress.{Answers, is_packed_in}
+use Rattle.order_laws.specs.of_lawful_trace.Tables.{begun}
+use Rattle.order_laws.specs.of_lawful_trace.TreeRows.{IsCallIn}
+use Rattle.order_laws.specs.of_tree_laws.Calls.{Asks, log, script, script_as}
+use Rattle.order_laws.specs.of_tree_laws.Following.{IsFollowed, MayTell}
+use Rattle.order_laws.specs.of_tree_laws.Holding.{Instances, has_instances}
+use Rattle.order_laws.specs.of_tree_laws.Past.{WasReleased}
+use Rattle.order_laws.specs.of_tree_laws.Printed.{entries}
+use Rattle.order_laws.proofs.of_tree_laws.Awaiting.{OpensIt, all_have, named_before}
+use Rattle.order_laws.proofs.of_tree_laws.Fresh.{IsNamed}
+use Rattle.order_laws.proofs.of_tree_laws.Having.{IsSafe, safe_accept, safe_still, safe_take}
+use Rattle.order_laws.proofs.of_tree_laws.Holding.{IsNew}
+use Rattle.order_laws.proofs.of_tree_laws.Names.{same_call_eq}
 use Rattle.order_laws.specs.Joining.{PacksAreOfSites}
 use Rattle.order_laws.proofs.ProcessUnreleased.{unreleased}
 use Rattle.holding_laws.proofs.Made.{CommitsAreNew}

@@ -4,9 +4,9 @@ use Rattle.std.proofs.Common.{◌≡◌, ℕ, ◌==◌, Bool, true, false, not, 
 use Rattle.std.proofs.lemmas.Bool.Decides.{nat_tests}
 use Rattle.std.specs.List.{AllByRecursion, find, list_any}
 use Rattle.std.specs.Option.{is_none}
-use Rattle.role_steps.proofs.of_plain_facts.Numbers.{equal, equal_self}
-use Rattle.role_steps.proofs.of_plain_facts.Options.{none_some, some_same}
-use Rattle.role_steps.proofs.of_plain_facts.Tests.{and_first, or_second, true_false}
+use Rattle.pack_laws.proofs.of_role_steps.of_plain_facts.Numbers.{equal, equal_self}
+use Rattle.pack_laws.proofs.of_role_steps.of_plain_facts.Options.{none_some, some_same}
+use Rattle.pack_laws.proofs.of_role_steps.of_plain_facts.Tests.{and_first, or_second, true_false}
 use Rattle.locus_ids.specs.declared.config.Config.{Config}
 use Rattle.locus_ids.specs.declared.ids.CallId.{CallId}
 use Rattle.locus_ids.specs.declared.ids.EpochId.{EpochId}
@@ -22,8 +22,8 @@ use Rattle.commit_graph.proofs.Names.{same_stamp_refl, same_stamp_eq}
 use Rattle.trace_book.specs.Same.{same_epoch}
 use Rattle.trace_book.specs.declared.record.Record.{Record}
 use Rattle.trace_book.specs.declared.record.Record.TheVariants as says
-use Rattle.role_steps.specs.Views.{Told, Shown}
-use Rattle.tree_laws.specs.of_the_run.Worlds.{Line}
+use Rattle.pack_laws.specs.of_role_steps.Views.{Told, Shown}
+use Rattle.order_laws.specs.of_tree_laws.of_the_run.Worlds.{Line}
 use Rattle.tree_model.specs.declared.instance.Instance.{Instance}
 use Rattle.tree_model.specs.Epochs.{is_in as is_at}
 use Rattle.tree_model.specs.Folds.{Trace}
@@ -34,12 +34,12 @@ use Rattle.tree_model.specs.Opening.{is_only}
 use Rattle.tree_model.specs.State.{TreeState, has_stamp, held_at, is_granted_here, is_inside, is_make, is_named, is_writer, kept_of, stamps_of}
 use Rattle.tree_model.specs.Tree.{acted, grant_of, granted, joined, left, next, once_acted, once_committed, opened, published, released, tree_of, without_make}
 use Rattle.tree_model.specs.Working.{list_of, merges, parents_of}
-use Rattle.lawful_trace.specs.TreeRows.{is_writing}
-use Rattle.tree_laws.specs.Following.{IsFollowed, MakesInTime, MayTell, RowsAreLawful}
-use Rattle.tree_laws.specs.Printed.{entries, onto_entries}
-use Rattle.tree_laws.proofs.Names.{same_epoch_eq}
-use Rattle.tree_laws.proofs.Owing.{inside_is}
-use Rattle.tree_laws.proofs.Rows.{followed_rows}
+use Rattle.order_laws.specs.of_lawful_trace.TreeRows.{is_writing}
+use Rattle.order_laws.specs.of_tree_laws.Following.{IsFollowed, MakesInTime, MayTell, RowsAreLawful}
+use Rattle.order_laws.specs.of_tree_laws.Printed.{entries, onto_entries}
+use Rattle.order_laws.proofs.of_tree_laws.Names.{same_epoch_eq}
+use Rattle.order_laws.proofs.of_tree_laws.Owing.{inside_is}
+use Rattle.order_laws.proofs.of_tree_laws.Rows.{followed_rows}
 use Rattle.order_laws.specs.Alone.{MayStandBy}
 use Rattle.order_laws.specs.Joining.{PacksAreOfSites}
 use Rattle.order_laws.proofs.Alone.{rows_apart, tree_is, tree_named}
@@ -52,7 +52,7 @@ use Rattle.holding_laws.proofs.Made.{CommitsAreNew, held_stand}
 use Rattle.holding_laws.proofs.OneVersionMakes.{Free, free_or_named}
 use Rattle.holding_laws.proofs.Seats.{Seat, granted_placed, rows_seated, same_version_is}
 use Rattle.holding_laws.proofs.Turning.{acted_last, all_turned}
-use Rattle.tree_laws.specs.Past.{WasBegun, WasNamed}
+use Rattle.order_laws.specs.of_tree_laws.Past.{WasBegun, WasNamed}
 use Rattle.holding_laws.proofs.OneVersionLists.{all_among, all_both, all_unit, beside_found, none_kept, only_one}
 
 -- the version is below the last one

@@ -3,9 +3,9 @@ use Rattle.std.proofs.Common.{◌≡◌, ℕ, ◌+◌, ◌*◌, ◌==◌, ◌<�
 use Rattle.std.proofs.lemmas.Bool.Decides.{nat_tests}
 use Rattle.std.specs.List.{AllByRecursion, list_any}
 use Rattle.std.specs.Option.{is_none, option_or}
-use Rattle.role_steps.proofs.of_plain_facts.Numbers.{equal_self}
-use Rattle.role_steps.proofs.of_plain_facts.Options.{none_some}
-use Rattle.role_steps.proofs.of_plain_facts.Tests.{and_first, and_second, or_second, true_false}
+use Rattle.pack_laws.proofs.of_role_steps.of_plain_facts.Numbers.{equal_self}
+use Rattle.pack_laws.proofs.of_role_steps.of_plain_facts.Options.{none_some}
+use Rattle.pack_laws.proofs.of_role_steps.of_plain_facts.Tests.{and_first, and_second, or_second, true_false}
 use Rattle.locus_ids.specs.declared.config.Config.{Config}
 use Rattle.locus_ids.specs.declared.ids.CallId.{CallId}
 use Rattle.locus_ids.specs.declared.ids.EpochId.{EpochId}
@@ -31,9 +31,9 @@ use Rattle.tree_model.specs.Lists.{change_first}
 use Rattle.tree_model.specs.Opening.{is_given_by, is_new_file, is_site, making_site, open_refusal, place_refusal}
 use Rattle.tree_model.specs.State.{TreeState, has_stamp, is_granted_here, is_inside, is_make, is_named, is_writer, kept_of, openers, stamps_of}
 use Rattle.tree_model.specs.Tree.{acted, grant_of, joined, left, next, once_acted, once_committed, opened, released, tree_of, without_make}
-use Rattle.lawful_trace.specs.Lawful.{MayCome}
-use Rattle.lawful_trace.specs.TreeRows.{MayCommit, is_writing}
-use Rattle.tree_laws.specs.Following.{RowsAreLawful}
+use Rattle.order_laws.specs.of_lawful_trace.Lawful.{MayCome}
+use Rattle.order_laws.specs.of_lawful_trace.TreeRows.{MayCommit, is_writing}
+use Rattle.order_laws.specs.of_tree_laws.Following.{RowsAreLawful}
 use Rattle.order_laws.proofs.Alone.{first_none, unrefused}
 use Rattle.order_laws.proofs.Lists.{all_changed, all_more, all_then, all_without}
 use Rattle.order_laws.proofs.Standing.{At, same_file_eq}

@@ -1,8 +1,8 @@
 -- Lists of instances and of stamps, of which something is so of all.
 use Rattle.std.proofs.Common.{◌≡◌, Bool, true, false, ◌||◌, cond, List, [], ◌∷◌, filter, Some, refl, sym, ap, ◌∙◌, subst, ◌⊎◌, inl, inr}
 use Rattle.std.specs.List.{AllByRecursion, find}
-use Rattle.role_steps.proofs.of_plain_facts.Options.{none_some, some_same}
-use Rattle.role_steps.proofs.of_plain_facts.Tests.{or_second, true_false}
+use Rattle.pack_laws.proofs.of_role_steps.of_plain_facts.Options.{none_some, some_same}
+use Rattle.pack_laws.proofs.of_role_steps.of_plain_facts.Tests.{or_second, true_false}
 use Rattle.locus_ids.specs.declared.ids.FileId.{FileId}
 use Rattle.locus_ids.specs.declared.ids.Stamp.{Stamp}
 use Rattle.commit_graph.specs.declared.history.Version.{Version}

@@ -2,9 +2,9 @@
 use Rattle.std.proofs.Common.{◌≡◌, ℕ, ◌==◌, Bool, true, false, ◌&&◌, ◌||◌, cond, List, [], ◌∷◌, ◌++◌, filter, Option, Some, None, refl, sym, ap, ◌∙◌, subst, arith, ◌⊎◌, inl, inr}
 use Rattle.std.proofs.lemmas.Bool.Decides.{nat_tests}
 use Rattle.std.specs.List.{list_any}
-use Rattle.role_steps.proofs.of_plain_facts.Numbers.{equal}
-use Rattle.role_steps.proofs.of_plain_facts.Options.{none_some, some_same}
-use Rattle.role_steps.proofs.of_plain_facts.Tests.{and_first, true_false}
+use Rattle.pack_laws.proofs.of_role_steps.of_plain_facts.Numbers.{equal}
+use Rattle.pack_laws.proofs.of_role_steps.of_plain_facts.Options.{none_some, some_same}
+use Rattle.pack_laws.proofs.of_role_steps.of_plain_facts.Tests.{and_first, true_false}
 use Rattle.locus_ids.specs.declared.config.Config.{Config}
 use Rattle.locus_ids.specs.declared.ids.EpochId.{EpochId}
 use Rattle.locus_ids.specs.declared.ids.FileId.{FileId}
@@ -17,8 +17,8 @@ use Rattle.commit_graph.specs.Versions.{is_in, is_version, same_file, same_stamp
 use Rattle.trace_book.specs.Same.{same_epoch}
 use Rattle.trace_book.specs.declared.record.Record.{Record}
 use Rattle.trace_book.specs.declared.record.Record.TheVariants as says
-use Rattle.role_steps.specs.Views.{Told, Shown, Begins}
-use Rattle.tree_laws.specs.of_the_run.Worlds.{Line}
+use Rattle.pack_laws.specs.of_role_steps.Views.{Told, Shown, Begins}
+use Rattle.order_laws.specs.of_tree_laws.of_the_run.Worlds.{Line}
 use Rattle.tree_model.specs.declared.instance.Granted.{Granted}
 use Rattle.tree_model.specs.declared.instance.Instance.{Instance}
 use Rattle.tree_model.specs.Epochs.{epoch_of, has_joined, is_in as is_at}
@@ -26,16 +26,16 @@ use Rattle.tree_model.specs.Histories.{history}
 use Rattle.tree_model.specs.Opening.{is_given_by}
 use Rattle.tree_model.specs.State.{TreeState, has_stamp, held_at, held_of, is_granted_here, is_inside, is_make, is_named, is_taken, stamps_of}
 use Rattle.tree_model.specs.Tree.{acted, grant_of, granted, joined, left, next, published, released, tree_of, without_make}
-use Rattle.lawful_trace.specs.Lawful.{MayCome}
-use Rattle.lawful_trace.specs.TreeRows.{is_writing}
-use Rattle.tree_laws.specs.Following.{BeginsGranted, BeginsMade, IsFollowed, MakesInTime, MayTell}
-use Rattle.tree_laws.specs.Instances.{IsKnown, IsStarted, held_in}
-use Rattle.tree_laws.specs.Past.{BeginsIt, WasBegun, WasNamed}
-use Rattle.tree_laws.specs.Printed.{entries}
-use Rattle.tree_laws.proofs.Kinship.{started_stays}
-use Rattle.tree_laws.proofs.Names.{same_epoch_eq}
-use Rattle.tree_laws.proofs.Owing.{inside_is}
-use Rattle.tree_laws.proofs.Rows.{followed_rows}
+use Rattle.order_laws.specs.of_lawful_trace.Lawful.{MayCome}
+use Rattle.order_laws.specs.of_lawful_trace.TreeRows.{is_writing}
+use Rattle.order_laws.specs.of_tree_laws.Following.{BeginsGranted, BeginsMade, IsFollowed, MakesInTime, MayTell}
+use Rattle.order_laws.specs.of_tree_laws.Instances.{IsKnown, IsStarted, held_in}
+use Rattle.order_laws.specs.of_tree_laws.Past.{BeginsIt, WasBegun, WasNamed}
+use Rattle.order_laws.specs.of_tree_laws.Printed.{entries}
+use Rattle.order_laws.proofs.of_tree_laws.Kinship.{started_stays}
+use Rattle.order_laws.proofs.of_tree_laws.Names.{same_epoch_eq}
+use Rattle.order_laws.proofs.of_tree_laws.Owing.{inside_is}
+use Rattle.order_laws.proofs.of_tree_laws.Rows.{followed_rows}
 use Rattle.order_laws.specs.Joining.{PacksAreOfSites}
 use Rattle.order_laws.proofs.Alone.{IsTakenIn, rows_apart, tree_is, tree_named}
 use Rattle.order_laws.proofs.Keeping.{EndsIn, PublishesNone, ends_in, file_eq, known_same, published_same}

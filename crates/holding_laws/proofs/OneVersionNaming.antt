@@ -1,15 +1,15 @@
 -- Whether an open was named is decided by its trace.
 use Rattle.std.proofs.Common.{◌≡◌, Bool, true, false, List, [], ◌∷◌, refl, sym, ◌∙◌, subst, ◌⊎◌, inl, inr}
-use Rattle.role_steps.proofs.of_plain_facts.Tests.{true_false}
+use Rattle.pack_laws.proofs.of_role_steps.of_plain_facts.Tests.{true_false}
 use Rattle.locus_ids.specs.declared.ids.EpochId.{EpochId}
 use Rattle.locus_ids.specs.declared.ids.Serial.{Serial}
 use Rattle.trace_book.specs.Same.{same_epoch, same_serial}
 use Rattle.trace_book.specs.declared.record.Record.{Record}
 use Rattle.trace_book.specs.declared.record.Record.TheVariants as says
-use Rattle.role_steps.specs.Views.{Told, Shown}
-use Rattle.tree_laws.specs.of_the_run.Worlds.{Line}
-use Rattle.tree_laws.specs.Past.{NamesIt, NamingRecord, Printed, WasNamed}
-use Rattle.tree_laws.proofs.Names.{same_epoch_eq, same_epoch_own, same_serial_eq, same_serial_own}
+use Rattle.pack_laws.specs.of_role_steps.Views.{Told, Shown}
+use Rattle.order_laws.specs.of_tree_laws.of_the_run.Worlds.{Line}
+use Rattle.order_laws.specs.of_tree_laws.Past.{NamesIt, NamingRecord, Printed, WasNamed}
+use Rattle.order_laws.proofs.of_tree_laws.Names.{same_epoch_eq, same_epoch_own, same_serial_eq, same_serial_own}
 
 names_it : (e : EpochId) (i : Serial) (at : EpochId) (inst : Serial) → NamesIt e i at inst ⊎ (NamesIt e i at inst → ⊥)
 names_it e i at inst = over (same_epoch at e) (same_serial inst i)

@@ -1,11 +1,11 @@
 -- The order of versions stays when a line is told that may be told.
 use Rattle.std.proofs.Common.{ℕ, List, ◌∷◌}
 use Rattle.locus_ids.specs.declared.config.Config.{Config}
-use Rattle.role_steps.specs.Views.{Told}
-use Rattle.tree_laws.specs.of_the_run.Worlds.{Line}
-use Rattle.tree_laws.specs.Following.{IsFollowed, MayTell}
-use Rattle.tree_laws.specs.Frames.{OrderStays}
-use Rattle.tree_laws.specs.Printed.{entries, onto_entries}
+use Rattle.pack_laws.specs.of_role_steps.Views.{Told}
+use Rattle.order_laws.specs.of_tree_laws.of_the_run.Worlds.{Line}
+use Rattle.order_laws.specs.of_tree_laws.Following.{IsFollowed, MayTell}
+use Rattle.order_laws.specs.of_tree_laws.Frames.{OrderStays}
+use Rattle.order_laws.specs.of_tree_laws.Printed.{entries, onto_entries}
 use Rattle.holding_laws.specs.Below.{LawsBelow}
 use Rattle.holding_laws.proofs.Below.{commits_new, line_fresh, packs_hold}
 use Rattle.holding_laws.proofs.Kept.{kept_stays}

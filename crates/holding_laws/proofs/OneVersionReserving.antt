@@ -14,21 +14,21 @@ use Rattle.commit_graph.specs.Versions.{is_in}
 use Rattle.trace_book.specs.Same.{same_epoch}
 use Rattle.trace_book.specs.declared.record.Record.{Record}
 use Rattle.trace_book.specs.declared.record.Record.TheVariants as says
-use Rattle.role_steps.specs.Views.{Told, Shown, Begins}
-use Rattle.tree_laws.specs.of_the_run.Worlds.{Line}
+use Rattle.pack_laws.specs.of_role_steps.Views.{Told, Shown, Begins}
+use Rattle.order_laws.specs.of_tree_laws.of_the_run.Worlds.{Line}
 use Rattle.tree_model.specs.declared.instance.Granted.{Granted}
 use Rattle.tree_model.specs.Given.{gives_grant}
 use Rattle.tree_model.specs.Histories.{history}
 use Rattle.tree_model.specs.Opening.{is_given_by}
 use Rattle.tree_model.specs.State.{TreeState, is_granted_here, is_make, stamps_of}
 use Rattle.tree_model.specs.Tree.{acted, grant_of, granted, joined, left, next, released, tree_of, without_make}
-use Rattle.tree_laws.specs.Following.{BeginsGranted, BeginsMade, IsFollowed, MakesInTime, MayTell}
-use Rattle.tree_laws.specs.Past.{BeginsIt, WasBegun, WasNamed}
-use Rattle.tree_laws.specs.Printed.{entries, onto_entries}
-use Rattle.tree_laws.proofs.Grants.{open_named}
-use Rattle.tree_laws.proofs.Histories.{stands_more}
-use Rattle.tree_laws.proofs.Names.{same_epoch_eq}
-use Rattle.tree_laws.proofs.Rows.{followed_rows}
+use Rattle.order_laws.specs.of_tree_laws.Following.{BeginsGranted, BeginsMade, IsFollowed, MakesInTime, MayTell}
+use Rattle.order_laws.specs.of_tree_laws.Past.{BeginsIt, WasBegun, WasNamed}
+use Rattle.order_laws.specs.of_tree_laws.Printed.{entries, onto_entries}
+use Rattle.order_laws.proofs.of_tree_laws.Grants.{open_named}
+use Rattle.order_laws.proofs.of_tree_laws.Histories.{stands_more}
+use Rattle.order_laws.proofs.of_tree_laws.Names.{same_epoch_eq}
+use Rattle.order_laws.proofs.of_tree_laws.Rows.{followed_rows}
 use Rattle.order_laws.proofs.Alone.{tree_named}
 use Rattle.order_laws.proofs.Lists.{all_more, all_then}
 use Rattle.holding_laws.proofs.OneVersionHomes.{OnGround, grants_on_ground}

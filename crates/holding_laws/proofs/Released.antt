@@ -1,9 +1,9 @@
 -- What was released isn't open any more.
 use Rattle.std.proofs.Common.{◌≡◌, ℕ, ◌==◌, Bool, true, false, ◌&&◌, cond, List, [], ◌∷◌, Option, Some, None, sym, ◌∙◌, subst, ◌⊎◌, inl, inr}
 use Rattle.std.specs.List.{find}
-use Rattle.role_steps.proofs.of_plain_facts.Numbers.{equal_self}
-use Rattle.role_steps.proofs.of_plain_facts.Options.{none_some}
-use Rattle.role_steps.proofs.of_plain_facts.Tests.{true_false}
+use Rattle.pack_laws.proofs.of_role_steps.of_plain_facts.Numbers.{equal_self}
+use Rattle.pack_laws.proofs.of_role_steps.of_plain_facts.Options.{none_some}
+use Rattle.pack_laws.proofs.of_role_steps.of_plain_facts.Tests.{true_false}
 use Rattle.locus_ids.specs.declared.config.Config.{Config}
 use Rattle.locus_ids.specs.declared.ids.EpochId.{EpochId}
 use Rattle.locus_ids.specs.declared.ids.FileId.{FileId}
@@ -12,21 +12,21 @@ use Rattle.locus_ids.specs.declared.ids.Stamp.{Stamp}
 use Rattle.trace_book.specs.Same.{same_epoch}
 use Rattle.trace_book.specs.declared.record.Record.{Record}
 use Rattle.trace_book.specs.declared.record.Record.TheVariants as says
-use Rattle.role_steps.specs.Views.{Told, Shown}
-use Rattle.tree_laws.specs.of_the_run.Worlds.{Line}
+use Rattle.pack_laws.specs.of_role_steps.Views.{Told, Shown}
+use Rattle.order_laws.specs.of_tree_laws.of_the_run.Worlds.{Line}
 use Rattle.tree_model.specs.declared.instance.Instance.{Instance}
 use Rattle.tree_model.specs.Histories.{history}
 use Rattle.tree_model.specs.State.{instance_in, is_named}
 use Rattle.tree_model.specs.Tree.{released, tree_of}
-use Rattle.lawful_trace.specs.TreeRows.{granted_group}
-use Rattle.tree_laws.specs.Following.{IsFollowed, MayTell}
-use Rattle.tree_laws.specs.Instances.{instance_now}
-use Rattle.tree_laws.specs.Past.{EndRecord, Printed, WasNamed, WasReleased}
-use Rattle.tree_laws.specs.Printed.{entries}
-use Rattle.tree_laws.proofs.Grants.{Had, before_record, open_named}
-use Rattle.tree_laws.proofs.Names.{same_epoch_own}
-use Rattle.tree_laws.proofs.Opened.{GrantsIt}
-use Rattle.tree_laws.proofs.Rows.{followed_rows}
+use Rattle.order_laws.specs.of_lawful_trace.TreeRows.{granted_group}
+use Rattle.order_laws.specs.of_tree_laws.Following.{IsFollowed, MayTell}
+use Rattle.order_laws.specs.of_tree_laws.Instances.{instance_now}
+use Rattle.order_laws.specs.of_tree_laws.Past.{EndRecord, Printed, WasNamed, WasReleased}
+use Rattle.order_laws.specs.of_tree_laws.Printed.{entries}
+use Rattle.order_laws.proofs.of_tree_laws.Grants.{Had, before_record, open_named}
+use Rattle.order_laws.proofs.of_tree_laws.Names.{same_epoch_own}
+use Rattle.order_laws.proofs.of_tree_laws.Opened.{GrantsIt}
+use Rattle.order_laws.proofs.of_tree_laws.Rows.{followed_rows}
 use Rattle.order_laws.proofs.Alone.{tree_named}
 use Rattle.holding_laws.proofs.Distinct.{none_left, open_now, rows_names_apart}
 

@@ -1,17 +1,17 @@
 -- What a site reports it has until its group starts in the epoch; and what stands is what it was.
 use Rattle.std.proofs.Common.{◌≡◌, ℕ, Bool, true, false, List, [], ◌∷◌, filter, Option, Some, refl, sym, ap, ◌∙◌, subst, ◌⊎◌, inl, inr}
-use Rattle.role_steps.proofs.of_plain_facts.Numbers.{equal}
-use Rattle.role_steps.proofs.of_plain_facts.Tests.{true_false}
+use Rattle.pack_laws.proofs.of_role_steps.of_plain_facts.Numbers.{equal}
+use Rattle.pack_laws.proofs.of_role_steps.of_plain_facts.Tests.{true_false}
 use Rattle.locus_ids.specs.declared.config.Config.{Config}
 use Rattle.locus_ids.specs.declared.ids.EpochId.{EpochId}
 use Rattle.locus_ids.specs.declared.ids.FileId.{FileId}
 use Rattle.locus_ids.specs.declared.ids.Stamp.{Stamp}
 use Rattle.trace_book.specs.declared.record.Record.{Record}
 use Rattle.trace_book.specs.declared.record.Record.TheVariants as says
-use Rattle.role_steps.specs.of_wire_messages.declared.body.ReportedCopy.{ReportedCopy}
-use Rattle.role_steps.specs.Own.{Every}
-use Rattle.role_steps.specs.Views.{Told, Shown}
-use Rattle.tree_laws.specs.of_the_run.Worlds.{Line}
+use Rattle.pack_laws.specs.of_role_steps.of_wire_messages.declared.body.ReportedCopy.{ReportedCopy}
+use Rattle.pack_laws.specs.of_role_steps.Own.{Every}
+use Rattle.pack_laws.specs.of_role_steps.Views.{Told, Shown}
+use Rattle.order_laws.specs.of_tree_laws.of_the_run.Worlds.{Line}
 use Rattle.tree_model.specs.declared.instance.Instance.{Instance}
 use Rattle.tree_model.specs.Epochs.{epoch_of, has_joined, is_in}
 use Rattle.tree_model.specs.Files.{HeldVersion, version_of}
@@ -19,18 +19,18 @@ use Rattle.tree_model.specs.Folds.{Trace}
 use Rattle.tree_model.specs.Histories.{history}
 use Rattle.tree_model.specs.State.{TreeState, held_at, held_of, is_inside}
 use Rattle.tree_model.specs.Tree.{next, tree_of}
-use Rattle.lawful_trace.specs.TreeRows.{is_writing}
-use Rattle.tree_laws.specs.Following.{IsFollowed, MayTell}
-use Rattle.tree_laws.specs.Frames.{IsFresh}
-use Rattle.tree_laws.specs.Instances.{IsVersion, Stands, held_in}
-use Rattle.tree_laws.specs.Packets.{ReportFact, ReportedNow, file_in}
-use Rattle.tree_laws.specs.Printed.{entries, onto_entries}
-use Rattle.tree_laws.proofs.Histories.{content_same, stands_more, vector_same}
-use Rattle.tree_laws.proofs.Kinship.{started_stays}
-use Rattle.tree_laws.proofs.Names.{same_epoch_eq}
-use Rattle.tree_laws.proofs.Origins.{kind_same, set_same}
-use Rattle.tree_laws.proofs.Owing.{inside_is}
-use Rattle.tree_laws.proofs.Rows.{followed_rows}
+use Rattle.order_laws.specs.of_lawful_trace.TreeRows.{is_writing}
+use Rattle.order_laws.specs.of_tree_laws.Following.{IsFollowed, MayTell}
+use Rattle.order_laws.specs.of_tree_laws.Frames.{IsFresh}
+use Rattle.order_laws.specs.of_tree_laws.Instances.{IsVersion, Stands, held_in}
+use Rattle.order_laws.specs.of_tree_laws.Packets.{ReportFact, ReportedNow, file_in}
+use Rattle.order_laws.specs.of_tree_laws.Printed.{entries, onto_entries}
+use Rattle.order_laws.proofs.of_tree_laws.Histories.{content_same, stands_more, vector_same}
+use Rattle.order_laws.proofs.of_tree_laws.Kinship.{started_stays}
+use Rattle.order_laws.proofs.of_tree_laws.Names.{same_epoch_eq}
+use Rattle.order_laws.proofs.of_tree_laws.Origins.{kind_same, set_same}
+use Rattle.order_laws.proofs.of_tree_laws.Owing.{inside_is}
+use Rattle.order_laws.proofs.of_tree_laws.Rows.{followed_rows}
 use Rattle.order_laws.proofs.Alone.{tree_is, tree_named}
 use Rattle.order_laws.proofs.Started.{rows_started}
 use Rattle.holding_laws.proofs.Copies.{copy_after, copy_next, joined_more}

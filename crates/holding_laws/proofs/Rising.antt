@@ -2,8 +2,8 @@
 use Rattle.std.proofs.Common.{◌≡◌, ℕ, ◌==◌, Bool, true, false, not, ◌&&◌, ◌||◌, cond, List, [], ◌∷◌, filter, Option, Some, None, refl, sym, ap, ◌∙◌, subst, ◌⊎◌, inl, inr}
 use Rattle.std.specs.List.{AllByRecursion, list_any}
 use Rattle.std.specs.Option.{is_none, is_some, option_map}
-use Rattle.role_steps.proofs.of_plain_facts.Numbers.{equal, equal_self}
-use Rattle.role_steps.proofs.of_plain_facts.Tests.{and_first, and_second, or_second, true_false}
+use Rattle.pack_laws.proofs.of_role_steps.of_plain_facts.Numbers.{equal, equal_self}
+use Rattle.pack_laws.proofs.of_role_steps.of_plain_facts.Tests.{and_first, and_second, or_second, true_false}
 use Rattle.locus_ids.specs.declared.config.Config.{Config}
 use Rattle.locus_ids.specs.declared.ids.EpochId.{EpochId}
 use Rattle.locus_ids.specs.declared.ids.FileId.{FileId}
@@ -16,8 +16,8 @@ use Rattle.commit_graph.proofs.Names.{same_stamp_refl, same_stamp_eq}
 use Rattle.trace_book.specs.Same.{same_epoch}
 use Rattle.trace_book.specs.declared.record.Record.{Record}
 use Rattle.trace_book.specs.declared.record.Record.TheVariants as says
-use Rattle.role_steps.specs.Views.{Told, Shown}
-use Rattle.tree_laws.specs.of_the_run.Worlds.{Line}
+use Rattle.pack_laws.specs.of_role_steps.Views.{Told, Shown}
+use Rattle.order_laws.specs.of_tree_laws.of_the_run.Worlds.{Line}
 use Rattle.tree_model.specs.declared.instance.Instance.{Instance}
 use Rattle.tree_model.specs.Epochs.{epoch_of, has_joined, is_in as is_at}
 use Rattle.tree_model.specs.Folds.{Trace}
@@ -25,14 +25,14 @@ use Rattle.tree_model.specs.Histories.{held, history}
 use Rattle.tree_model.specs.State.{TreeState, copy_of, has_stamp, held_at, held_of, is_inside, kept_of}
 use Rattle.tree_model.specs.Tree.{candidates, copy_now, entered, next, tree_of, with_root}
 use Rattle.tree_model.specs.Working.{list_of, merges}
-use Rattle.lawful_trace.specs.Lawful.{MayCome}
-use Rattle.lawful_trace.specs.TreeRows.{MayAdopt, MayCommit, is_above, is_writing}
-use Rattle.tree_laws.specs.Following.{IsFollowed, MayTell, RowsAreLawful}
-use Rattle.tree_laws.specs.Instances.{HasAtLeast, IsKnown}
-use Rattle.tree_laws.specs.Printed.{entries, onto_entries}
-use Rattle.tree_laws.proofs.Names.{same_epoch_eq}
-use Rattle.tree_laws.proofs.Owing.{inside_is}
-use Rattle.tree_laws.proofs.Rows.{followed_rows}
+use Rattle.order_laws.specs.of_lawful_trace.Lawful.{MayCome}
+use Rattle.order_laws.specs.of_lawful_trace.TreeRows.{MayAdopt, MayCommit, is_above, is_writing}
+use Rattle.order_laws.specs.of_tree_laws.Following.{IsFollowed, MayTell, RowsAreLawful}
+use Rattle.order_laws.specs.of_tree_laws.Instances.{HasAtLeast, IsKnown}
+use Rattle.order_laws.specs.of_tree_laws.Printed.{entries, onto_entries}
+use Rattle.order_laws.proofs.of_tree_laws.Names.{same_epoch_eq}
+use Rattle.order_laws.proofs.of_tree_laws.Owing.{inside_is}
+use Rattle.order_laws.proofs.of_tree_laws.Rows.{followed_rows}
 use Rattle.order_laws.proofs.Alone.{tree_is, tree_named}
 use Rattle.order_laws.proofs.Keeping.{IsNew}
 use Rattle.holding_laws.specs.Order.{IsWellMade}

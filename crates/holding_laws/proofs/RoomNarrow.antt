@@ -1,6 +1,6 @@
 -- The inode numbers of files that stand have 16 bits, where those of all commits and adoptions have.
 use Rattle.std.proofs.Common.{◌≡◌, ℕ, ◌+◌, ◌==◌, ◌<◌, Bool, true, false, ◌||◌, ◌&&◌, cond, List, [], ◌∷◌, refl, sym, ap, subst, arith, ◌⊎◌, inl, inr}
-use Rattle.role_steps.proofs.of_plain_facts.Tests.{and_first, true_false}
+use Rattle.pack_laws.proofs.of_role_steps.of_plain_facts.Tests.{and_first, true_false}
 use Rattle.locus_ids.specs.declared.config.Config.{Config}
 use Rattle.locus_ids.specs.declared.ids.FileId.{FileId}
 use Rattle.locus_ids.specs.declared.sites.Sites.{Sites}
@@ -9,12 +9,12 @@ use Rattle.locus_ids.specs.Sizes.{inode_span}
 use Rattle.commit_graph.specs.Versions.{is_in, is_version, same_file, same_stamp}
 use Rattle.trace_book.specs.declared.record.Record.{Record}
 use Rattle.trace_book.specs.declared.record.Record.TheVariants as says
-use Rattle.role_steps.specs.Views.{Told, Shown}
-use Rattle.tree_laws.specs.of_the_run.Worlds.{Line}
+use Rattle.pack_laws.specs.of_role_steps.Views.{Told, Shown}
+use Rattle.order_laws.specs.of_tree_laws.of_the_run.Worlds.{Line}
 use Rattle.pack_laws.specs.of_vector_laws.Written.{past_of}
 use Rattle.pack_laws.specs.of_vector_laws.HistoryCommits.{FitRecord, FitTold, NumbersFit}
 use Rattle.tree_model.specs.Histories.{format_stamp, format_version, format_versions, history}
-use Rattle.tree_laws.specs.Printed.{entries, onto_entries}
+use Rattle.order_laws.specs.of_tree_laws.Printed.{entries, onto_entries}
 use Rattle.order_laws.proofs.Standing.{At, same_file_eq}
 
 -- the format's versions are of roots

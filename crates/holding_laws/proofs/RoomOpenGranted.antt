@@ -1,6 +1,6 @@
 -- What is open was granted so, to a call.
 use Rattle.std.proofs.Common.{◌≡◌, ℕ, ◌<◌, ◌≤◌, List, [], ◌∷◌, Option, Some, refl, sym, ap, ◌∙◌, subst, arith, ◌⊎◌, inl, inr}
-use Rattle.role_steps.proofs.of_plain_facts.Options.{none_some, some_same}
+use Rattle.pack_laws.proofs.of_role_steps.of_plain_facts.Options.{none_some, some_same}
 use Rattle.locus_ids.specs.declared.config.Config.{Config}
 use Rattle.locus_ids.specs.declared.ids.CallId.{CallId}
 use Rattle.locus_ids.specs.declared.ids.EpochId.{EpochId}
@@ -11,21 +11,21 @@ use Rattle.locus_ids.specs.declared.ids.Stamp.{Stamp}
 use Rattle.locus_ids.specs.Sizes.{sites_max}
 use Rattle.trace_book.specs.declared.record.Record.{Record}
 use Rattle.trace_book.specs.declared.record.Record.TheVariants as says
-use Rattle.role_steps.specs.Views.{Told, Shown}
-use Rattle.tree_laws.specs.of_the_run.Worlds.{Line}
+use Rattle.pack_laws.specs.of_role_steps.Views.{Told, Shown}
+use Rattle.order_laws.specs.of_tree_laws.of_the_run.Worlds.{Line}
 use Rattle.tree_model.specs.declared.instance.Granted.{Granted}
 use Rattle.tree_model.specs.declared.instance.Instance.{Instance}
 use Rattle.tree_model.specs.Histories.{history}
 use Rattle.tree_model.specs.State.{instance_in}
 use Rattle.tree_model.specs.Tree.{tree_of}
-use Rattle.lawful_trace.specs.TreeRows.{IsCallIn}
-use Rattle.tree_laws.specs.Following.{IsFollowed, MayTell}
-use Rattle.tree_laws.specs.Instances.{instance_now}
-use Rattle.tree_laws.specs.Past.{EndRecord, GrantRecord, Printed, WasGranted}
-use Rattle.tree_laws.specs.Printed.{entries, onto_entries}
-use Rattle.tree_laws.proofs.Grants.{Had, before_record}
-use Rattle.tree_laws.proofs.Opened.{EndsIt, Found, GrantsIt, next_found}
-use Rattle.tree_laws.proofs.Scripts.{in_stays}
+use Rattle.order_laws.specs.of_lawful_trace.TreeRows.{IsCallIn}
+use Rattle.order_laws.specs.of_tree_laws.Following.{IsFollowed, MayTell}
+use Rattle.order_laws.specs.of_tree_laws.Instances.{instance_now}
+use Rattle.order_laws.specs.of_tree_laws.Past.{EndRecord, GrantRecord, Printed, WasGranted}
+use Rattle.order_laws.specs.of_tree_laws.Printed.{entries, onto_entries}
+use Rattle.order_laws.proofs.of_tree_laws.Grants.{Had, before_record}
+use Rattle.order_laws.proofs.of_tree_laws.Opened.{EndsIt, Found, GrantsIt, next_found}
+use Rattle.order_laws.proofs.of_tree_laws.Scripts.{in_stays}
 use Rattle.order_laws.proofs.Alone.{tree_named}
 use Rattle.holding_laws.proofs.Begun.{Untouched, granted_open}
 use Rattle.holding_laws.proofs.Distinct.{open_now}

@@ -8,22 +8,22 @@ use Rattle.locus_ids.specs.declared.ids.Stamp.{Stamp}
 use Rattle.locus_ids.specs.Sizes.{inode_span, pack_pages}
 use Rattle.commit_graph.specs.declared.history.Version.{Version}
 use Rattle.file_content.specs.Pages.{pages_of}
-use Rattle.role_steps.specs.Storage.{changed_pages, content_of, copy_of, copy_pages, free_pages}
-use Rattle.role_steps.specs.Tables.{total}
-use Rattle.role_steps.specs.Views.{Frame, Store}
-use Rattle.role_steps.specs.declared.copies.FileCopy.{FileCopy}
-use Rattle.tree_laws.specs.of_the_run.Worlds.{Line}
+use Rattle.pack_laws.specs.of_role_steps.Storage.{changed_pages, content_of, copy_of, copy_pages, free_pages}
+use Rattle.pack_laws.specs.of_role_steps.Tables.{total}
+use Rattle.pack_laws.specs.of_role_steps.Views.{Frame, Store}
+use Rattle.pack_laws.specs.of_role_steps.declared.copies.FileCopy.{FileCopy}
+use Rattle.order_laws.specs.of_tree_laws.of_the_run.Worlds.{Line}
 use Rattle.tree_model.specs.declared.copy.HeldCopy.{HeldCopy}
 use Rattle.tree_model.specs.Files.{version_of}
 use Rattle.tree_model.specs.Histories.{held, history, stamped_content}
 use Rattle.tree_model.specs.State.{TreeState, held_at}
 use Rattle.tree_model.specs.Tree.{tree_of}
 use Rattle.tree_model.specs.Working.{free_pages as tree_free, held_pages, pages_of_copy}
-use Rattle.tree_laws.specs.Doing.{FrameFact, StoreHeld}
-use Rattle.tree_laws.specs.Following.{IsFollowed}
-use Rattle.tree_laws.specs.Printed.{entries}
-use Rattle.tree_laws.specs.Stores.{CopiesAreHeld, copy_for}
-use Rattle.tree_laws.proofs.Rows.{followed_rows}
+use Rattle.order_laws.specs.of_tree_laws.Doing.{FrameFact, StoreHeld}
+use Rattle.order_laws.specs.of_tree_laws.Following.{IsFollowed}
+use Rattle.order_laws.specs.of_tree_laws.Printed.{entries}
+use Rattle.order_laws.specs.of_tree_laws.Stores.{CopiesAreHeld, copy_for}
+use Rattle.order_laws.proofs.of_tree_laws.Rows.{followed_rows}
 use Rattle.order_laws.proofs.Alone.{tree_named}
 use Rattle.order_laws.proofs.Standing.{At}
 use Rattle.holding_laws.proofs.Copies.{copies_are}

@@ -2,9 +2,9 @@
 use Rattle.std.proofs.Common.{◌≡◌, ℕ, ◌+◌, ◌*◌, ◌==◌, ◌<◌, ◌≤◌, Bool, true, false, ◌&&◌, cond, List, [], ◌∷◌, filter, length, Option, Some, None, refl, sym, ap, ◌∙◌, subst, arith, ◌⊎◌, inl, inr}
 use Rattle.std.proofs.lemmas.List.Sums.{sum_by-cons}
 use Rattle.std.specs.List.{AllByRecursion, find, sum_by}
-use Rattle.role_steps.proofs.of_plain_facts.Numbers.{equal, equal_self}
-use Rattle.role_steps.proofs.of_plain_facts.Options.{none_some, some_same}
-use Rattle.role_steps.proofs.of_plain_facts.Tests.{true_false}
+use Rattle.pack_laws.proofs.of_role_steps.of_plain_facts.Numbers.{equal, equal_self}
+use Rattle.pack_laws.proofs.of_role_steps.of_plain_facts.Options.{none_some, some_same}
+use Rattle.pack_laws.proofs.of_role_steps.of_plain_facts.Tests.{true_false}
 use Rattle.locus_ids.specs.declared.config.Config.{Config}
 use Rattle.locus_ids.specs.declared.ids.EpochId.{EpochId}
 use Rattle.locus_ids.specs.declared.ids.FileId.{FileId}
@@ -15,29 +15,29 @@ use Rattle.trace_book.specs.Same.{same_serial}
 use Rattle.trace_book.specs.declared.record.Record.{Record}
 use Rattle.trace_book.specs.declared.record.Record.TheVariants as says
 use Rattle.call_rules.specs.declared.answer.Answer.{Answer}
-use Rattle.file_effects.specs.declared.work.Work.{Work}
-use Rattle.role_steps.specs.Own.{Every}
-use Rattle.role_steps.specs.Storage.{changed_pages, instance_key, instance_of, is_open, is_open_in}
-use Rattle.role_steps.specs.Reports.{stamp_made}
-use Rattle.role_steps.specs.Tables.{row, total}
-use Rattle.role_steps.specs.Using.{close_answer}
-use Rattle.role_steps.specs.Views.{Frame, Store, Told, Shown, serial_key}
-use Rattle.role_steps.specs.declared.instances.Instance.{Instance}
-use Rattle.role_steps.specs.declared.instances.Stage.{Stage}
-use Rattle.role_steps.specs.declared.instances.Stage.TheVariants as stage
-use Rattle.tree_laws.specs.of_the_run.Worlds.{Line}
+use Rattle.tree_model.specs.of_file_effects.declared.work.Work.{Work}
+use Rattle.pack_laws.specs.of_role_steps.Own.{Every}
+use Rattle.pack_laws.specs.of_role_steps.Storage.{changed_pages, instance_key, instance_of, is_open, is_open_in}
+use Rattle.pack_laws.specs.of_role_steps.Reports.{stamp_made}
+use Rattle.pack_laws.specs.of_role_steps.Tables.{row, total}
+use Rattle.pack_laws.specs.of_role_steps.Using.{close_answer}
+use Rattle.pack_laws.specs.of_role_steps.Views.{Frame, Store, Told, Shown, serial_key}
+use Rattle.pack_laws.specs.of_role_steps.declared.instances.Instance.{Instance}
+use Rattle.pack_laws.specs.of_role_steps.declared.instances.Stage.{Stage}
+use Rattle.pack_laws.specs.of_role_steps.declared.instances.Stage.TheVariants as stage
+use Rattle.order_laws.specs.of_tree_laws.of_the_run.Worlds.{Line}
 use Rattle.tree_model.specs.declared.instance.Instance.{Instance as Open}
 use Rattle.tree_model.specs.State.{TreeState, instance_in, is_named}
 use Rattle.tree_model.specs.Tree.{tree_of}
 use Rattle.tree_model.specs.Working.{changed_pages as tree_changed}
-use Rattle.tree_laws.specs.Following.{IsFollowed}
-use Rattle.tree_laws.specs.Instances.{instance_now}
-use Rattle.tree_laws.specs.Past.{EndRecord, Printed, ReleaseRecord, WasBegun, WasNamed, WasReleased, WasReleasedWith}
-use Rattle.tree_laws.specs.Printed.{entries}
-use Rattle.tree_laws.specs.Stores.{AreApart, EndsAs, InstanceFact, RunsAs, StageFact, StoreFact}
-use Rattle.tree_laws.proofs.Grants.{open_named}
-use Rattle.tree_laws.proofs.Names.{same_serial_eq, same_serial_own}
-use Rattle.tree_laws.proofs.Rows.{followed_rows}
+use Rattle.order_laws.specs.of_tree_laws.Following.{IsFollowed}
+use Rattle.order_laws.specs.of_tree_laws.Instances.{instance_now}
+use Rattle.order_laws.specs.of_tree_laws.Past.{EndRecord, Printed, ReleaseRecord, WasBegun, WasNamed, WasReleased, WasReleasedWith}
+use Rattle.order_laws.specs.of_tree_laws.Printed.{entries}
+use Rattle.order_laws.specs.of_tree_laws.Stores.{AreApart, EndsAs, InstanceFact, RunsAs, StageFact, StoreFact}
+use Rattle.order_laws.proofs.of_tree_laws.Grants.{open_named}
+use Rattle.order_laws.proofs.of_tree_laws.Names.{same_serial_eq, same_serial_own}
+use Rattle.order_laws.proofs.of_tree_laws.Rows.{followed_rows}
 use Rattle.holding_laws.specs.Granted.{IsAsGranted}
 use Rattle.holding_laws.proofs.Begun.{open_in_group, open_seat, waits_as_granted}
 use Rattle.holding_laws.proofs.Below.{commits_new}

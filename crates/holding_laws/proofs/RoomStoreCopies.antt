@@ -3,22 +3,22 @@ use Rattle.std.proofs.Common.{◌≡◌, ℕ, ◌+◌, ◌*◌, ◌/◌, ◌%◌
 use Rattle.std.proofs.lemmas.Nat.{div-add-mod'}
 use Rattle.std.specs.List.{AllByRecursion}
 use Rattle.std.specs.Option.{option_map}
-use Rattle.role_steps.proofs.of_plain_facts.Numbers.{equal_self, equal as test_same}
-use Rattle.role_steps.proofs.of_plain_facts.Options.{none_some, some_same}
-use Rattle.role_steps.proofs.of_plain_facts.Tests.{true_false}
+use Rattle.pack_laws.proofs.of_role_steps.of_plain_facts.Numbers.{equal_self, equal as test_same}
+use Rattle.pack_laws.proofs.of_role_steps.of_plain_facts.Options.{none_some, some_same}
+use Rattle.pack_laws.proofs.of_role_steps.of_plain_facts.Tests.{true_false}
 use Rattle.locus_ids.specs.declared.config.Config.{Config}
 use Rattle.locus_ids.specs.declared.ids.FileId.{FileId}
 use Rattle.locus_ids.specs.Sizes.{inode_span}
 use Rattle.file_content.specs.Pages.{pages_of}
-use Rattle.role_steps.specs.Own.{Every}
-use Rattle.role_steps.specs.Storage.{content_of, copy_key, copy_of, copy_pages}
-use Rattle.role_steps.specs.Tables.{row, total}
-use Rattle.role_steps.specs.Views.{Store, file_key}
-use Rattle.role_steps.specs.declared.copies.FileCopy.{FileCopy}
-use Rattle.tree_laws.specs.of_the_run.Worlds.{Line}
+use Rattle.pack_laws.specs.of_role_steps.Own.{Every}
+use Rattle.pack_laws.specs.of_role_steps.Storage.{content_of, copy_key, copy_of, copy_pages}
+use Rattle.pack_laws.specs.of_role_steps.Tables.{row, total}
+use Rattle.pack_laws.specs.of_role_steps.Views.{Store, file_key}
+use Rattle.pack_laws.specs.of_role_steps.declared.copies.FileCopy.{FileCopy}
+use Rattle.order_laws.specs.of_tree_laws.of_the_run.Worlds.{Line}
 use Rattle.tree_model.specs.Files.{HeldVersion, held_version}
-use Rattle.tree_laws.specs.Printed.{entries}
-use Rattle.tree_laws.specs.Stores.{Ascends, CopiesAreHeld, copy_for}
+use Rattle.order_laws.specs.of_tree_laws.Printed.{entries}
+use Rattle.order_laws.specs.of_tree_laws.Stores.{Ascends, CopiesAreHeld, copy_for}
 use Rattle.order_laws.proofs.Standing.{At}
 use Rattle.holding_laws.proofs.RoomSums.{Amount, AreSingle, amount_at, sum_of}
 use Rattle.holding_laws.proofs.RoomTreeCopies.{numbers_tell, same_number}

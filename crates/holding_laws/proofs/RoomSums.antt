@@ -1,7 +1,7 @@
 -- Two lists in which each key stands once, and which give each key the same amount, have the same sum.
 use Rattle.std.proofs.Common.{◌≡◌, ℕ, ◌+◌, Bool, true, false, cond, List, [], ◌∷◌, refl, sym, ap, ◌∙◌, subst, arith}
 use Rattle.std.specs.List.{AllByRecursion}
-use Rattle.role_steps.proofs.of_plain_facts.Tests.{true_false}
+use Rattle.pack_laws.proofs.of_role_steps.of_plain_facts.Tests.{true_false}
 
 -- an amount under a key
 pub record Amount (K : Type 0) : Type 0 where

@@ -2,9 +2,9 @@
 use Rattle.std.proofs.Common.{◌≡◌, ℕ, ◌==◌, Bool, true, false, not, ◌&&◌, ◌||◌, cond, List, [], ◌∷◌, ◌++◌, filter, Option, Some, None, refl, sym, ap, ◌∙◌, subst}
 use Rattle.std.specs.List.{AllByRecursion, list_any}
 use Rattle.std.specs.Option.{is_none, option_map}
-use Rattle.role_steps.proofs.of_plain_facts.Numbers.{equal, equal_self}
-use Rattle.role_steps.proofs.of_plain_facts.Options.{none_some}
-use Rattle.role_steps.proofs.of_plain_facts.Tests.{and_first, and_second, true_false}
+use Rattle.pack_laws.proofs.of_role_steps.of_plain_facts.Numbers.{equal, equal_self}
+use Rattle.pack_laws.proofs.of_role_steps.of_plain_facts.Options.{none_some}
+use Rattle.pack_laws.proofs.of_role_steps.of_plain_facts.Tests.{and_first, and_second, true_false}
 use Rattle.locus_ids.specs.declared.config.Config.{Config}
 use Rattle.locus_ids.specs.declared.ids.CallId.{CallId}
 use Rattle.locus_ids.specs.declared.ids.EpochId.{EpochId}
@@ -31,12 +31,12 @@ use Rattle.tree_model.specs.Packs.{sync_site}
 use Rattle.tree_model.specs.Same.{same_version}
 use Rattle.tree_model.specs.State.{TreeState, copy_of, held_at, held_of, is_granted_here, is_inside, is_make, is_named, is_taken, is_writer, kept_of}
 use Rattle.tree_model.specs.Tree.{acted, copy_now, entered, grant_of, joined, left, next, once_acted, once_committed, opened, released, tree_of, with_root, without_make}
-use Rattle.lawful_trace.specs.Lawful.{MayCome}
-use Rattle.lawful_trace.specs.SiteRows.{MayJoin}
-use Rattle.lawful_trace.specs.TreeRows.{MayAdopt, MayCommit, MayGrant, is_stored_at, is_writing}
-use Rattle.tree_laws.specs.Following.{RowsAreLawful}
-use Rattle.tree_laws.proofs.Names.{same_epoch_eq}
-use Rattle.tree_laws.proofs.Owing.{inside_is}
+use Rattle.order_laws.specs.of_lawful_trace.Lawful.{MayCome}
+use Rattle.order_laws.specs.of_lawful_trace.SiteRows.{MayJoin}
+use Rattle.order_laws.specs.of_lawful_trace.TreeRows.{MayAdopt, MayCommit, MayGrant, is_stored_at, is_writing}
+use Rattle.order_laws.specs.of_tree_laws.Following.{RowsAreLawful}
+use Rattle.order_laws.proofs.of_tree_laws.Names.{same_epoch_eq}
+use Rattle.order_laws.proofs.of_tree_laws.Owing.{inside_is}
 use Rattle.order_laws.proofs.Alone.{rows_apart, tree_is, tree_named}
 use Rattle.order_laws.proofs.Lists.{all_more, all_then, all_without}
 use Rattle.order_laws.proofs.Standing.{acted_keeps, same_file_eq, same_stamp_eq}

@@ -2,8 +2,8 @@
 use Rattle.std.proofs.Common.{◌≡◌, ℕ, ◌==◌, Bool, true, false, not, ◌&&◌, cond, List, [], ◌∷◌, filter, Option, Some, None, refl, sym, ap, ◌∙◌, subst, arith}
 use Rattle.std.proofs.lemmas.Bool.Decides.{nat_tests}
 use Rattle.std.specs.List.{AllByRecursion}
-use Rattle.role_steps.proofs.of_plain_facts.Numbers.{equal_self}
-use Rattle.role_steps.proofs.of_plain_facts.Tests.{and_first, and_second, true_false}
+use Rattle.pack_laws.proofs.of_role_steps.of_plain_facts.Numbers.{equal_self}
+use Rattle.pack_laws.proofs.of_role_steps.of_plain_facts.Tests.{and_first, and_second, true_false}
 use Rattle.locus_ids.specs.declared.ids.FileId.{FileId}
 use Rattle.commit_graph.specs.declared.history.Version.{Version}
 use Rattle.commit_graph.specs.Grants.{is_read}
@@ -11,14 +11,14 @@ use Rattle.commit_graph.specs.Versions.{same_file}
 use Rattle.trace_book.specs.declared.operation.Op.{Op}
 use Rattle.trace_book.specs.declared.operation.Op.TheVariants as op
 use Rattle.trace_book.specs.declared.operation.Outcome.{Outcome}
-use Rattle.file_effects.specs.Effects.{Effect, is_refusal}
-use Rattle.file_effects.specs.Works.{carried_out, counted}
-use Rattle.file_effects.specs.declared.work.Work.{Work}
+use Rattle.tree_model.specs.of_file_effects.Effects.{Effect, is_refusal}
+use Rattle.tree_model.specs.of_file_effects.Works.{carried_out, counted}
+use Rattle.tree_model.specs.of_file_effects.declared.work.Work.{Work}
 use Rattle.tree_model.specs.declared.instance.Instance.{Instance}
 use Rattle.tree_model.specs.Lists.{change_first}
 use Rattle.tree_model.specs.State.{TreeState, is_writer}
 use Rattle.tree_model.specs.Working.{effect_on, operated_by, work_after}
-use Rattle.lawful_trace.specs.TreeRows.{is_writing}
+use Rattle.order_laws.specs.of_lawful_trace.TreeRows.{is_writing}
 use Rattle.order_laws.specs.Alone.{AreAlone, MayStandBy}
 use Rattle.order_laws.proofs.Lists.{all_then}
 use Rattle.order_laws.proofs.Standing.{same_file_eq}

@@ -1,8 +1,8 @@
 -- The laws of every run on which these rest, as premises on a trace.
 use Rattle.std.specs.Prelude.{List}
 use Rattle.locus_ids.specs.declared.config.Config.{Config}
-use Rattle.role_steps.specs.Own.{Every}
-use Rattle.tree_laws.specs.of_the_run.Worlds.{Line}
+use Rattle.pack_laws.specs.of_role_steps.Own.{Every}
+use Rattle.order_laws.specs.of_tree_laws.of_the_run.Worlds.{Line}
 use Rattle.pack_laws.specs.of_vector_laws.Written.{past_of}
 use Rattle.pack_laws.specs.of_vector_laws.HistoryCommits.{StampsAreOnce}
 use Rattle.pack_laws.specs.Packs.{ToldPacked}

@@ -6,12 +6,12 @@ use Rattle.locus_ids.specs.declared.ids.FileId.{FileId}
 use Rattle.locus_ids.specs.declared.ids.Mode.{Mode}
 use Rattle.locus_ids.specs.declared.ids.Serial.{Serial}
 use Rattle.locus_ids.specs.declared.ids.Stamp.{Stamp}
-use Rattle.file_effects.specs.Works.{begun}
-use Rattle.tree_laws.specs.of_the_run.Worlds.{Line}
+use Rattle.tree_model.specs.of_file_effects.Works.{begun}
+use Rattle.order_laws.specs.of_tree_laws.of_the_run.Worlds.{Line}
 use Rattle.tree_model.specs.declared.instance.Instance.{Instance}
 use Rattle.tree_model.specs.Histories.{history, stamped_content}
-use Rattle.tree_laws.specs.Instances.{IsOpenAt, held_in}
-use Rattle.tree_laws.specs.Printed.{entries}
+use Rattle.order_laws.specs.of_tree_laws.Instances.{IsOpenAt, held_in}
+use Rattle.order_laws.specs.of_tree_laws.Printed.{entries}
 
 -- The instance is open at its storage site with the work of its beginning, and the site holds the version on which it was
 -- granted.

@@ -6,7 +6,7 @@ use Rattle.locus_ids.specs.declared.ids.FileId.{FileId}
 use Rattle.locus_ids.specs.declared.ids.Stamp.{Stamp}
 use Rattle.commit_graph.specs.Grants.{is_read}
 use Rattle.commit_graph.specs.Versions.{is_ancestor}
-use Rattle.tree_laws.specs.of_the_run.Worlds.{Line}
+use Rattle.order_laws.specs.of_tree_laws.of_the_run.Worlds.{Line}
 use Rattle.tree_model.specs.declared.instance.Instance.{Instance}
 use Rattle.tree_model.specs.Epochs.{epoch_of, has_joined}
 use Rattle.tree_model.specs.Folds.{Trace}
@@ -14,8 +14,8 @@ use Rattle.tree_model.specs.Histories.{held, history}
 use Rattle.tree_model.specs.Packs.{has_pack}
 use Rattle.tree_model.specs.State.{has_stamp}
 use Rattle.tree_model.specs.Tree.{kept_in}
-use Rattle.tree_laws.specs.Instances.{IsKnown, held_in}
-use Rattle.tree_laws.specs.Tables.{IsAhead}
+use Rattle.order_laws.specs.of_tree_laws.Instances.{IsKnown, held_in}
+use Rattle.order_laws.specs.of_tree_laws.Tables.{IsAhead}
 
 -- While a site is in an epoch it has there what it has now; a site that has something there has joined the epoch, and has a pack
 -- of the group.

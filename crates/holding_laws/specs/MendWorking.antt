@@ -8,14 +8,14 @@ use Rattle.locus_ids.specs.declared.ids.Mode.TheVariants as mode
 use Rattle.locus_ids.specs.declared.ids.Serial.{Serial}
 use Rattle.locus_ids.specs.declared.ids.Stamp.{Stamp}
 use Rattle.trace_book.specs.declared.call.Call.TheVariants as call
-use Rattle.tree_laws.specs.of_the_run.Worlds.{Line}
+use Rattle.order_laws.specs.of_tree_laws.of_the_run.Worlds.{Line}
 use Rattle.tree_model.specs.declared.accepted.Waiting.{Waiting}
 use Rattle.tree_model.specs.Calls.{call_named}
 use Rattle.tree_model.specs.Tree.{kept_in}
-use Rattle.tree_laws.specs.Calls.{log}
-use Rattle.tree_laws.specs.Past.{WasGranted, WasReleased}
-use Rattle.tree_laws.specs.Printed.{entries}
-use Rattle.tree_laws.specs.Users.{taken_whole}
+use Rattle.order_laws.specs.of_tree_laws.Calls.{log}
+use Rattle.order_laws.specs.of_tree_laws.Past.{WasGranted, WasReleased}
+use Rattle.order_laws.specs.of_tree_laws.Printed.{entries}
+use Rattle.order_laws.specs.of_tree_laws.Users.{taken_whole}
 
 -- The call is a mend of this file, to which the instance was granted to mend, and which isn't released; and the versions whose
 -- contents it has taken are those that are kept of the file, in order.

@@ -4,12 +4,12 @@ use Rattle.locus_ids.specs.declared.config.Config.{Config}
 use Rattle.locus_ids.specs.declared.ids.EpochId.{EpochId}
 use Rattle.locus_ids.specs.declared.ids.FileId.{FileId}
 use Rattle.locus_ids.specs.declared.ids.Stamp.{Stamp}
-use Rattle.tree_laws.specs.of_the_run.Worlds.{Line}
+use Rattle.order_laws.specs.of_tree_laws.of_the_run.Worlds.{Line}
 use Rattle.tree_model.specs.Opening.{is_given_by}
 use Rattle.tree_model.specs.State.{is_taken}
 use Rattle.tree_model.specs.Tree.{tree_of}
-use Rattle.tree_laws.specs.Instances.{IsKnown, held_in}
-use Rattle.tree_laws.specs.Printed.{entries}
+use Rattle.order_laws.specs.of_tree_laws.Instances.{IsKnown, held_in}
+use Rattle.order_laws.specs.of_tree_laws.Printed.{entries}
 
 -- The number is one that the site gives, and in the epoch the site has no version of the file, none is known, and no instance was
 -- granted on it.

@@ -6,10 +6,10 @@ use Rattle.locus_ids.specs.declared.ids.EpochId.{EpochId}
 use Rattle.locus_ids.specs.declared.ids.FileId.{FileId}
 use Rattle.locus_ids.specs.declared.ids.Stamp.{Stamp}
 use Rattle.locus_ids.specs.Sizes.{inode_span, sites_max}
-use Rattle.tree_laws.specs.of_the_run.Worlds.{Line}
-use Rattle.lawful_trace.specs.TreeRows.{IsCallIn}
-use Rattle.tree_laws.specs.Instances.{Stands}
-use Rattle.tree_laws.specs.Printed.{entries}
+use Rattle.order_laws.specs.of_tree_laws.of_the_run.Worlds.{Line}
+use Rattle.order_laws.specs.of_lawful_trace.TreeRows.{IsCallIn}
+use Rattle.order_laws.specs.of_tree_laws.Instances.{Stands}
+use Rattle.order_laws.specs.of_tree_laws.Printed.{entries}
 use Rattle.holding_laws.specs.Below.{LawsBelow}
 
 pub record RoomRests (c : Config) (trace : List Line) : Type 0 where

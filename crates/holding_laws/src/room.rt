@@ -5,18 +5,18 @@ ghost use Rattle.locus_ids.specs.declared.config.Config.{Config};
 ghost use Rattle.locus_ids.specs.declared.ids.FileId.{FileId};
 ghost use Rattle.locus_ids.specs.declared.ids.Stamp.{Stamp};
 ghost use Rattle.locus_ids.specs.Sizes.{inode_span};
-ghost use Rattle.role_steps.specs.Storage.{free_pages};
-ghost use Rattle.role_steps.specs.Views.{Frame, Store};
-ghost use Rattle.tree_laws.specs.of_the_run.Worlds.{Line};
+ghost use Rattle.pack_laws.specs.of_role_steps.Storage.{free_pages};
+ghost use Rattle.pack_laws.specs.of_role_steps.Views.{Frame, Store};
+ghost use Rattle.order_laws.specs.of_tree_laws.of_the_run.Worlds.{Line};
 ghost use Rattle.pack_laws.specs.of_vector_laws.Written.{past_of};
 ghost use Rattle.pack_laws.specs.of_vector_laws.HistoryCommits.{NumbersFit};
 ghost use Rattle.tree_model.specs.Histories.{history};
 ghost use Rattle.tree_model.specs.Tree.{tree_of};
 ghost use Rattle.tree_model.specs.Working.{free_pages as tree_free};
-ghost use Rattle.tree_laws.specs.Doing.{FrameFact, StoreHeld};
-ghost use Rattle.tree_laws.specs.Following.{IsFollowed};
-ghost use Rattle.tree_laws.specs.Instances.{Stands};
-ghost use Rattle.tree_laws.specs.Printed.{entries};
+ghost use Rattle.order_laws.specs.of_tree_laws.Doing.{FrameFact, StoreHeld};
+ghost use Rattle.order_laws.specs.of_tree_laws.Following.{IsFollowed};
+ghost use Rattle.order_laws.specs.of_tree_laws.Instances.{Stands};
+ghost use Rattle.order_laws.specs.of_tree_laws.Printed.{entries};
 ghost use Rattle.holding_laws.specs.RoomRests.{RoomRests};
 
 /// Where each told line comes as it may, and a storage site has what was told of it, the pages that it has free for a group are

@@ -24,6 +24,7 @@ use Rattle.inode_switch.specs.Replace.{MayReplace, made_bytes}
 use Rattle.gate_switch.proofs.Pieces.{put_outside, put_gate, length-overwritten, written-append, torn_overwritten, torn_written}
 use Rattle.inode_switch.proofs.SlotBytes.{says}
 use Rattle.inode_switch.proofs.TableBytes.{page_named as number_read}
+use Rattle.inode_switch.proofs.Views.{size_by}
 use Rattle.pack_slots.proofs.Numbers.{first_numbers}
 use Rattle.pack_slots.specs.declared.inode_copy.InodeCopy.{InodeCopy}
 use Rattle.inode_pack.specs.Pack.{PackState, number_in, Shows}
@@ -289,7 +290,7 @@ module _ (pack : PackState) (ino : ℕ) (w : Working) (made : InodeCopy) (s : Se
     byte_before k le = sym (gate_torn.outside (gate + k) (is_outside gate 1 (gate + k) (inr (omega arith))))
 
     size_before : size (written old pieces) gate ≡ made.slot.size
-    size_before = (λ j. ((byte_before 7 (omega arith) j * 256 + byte_before 8 (omega arith) j) * 256 + byte_before 9 (omega arith) j) * 256 + byte_before 10 (omega arith) j) ∙ new_says.size
+    size_before = size_by gate new (written old pieces) (λ k low lt. byte_before k low) ∙ new_says.size
 
     turn_before : turn (written old pieces) gate ≡ made.slot.turn
     turn_before = byte_before 1 (omega arith) ∙ new_says.turn

@@ -5,9 +5,10 @@ use Rattle.std.proofs.lemmas.Bool.{lt-ltb}
 use Rattle.std.proofs.lemmas.List.{same_lists, get_or_default}
 use Rattle.locus_ids.specs.Sizes.{page_bytes}
 use Rattle.pack_layout.specs.Layout.{slot_at, page_at}
+use Rattle.pack_layout.specs.SlotFields.{fields_of}
 use Rattle.new_contents.specs.of_shadow_pages.Working.{Working, page_at as shadow_page, byte_in, byte_at, content}
 use Rattle.new_contents.proofs.of_shadow_pages.Bytes.{length_below, below_at}
-use Rattle.inode_switch.specs.Slots.{Holds, field_bytes}
+use Rattle.inode_switch.specs.Slots.{Holds}
 use Rattle.inode_switch.specs.View.{Version, version, version_in, view}
 use Rattle.inode_switch.specs.Replace.{made_version, made_bytes}
 use Rattle.inode_switch.proofs.VersionBytes.{content_length, content_byte}
@@ -79,6 +80,6 @@ module _ (pack : PackState) (ino : ℕ) (w : Working) (made : InodeCopy) (s : Se
   pub version_made : (given : NewVersion) → Makes (is_free pack.copies) (is_free_table pack.copies) (copy_of pack.copies ino) ino given w made
       → made_version pack.base ino made.half (pieces pack ino w made s) old ≡ new_version pack.base ino given w old
   version_made given makes =
-      let fields = (new_says pack ino w made s old shows).fields ∙ ap field_bytes makes.says in
+      let fields = (new_says pack ino w made s old shows).fields ∙ ap fields_of makes.says in
       let all = same_content in
       (λ i. record { fields = fields i; content = all i })

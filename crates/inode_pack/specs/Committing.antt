@@ -11,7 +11,6 @@ use Rattle.pack_layout.specs.Layout.{area_length, slot_at, page_at, none, other_
 use Rattle.new_contents.specs.of_shadow_pages.Working.{Working, page_at as shadow_page, content}
 use Rattle.new_contents.specs.Changed.{is_changed, needed}
 use Rattle.inode_switch.specs.View.{Version, view, IsOldOrNew}
-use Rattle.inode_switch.specs.Slots.{field_bytes}
 use Rattle.pack_slots.specs.declared.inode_copy.InodeCopy.{InodeCopy}
 use Rattle.stored_versions.specs.declared.new_version.NewVersion.{NewVersion}
 use Rattle.inode_pack.specs.declared.pack_fault.PackFault.{PackFault}
@@ -117,7 +116,7 @@ content_of (Some version) = version.content
 -- the version that a commit makes over what the inode had in an image
 abbrev pub new_version : ℕ → ℕ → NewVersion → Working → List ℕ → Version
 new_version base ino version w image = record {
-  fields = field_bytes (record { turn = 0; kind = version.kind; ino = ino; set = version.set; size = w.size; stamp = version.stamp; vector = version.vector; pages = []; tables = [] });
+  fields = record { kind = version.kind; ino = ino; set = version.set; size = w.size; stamp = version.stamp; vector = version.vector };
   content = content (content_of (view image base ino)) w;
 }
 

@@ -57,7 +57,7 @@ impl Pack {
         self.group
     }
 
-    /// The version of an inode, or `None` exactly where this pack has none, as for each number outside 1 to 1,024.
+    /// The version of an inode, or `None` exactly where this pack has none, as for each number that is no inode.
     pub fn copy(&self, ino: u16) -> Option<&Slot>
         ensures value { option_copied result ≡ option_map (λ copy. copy.slot) (copy_of self.now.copies ino) }
         ensures own { IfSome (copy_of self.now.copies ino) (λ copy. IsCopy ino copy) }

@@ -18,6 +18,7 @@ use gate_switch::PieceSource;
 use locus_ids::Ino;
 use locus_ids::sizes::{CONTENT_TABLES, SLOT_PAGES, TABLE_PAGES};
 use new_contents::{NewContent, Row};
+use pack_layout::layout::{BODY_LENGTH, FIELDS_LENGTH, TABLE_LENGTH};
 use pack_layout::{page_at, slot_at, table_at, write_fields, write_table};
 use pack_slots::InodeCopy;
 
@@ -141,7 +142,7 @@ fn put_table<D: Disk>(disk: &mut D, base: u32, made: &Made, k: usize) -> Result<
     ensures how { (D.moment disk.new).how ≡ (D.moment disk.old).how }
 {
     let first = SLOT_PAGES + TABLE_PAGES * k;
-    let mut bytes = [0; 1024];
+    let mut bytes = [0; TABLE_LENGTH];
     let numbers = made.copy.numbers();
     write_table(&numbers[first..first + TABLE_PAGES], &mut bytes);
     disk.write_at(table_at(base, made.copy.slot.tables[k]), &bytes)
@@ -158,7 +159,7 @@ fn write_slot<D: Disk>(disk: &mut D, base: u32, ino: Ino, made: &InodeCopy) -> R
     ensures tells { TellsMany 1 (D.moment disk.old).passing (D.moment disk.new).passing result }
     ensures how { (D.moment disk.new).how ≡ (D.moment disk.old).how }
 {
-    let mut body = [0; 511];
-    write_fields(&made.slot, &mut body[..203]);
+    let mut body = [0; BODY_LENGTH];
+    write_fields(&made.slot, &mut body[..FIELDS_LENGTH]);
     disk.write_at(slot_at(base, ino, made.half) + 1, &body)
 }

@@ -1,5 +1,5 @@
 -- Each stage of a switch that may replace an inode has the old view or the new one.
-use Rattle.std.proofs.Common.{◌≡◌, ◌≢◌, inl, inr, ⊎_elim, ℕ, zero, suc, ◌+◌, ◌*◌, ◌≤◌, ◌<◌, Bool, true, false, List, [], ◌∷◌, length, get_or, refl, sym, ◌∙◌, ap, subst, arith, ◌%◌}
+use Rattle.std.proofs.Common.{◌≡◌, ◌≢◌, inl, inr, ⊎_elim, ℕ, zero, suc, ◌+◌, ◌≤◌, ◌<◌, Bool, true, false, List, [], ◌∷◌, length, get_or, refl, sym, ◌∙◌, ap, subst, arith, ◌%◌}
 use Rattle.std.specs.Prelude.{Option, None, Some, ◌==◌, if◌then◌else◌}
 use Rattle.std.proofs.lemmas.Bool.{cases_eq, cases_Bool, eqb-true, eq-eqb}
 use Rattle.std.proofs.lemmas.Bool.Decides.{nat_tests}
@@ -15,7 +15,7 @@ use Rattle.pack_layout.proofs.Halves.{half_most, half_sum}
 use Rattle.inode_switch.specs.View.{is_open, turn, size, table, page, Version, version, Newer, Second, First, newer_of, newer, counting, version_in, view, SameView, Replaced, IsOldOrNew}
 use Rattle.inode_switch.specs.Replace.{MayReplace, made_bytes, made_version, closing, IsNext}
 use Rattle.gate_switch.proofs.Pieces.{torn_written, torn_overwritten, put_gate}
-use Rattle.inode_switch.proofs.Views.{Keeps, Agrees, same_view, same_version}
+use Rattle.inode_switch.proofs.Views.{Keeps, Agrees, same_view, same_version, size_by}
 
 -- slots begin at every 512 bytes
 pub one_slot : (base i : ℕ) (each : Half) (ino : ℕ) (half : Half) (k : ℕ) → k < 512 → slot_at base i each + k ≡ slot_at base ino half → slot_at base i each ≡ slot_at base ino half
@@ -130,10 +130,7 @@ module _ (base ino : ℕ) (half : Half) (pieces : List Piece) (old : List ℕ) (
     own_open = ap (λ (n : ℕ). n == 165) (each gate' (λ e. own_apart (sym e)) ∙ made_gate)
 
     size_same : size made gate' ≡ size mid gate'
-    size_same = (λ i. ((byte 7 (omega arith) i * 256 + byte 8 (omega arith) i) * 256 + byte 9 (omega arith) i) * 256 + byte 10 (omega arith) i)
-      where
-        byte : (k : ℕ) → 1 ≤ k → get_or made (gate' + k) 0 ≡ get_or mid (gate' + k) 0
-        byte k le = made_torn.outside (gate' + k) (beside gate' (gate' + k) (λ e. omega arith))
+    size_same = size_by gate' mid made (λ k low lt. made_torn.outside (gate' + k) (beside gate' (gate' + k) (λ e. omega arith)))
 
     turn_own : turn c gate' ≡ turn mid gate'
     turn_own = each (gate' + 1) (λ e. own_apart (sym (one_slot base ino half ino (other_half half) 1 (omega arith) e))) ∙ made_torn.outside (gate' + 1) (beside gate' (gate' + 1) (λ e. omega arith))

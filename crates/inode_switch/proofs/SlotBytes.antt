@@ -1,18 +1,18 @@
 -- What the view reads where the bytes of a slot stand.
-use Rattle.std.proofs.Common.{◌≡◌, ℕ, zero, suc, ◌+◌, ◌-◌, ◌*◌, ◌^◌, ◌≤◌, ◌<◌, List, [], ◌∷◌, ◌++◌, length, take, drop, get_or, min, replicate, refl, inl, inr, sym, ◌∙◌, ap, arith, length-append}
+use Rattle.std.proofs.Common.{◌≡◌, ℕ, zero, suc, ◌+◌, ◌-◌, ◌*◌, ◌^◌, ◌≤◌, ◌<◌, List, [], ◌∷◌, ◌++◌, length, drop, get_or, min, replicate, refl, inl, inr, sym, ◌∙◌, ap, arith}
 use Rattle.std.specs.Prelude.{◌==◌}
 use Rattle.std.specs.List.{flat_map}
 use Rattle.std.specs.Int.{w16, w32, to_be_bytes, byte_at}
-use Rattle.std.proofs.lemmas.List.{get_or-take, get_or-drop, drop-take, drop-drop, take-take, get_or-append_right}
+use Rattle.std.proofs.lemmas.List.{get_or-take, get_or-drop, get_or-append_right}
 use Rattle.std.proofs.lemmas.Bool.{cases_lt}
-use Rattle.std.proofs.Math.Seq.{take-append_seam}
 use Rattle.locus_ids.specs.Sizes.{slot_pages, content_tables_max, pack_pages, pack_tables}
 use Rattle.pack_layout.specs.declared.slot.Slot.{Slot}
-use Rattle.disk_model.specs.Images.{bytes_at}
 use Rattle.pack_layout.specs.of_file_content.Pages.{pages_of, tables_of}
-use Rattle.pack_layout.specs.Layout.{kind_number, slot_bytes, IsSlot, NameApart}
-use Rattle.inode_switch.specs.View.{number, table}
-use Rattle.inode_switch.specs.Slots.{Holds, Says, field_bytes}
+use Rattle.pack_layout.specs.Layout.{layout, kind_number, slot_bytes, IsSlot, NameApart}
+use Rattle.pack_layout.specs.SlotFields.{number, fields_in}
+use Rattle.pack_layout.proofs.SlotFields.{two_bytes, four_bytes, fields_back}
+use Rattle.inode_switch.specs.View.{size, table}
+use Rattle.inode_switch.specs.Slots.{Holds, Says}
 
 length-counters : (xs : List ℕ) → length (flat_map (to_be_bytes w32) xs) ≡ 4 * length xs
 length-counters [] = refl
@@ -37,12 +37,6 @@ low_byte (x ∷ xs) rest (suc i) lt =
     let e : 2 * suc i + 1 ≡ suc (suc (2 * i + 1)) = omega arith in
     ap (λ (n : ℕ). get_or (flat_map (to_be_bytes w16) (x ∷ xs) ++ rest) n 0) e ∙ low_byte xs rest i (omega arith)
 
-pub two_bytes : (n : ℕ) → n < 2 ^ 16 → byte_at 1 n * 256 + byte_at 0 n ≡ n
-two_bytes n lt = omega arith
-
-four_bytes : (n : ℕ) → n < 2 ^ 32 → ((byte_at 3 n * 256 + byte_at 2 n) * 256 + byte_at 1 n) * 256 + byte_at 0 n ≡ n
-four_bytes n lt = omega arith
-
 -- the first 16 bytes of a slot; the counters, the page numbers and zeros stand behind them
 abbrev front : Slot → List ℕ
 front s = 165 ∷ s.turn ∷ kind_number s.kind ∷ (to_be_bytes w16 s.ino ++ (to_be_bytes w16 s.set.0 ++ (to_be_bytes w32 s.size ++ (s.stamp.site ∷ to_be_bytes w32 s.stamp.n))))
@@ -51,7 +45,7 @@ abbrev counters : Slot → List ℕ
 counters s = flat_map (to_be_bytes w32) s.vector
 
 abbrev tables : Slot → List ℕ
-tables s = flat_map (to_be_bytes w16) s.tables ++ replicate 308 0
+tables s = flat_map (to_be_bytes w16) s.tables ++ replicate layout.rest_length 0
 
 abbrev numbers : Slot → List ℕ
 numbers s = flat_map (to_be_bytes w16) s.pages ++ tables s
@@ -72,18 +66,12 @@ number_fits most limit n i pages low p lt = elim (cases_lt i n) [
   | inr le ↦ omega (arith, p.rest i le lt)
 ]
 
-fields_in : (s : Slot) → IsSlot s → take 78 (drop 2 (slot_bytes s)) ≡ field_bytes s
-fields_in s is =
-    let c = length-of_counters s is in
-    let long : length (field_bytes s) ≡ 78 = omega (arith, length-append (kind_number s.kind ∷ (to_be_bytes w16 s.ino ++ (to_be_bytes w16 s.set.0 ++ (to_be_bytes w32 s.size ++ (s.stamp.site ∷ to_be_bytes w32 s.stamp.n))))) (counters s)) in
-    ap (λ (n : ℕ). take n (field_bytes s ++ numbers s)) (sym long) ∙ take-append_seam (field_bytes s) (numbers s)
-
 module _ (image : List ℕ) (at : ℕ) (s : Slot) (holds : Holds image at s) (is : IsSlot s) where
-  byte_of : (k : ℕ) → k < 512 → get_or image (at + k) 0 ≡ get_or (slot_bytes s) k 0
-  byte_of k lt = sym (get_or-drop at image k 0) ∙ sym (get_or-take 512 (drop at image) k 0 lt) ∙ ap (λ (l : List ℕ). get_or l k 0) holds
+  byte_of : (k : ℕ) → k < layout.slot_length → get_or image (at + k) 0 ≡ get_or (slot_bytes s) k 0
+  byte_of k lt = sym (get_or-drop at image k 0) ∙ sym (get_or-take layout.slot_length (drop at image) k 0 lt) ∙ ap (λ (l : List ℕ). get_or l k 0) holds
 
   -- a number that stands there
-  pair_is : (k : ℕ) (n : ℕ) → k + 1 < 512 → get_or (slot_bytes s) k 0 ≡ byte_at 1 n → get_or (slot_bytes s) (k + 1) 0 ≡ byte_at 0 n → n < 2 ^ 16 → number image (at + k) ≡ n
+  pair_is : (k : ℕ) (n : ℕ) → k + 1 < layout.slot_length → get_or (slot_bytes s) k 0 ≡ byte_at 1 n → get_or (slot_bytes s) (k + 1) 0 ≡ byte_at 0 n → n < 2 ^ 16 → number image (at + k) ≡ n
   pair_is k n lt high low fits =
       let e : at + (k + 1) ≡ at + k + 1 = omega arith in
       let h = byte_of k (omega arith) ∙ high in
@@ -117,25 +105,29 @@ module _ (image : List ℕ) (at : ℕ) (s : Slot) (holds : Holds image at s) (is
       let e : at + (200 + 2 * k) ≡ at + 200 + 2 * k = omega arith in
       let f : 200 + 2 * k + 0 ≡ 200 + 2 * k = omega arith in
       let n : 2 * k + 0 ≡ 2 * k = omega arith in
-      let high = ap (λ (m : ℕ). get_or (slot_bytes s) m 0) (sym f) ∙ table_byte k 0 lt (omega arith) ∙ ap (λ (m : ℕ). get_or (tables s) m 0) n ∙ high_byte s.tables (replicate 308 0) k (omega (arith, few)) in
-      let low = table_byte k 1 lt (omega arith) ∙ low_byte s.tables (replicate 308 0) k (omega (arith, few)) in
+      let high = ap (λ (m : ℕ). get_or (slot_bytes s) m 0) (sym f) ∙ table_byte k 0 lt (omega arith) ∙ ap (λ (m : ℕ). get_or (tables s) m 0) n ∙ high_byte s.tables (replicate layout.rest_length 0) k (omega (arith, few)) in
+      let low = table_byte k 1 lt (omega arith) ∙ low_byte s.tables (replicate layout.rest_length 0) k (omega (arith, few)) in
       ap (λ (m : ℕ). number image m) (sym e) ∙ pair_is (200 + 2 * k) (get_or s.tables k 0) (omega arith) high low (number_fits content_tables_max pack_tables (tables_of (pages_of s.size)) k s.tables (omega arith) is.tables lt)
 
-  fields_are : bytes_at image (at + 2) 78 ≡ field_bytes s
-  fields_are =
-      ap (λ (l : List ℕ). take 78 l) (sym (drop-drop 2 at image))
-      ∙ sym (take-take 78 510 (drop 2 (drop at image)) (omega arith))
-      ∙ ap (λ (l : List ℕ). take 78 l) (sym (drop-take 2 510 (drop at image)))
-      ∙ ap (λ (l : List ℕ). take 78 (drop 2 l)) holds
-      ∙ fields_in s is
+  -- a byte behind another
+  byte_behind : (k j : ℕ) → k + j < layout.slot_length → get_or image (at + k + j) 0 ≡ get_or (slot_bytes s) (k + j) 0
+  byte_behind k j lt = let e : at + k + j ≡ at + (k + j) = omega arith in ap (λ (m : ℕ). get_or image m 0) e ∙ byte_of (k + j) lt
+
+  size_is : size image at ≡ s.size
+  size_is =
+      let first = byte_of 7 (omega arith) in
+      let second = byte_behind 7 1 (omega arith) in
+      let third = byte_behind 7 2 (omega arith) in
+      let fourth = byte_behind 7 3 (omega arith) in
+      (λ j. ((first j * 256 + second j) * 256 + third j) * 256 + fourth j) ∙ four_bytes s.size (omega (arith, is.size))
 
   -- where the bytes of a slot stand, the view reads that slot
   pub says : Says image at s
   says = record {
     open_gate = ap (λ (n : ℕ). n == 165) (ap (λ (k : ℕ). get_or image k 0) (let e : at ≡ at + 0 = omega arith in e) ∙ byte_of 0 (omega arith));
     turn = byte_of 1 (omega arith);
-    size = (λ j. ((byte_of 7 (omega arith) j * 256 + byte_of 8 (omega arith) j) * 256 + byte_of 9 (omega arith) j) * 256 + byte_of 10 (omega arith) j) ∙ four_bytes s.size (omega (arith, is.size));
-    fields = fields_are;
+    size = size_is;
+    fields = ap fields_in holds ∙ fields_back s is;
     pages = page_is;
     tables = table_is;
   }

@@ -1,18 +1,19 @@
 -- What the view reads where the bytes of a slot and of its tables stand.
-use Rattle.std.proofs.Common.{◌≡◌, ℕ, ◌+◌, ◌-◌, ◌*◌, ◌%◌, ◌^◌, ◌≤◌, ◌<◌, List, [], ◌++◌, length, take, drop, get_or, refl, sym, ◌∙◌, ap, subst, arith, ⊎_elim, length-take, length-drop}
+use Rattle.std.proofs.Common.{◌≡◌, ℕ, ◌+◌, ◌-◌, ◌*◌, ◌%◌, ◌^◌, ◌≤◌, ◌<◌, List, [], ◌++◌, length, drop, get_or, sym, ◌∙◌, ap, subst, arith, ⊎_elim, length-take, length-drop}
 use Rattle.std.specs.List.{flat_map}
-use Rattle.std.specs.Int.{w16, to_be_bytes, byte_at}
+use Rattle.std.specs.Int.{w16, to_be_bytes}
 use Rattle.std.proofs.lemmas.Bool.{cases_lt}
 use Rattle.std.proofs.lemmas.List.{get_or-take, get_or-drop, append-nil}
-use Rattle.locus_ids.specs.Sizes.{content_pages_max, slot_pages, table_pages, content_tables_max}
-use Rattle.disk_model.specs.Images.{bytes_at}
+use Rattle.locus_ids.specs.Sizes.{slot_pages, table_pages, content_tables_max}
 use Rattle.pack_layout.specs.declared.slot.Slot.{Slot}
 use Rattle.pack_layout.specs.of_file_content.Pages.{pages_of, table_of, tables_of}
 use Rattle.pack_layout.specs.Layout.{table_at, table_bytes, numbers_under, NamePages, IsSlot}
-use Rattle.inode_switch.specs.View.{number, table, page}
+use Rattle.pack_layout.specs.SlotFields.{number}
+use Rattle.inode_switch.specs.View.{page}
 use Rattle.inode_switch.specs.Slots.{Says, HoldsTables}
+use Rattle.pack_layout.proofs.SlotFields.{two_bytes}
 use Rattle.inode_switch.proofs.Views.{in_slot, in_table}
-use Rattle.inode_switch.proofs.SlotBytes.{high_byte, low_byte, two_bytes}
+use Rattle.inode_switch.proofs.SlotBytes.{high_byte, low_byte}
 
 -- a number in the bytes of a table
 pub table_number : (xs : List ℕ) (i : ℕ) → i < length xs → get_or xs i 0 < 2 ^ 16 → get_or (table_bytes xs) (2 * i) 0 * 256 + get_or (table_bytes xs) (2 * i + 1) 0 ≡ get_or xs i 0

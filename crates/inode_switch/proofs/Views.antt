@@ -6,15 +6,16 @@ use Rattle.locus_ids.specs.Sizes.{page_bytes, content_pages_max, slot_pages, tab
 use Rattle.disk_model.specs.Images.{bytes_at}
 use Rattle.gate_switch.proofs.Tearing.{same_bytes}
 use Rattle.pack_layout.specs.of_file_content.Pages.{pages_of, table_of, tables_of}
-use Rattle.pack_layout.specs.Layout.{page_at, table_at}
-use Rattle.inode_switch.specs.View.{is_open, size, number, number_place, table, page, bytes_of, Version, version, Newer, Second, First, Neither, newer_of, newer, counting, version_in}
+use Rattle.pack_layout.specs.Layout.{layout, page_at, table_at}
+use Rattle.pack_layout.specs.SlotFields.{number, fields_in}
+use Rattle.inode_switch.specs.View.{is_open, size, number_place, table, page, bytes_of, Version, version, Newer, Second, First, Neither, newer_of, newer, counting, version_in}
 
 -- a slot, its tables and its pages are the same in both
 pub record Keeps (base slot : ℕ) (a b : List ℕ) : Type 0 where
   pub long : length b ≡ length a
   pub few : pages_of (size a slot) ≤ content_pages_max
-  pub bytes : (k : ℕ) → k < 512 → get_or b (slot + k) 0 ≡ get_or a (slot + k) 0
-  pub tables : (t k : ℕ) → t < tables_of (pages_of (size a slot)) → k < 1024 → get_or b (table_at base (table a slot t) + k) 0 ≡ get_or a (table_at base (table a slot t) + k) 0
+  pub bytes : (k : ℕ) → k < layout.slot_length → get_or b (slot + k) 0 ≡ get_or a (slot + k) 0
+  pub tables : (t k : ℕ) → t < tables_of (pages_of (size a slot)) → k < layout.table_length → get_or b (table_at base (table a slot t) + k) 0 ≡ get_or a (table_at base (table a slot t) + k) 0
   pub pages : (i k : ℕ) → i < pages_of (size a slot) → k < page_bytes → get_or b (page_at base (page a base slot i) + k) 0 ≡ get_or a (page_at base (page a base slot i) + k) 0
 
 -- where the number of a page stands
@@ -28,15 +29,24 @@ in_table image base slot i le = ap (λ (b : Bool). cond b (slot + 80 + 2 * i) (t
 same_number : (a b : List ℕ) (at : ℕ) → get_or b at 0 ≡ get_or a at 0 → get_or b (at + 1) 0 ≡ get_or a (at + 1) 0 → number b at ≡ number a at
 same_number a b at high low = (λ i. high i * 256 + low i)
 
+-- the size is read from bytes behind the gate
+pub size_by : (slot : ℕ) (a b : List ℕ) → ((k : ℕ) → 1 ≤ k → k < layout.slot_length → get_or b (slot + k) 0 ≡ get_or a (slot + k) 0) → size b slot ≡ size a slot
+size_by slot a b same =
+    let byte : (j : ℕ) → j ≤ 3 → get_or b (slot + layout.size_at + j) 0 ≡ get_or a (slot + layout.size_at + j) 0 = λ j le.
+    let e : slot + (layout.size_at + j) ≡ slot + layout.size_at + j = omega arith in
+    subst (λ (m : ℕ). get_or b m 0 ≡ get_or a m 0) e (same (layout.size_at + j) (omega arith) (omega arith)) in
+    let first = same layout.size_at (omega arith) (omega arith) in
+    (λ i. ((first i * 256 + byte 1 (omega arith) i) * 256 + byte 2 (omega arith) i) * 256 + byte 3 (omega arith) i)
+
 module _ (base slot : ℕ) (a b : List ℕ) (keeps : Keeps base slot a b) where
-  at_byte : (k : ℕ) → k < 512 → get_or b (slot + k) 0 ≡ get_or a (slot + k) 0
+  at_byte : (k : ℕ) → k < layout.slot_length → get_or b (slot + k) 0 ≡ get_or a (slot + k) 0
   at_byte = keeps.bytes
 
   pub same_open : is_open b slot ≡ is_open a slot
   same_open = ap (λ (n : ℕ). n == 165) (let e : slot + 0 ≡ slot = omega arith in subst (λ (n : ℕ). get_or b n 0 ≡ get_or a n 0) e (at_byte 0 (omega arith)))
 
   same_size : size b slot ≡ size a slot
-  same_size = (λ i. ((at_byte 7 (omega arith) i * 256 + at_byte 8 (omega arith) i) * 256 + at_byte 9 (omega arith) i) * 256 + at_byte 10 (omega arith) i)
+  same_size = size_by slot a b (λ k low lt. at_byte k lt)
 
   -- a number that stands in the slot
   same_in_slot : (at : ℕ) → at + 1 < 512 → number b (slot + at) ≡ number a (slot + at)
@@ -77,7 +87,7 @@ module _ (base slot : ℕ) (a b : List ℕ) (keeps : Keeps base slot a b) where
 
   pub same_version : version b base slot ≡ version a base slot
   same_version =
-      let fields = same_bytes a b (slot + 2) 78 keeps.long (λ k lt. let e : slot + (2 + k) ≡ slot + 2 + k = omega arith in subst (λ (m : ℕ). get_or b m 0 ≡ get_or a m 0) e (at_byte (2 + k) (omega arith))) in
+      let fields = ap fields_in (same_bytes a b slot layout.slot_length keeps.long at_byte) in
       let all = ap (λ (n : ℕ). bytes_of b base slot (pages_of n)) same_size ∙ same_pages (pages_of (size a slot)) (omega arith) in
       (λ i. record { fields = fields i; content = take (same_size i) (all i) })
 

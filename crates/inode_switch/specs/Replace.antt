@@ -6,14 +6,14 @@ use Rattle.gate_switch.specs.Switch.{Piece}
 use Rattle.gate_switch.specs.Switch.{AreWithin, touches, written, opened}
 use Rattle.pack_layout.specs.of_file_content.Pages.{pages_of, tables_of}
 use Rattle.pack_layout.specs.declared.half.Half.{Half}
-use Rattle.pack_layout.specs.Layout.{area_length, slot_at, table_at, page_at, other_half}
+use Rattle.pack_layout.specs.Layout.{layout, area_length, slot_at, table_at, page_at, other_half}
 use Rattle.inode_switch.specs.View.{is_open, turn, size, table, page, Version, version}
 
 -- none of the pieces meets this slot, its tables or its pages
 pub record Spares (base slot : ℕ) (pieces : List Piece) (old : List ℕ) : Type 0 where
   pub few : pages_of (size old slot) ≤ content_pages_max
-  pub bytes : (k : ℕ) → k < 512 → touches pieces (slot + k) ≡ false
-  pub tables : (t k : ℕ) → t < tables_of (pages_of (size old slot)) → k < page_bytes → touches pieces (table_at base (table old slot t) + k) ≡ false
+  pub bytes : (k : ℕ) → k < layout.slot_length → touches pieces (slot + k) ≡ false
+  pub tables : (t k : ℕ) → t < tables_of (pages_of (size old slot)) → k < layout.table_length → touches pieces (table_at base (table old slot t) + k) ≡ false
   pub pages : (i k : ℕ) → i < pages_of (size old slot) → k < page_bytes → touches pieces (page_at base (page old base slot i) + k) ≡ false
 
 -- the turn that follows another: 0, 1 and 2 go round

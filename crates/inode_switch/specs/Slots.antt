@@ -1,30 +1,24 @@
 -- What the view reads where the bytes of a slot stand.
-use Rattle.std.specs.Prelude.{ℕ, ◌+◌, ◌*◌, ◌<◌, ◌≡◌, true, List, ◌∷◌, ◌++◌, slice_index}
-use Rattle.std.specs.Int.{w16, w32, to_be_bytes}
-use Rattle.std.specs.List.{flat_map}
+use Rattle.std.specs.Prelude.{ℕ, ◌+◌, ◌*◌, ◌<◌, ◌≡◌, true, List, slice_index}
 use Rattle.locus_ids.specs.Sizes.{page_bytes, slot_pages, content_tables_max}
 use Rattle.disk_model.specs.Images.{bytes_at}
 use Rattle.pack_layout.specs.of_file_content.Pages.{pages_of, tables_of}
 use Rattle.pack_layout.specs.declared.slot.Slot.{Slot}
-use Rattle.pack_layout.specs.Layout.{kind_number, slot_bytes, table_at, table_bytes, numbers_under}
-use Rattle.inode_switch.specs.View.{is_open, turn, size, number, table}
+use Rattle.pack_layout.specs.Layout.{layout, slot_bytes, table_at, table_bytes, numbers_under}
+use Rattle.pack_layout.specs.SlotFields.{number, fields_in, fields_of}
+use Rattle.inode_switch.specs.View.{is_open, turn, size, table}
 
--- the 512 bytes of an image at a place are those of this slot
+-- the bytes of an image at a place are those of this slot
 abbrev pub Holds : List ℕ → ℕ → Slot → Type 0
-Holds image at s = bytes_at image at 512 ≡ slot_bytes s
-
--- the bytes of a slot's kind, inode, set, size, stamp and vector
-abbrev pub field_bytes : Slot → List ℕ
-field_bytes s =
-    kind_number s.kind ∷ (to_be_bytes w16 s.ino ++ (to_be_bytes w16 s.set.0 ++ (to_be_bytes w32 s.size ++ (s.stamp.site ∷ (to_be_bytes w32 s.stamp.n ++ flat_map (to_be_bytes w32) s.vector)))))
+Holds image at s = bytes_at image at layout.slot_length ≡ slot_bytes s
 
 -- the slot at a place of an image is open and says what this one does
 pub record Says (image : List ℕ) (at : ℕ) (s : Slot) : Type 0 where
   pub open_gate : is_open image at ≡ true
   pub turn : turn image at ≡ s.turn
   pub size : size image at ≡ s.size
-  pub fields : bytes_at image (at + 2) 78 ≡ field_bytes s
-  pub pages : (i : ℕ) → i < slot_pages → number image (at + 80 + 2 * i) ≡ slice_index s.pages i
+  pub fields : fields_in (bytes_at image at layout.slot_length) ≡ fields_of s
+  pub pages : (i : ℕ) → i < slot_pages → number image (at + layout.page_numbers_at + layout.number_length * i) ≡ slice_index s.pages i
   pub tables : (k : ℕ) → k < content_tables_max → table image at k ≡ slice_index s.tables k
 
 -- in an area, the tables of a slot hold those of these page numbers that the slot has no room for

@@ -4,31 +4,28 @@ use Rattle.locus_ids.specs.Sizes.{inodes_max, page_bytes, slot_pages, table_page
 use Rattle.disk_model.specs.Images.{bytes_at}
 use Rattle.pack_layout.specs.of_file_content.Pages.{pages_of, table_of}
 use Rattle.pack_layout.specs.declared.half.Half.TheVariants as slot_half
-use Rattle.pack_layout.specs.Layout.{open_gate, page_at, slot_at, table_at}
+use Rattle.pack_layout.specs.Layout.{layout, open_gate, page_at, slot_at, table_at}
+use Rattle.pack_layout.specs.SlotFields.{SlotFields, number, long_number, fields_in}
 
 -- a slot begins with its gate and its turn
 abbrev pub is_open : List ℕ → ℕ → Bool
 is_open image slot = slice_index image slot == open_gate
 
 abbrev pub turn : List ℕ → ℕ → ℕ
-turn image slot = slice_index image (slot + 1)
+turn image slot = slice_index image (slot + layout.turn_at)
 
--- the size of the content stands seven bytes behind; the greater bytes come first
+-- the size of the content
 abbrev pub size : List ℕ → ℕ → ℕ
-size image slot = ((slice_index image (slot + 7) * 256 + slice_index image (slot + 8)) * 256 + slice_index image (slot + 9)) * 256 + slice_index image (slot + 10)
+size image slot = long_number image (slot + layout.size_at)
 
--- a number of a page or of a table
-abbrev pub number : List ℕ → ℕ → ℕ
-number image at = slice_index image at * 256 + slice_index image (at + 1)
-
--- the numbers of the slot's tables stand two hundred bytes behind
+-- the number of one of the slot's tables
 abbrev pub table : List ℕ → ℕ → ℕ → ℕ
-table image slot k = number image (slot + 200 + 2 * k)
+table image slot k = number image (slot + layout.table_numbers_at + layout.number_length * k)
 
--- where the number of a page stands: that of one of the first in the slot, eighty bytes behind, and else in a table
+-- where the number of a page stands: that of one of the first in the slot, and else in a table
 abbrev pub number_place : List ℕ → ℕ → ℕ → ℕ → ℕ
 number_place image base slot i =
-    cond (nat_lt i slot_pages) (slot + 80 + 2 * i) (table_at base (table image slot (table_of i)) + 2 * ((i - slot_pages) % table_pages))
+    cond (nat_lt i slot_pages) (slot + layout.page_numbers_at + layout.number_length * i) (table_at base (table image slot (table_of i)) + layout.number_length * ((i - slot_pages) % table_pages))
 
 abbrev pub page : List ℕ → ℕ → ℕ → ℕ → ℕ
 page image base slot i = number image (number_place image base slot i)
@@ -38,14 +35,14 @@ abbrev pub bytes_of : List ℕ → ℕ → ℕ → ℕ → List ℕ
 bytes_of image base slot zero = []
 bytes_of image base slot (suc n) = bytes_of image base slot n ++ bytes_at image (page_at base (page image base slot n)) page_bytes
 
--- a version: its kind, inode, set, size, stamp and vector as a slot spells them, and the content
+-- a version: what its slot says of it, and the content
 pub record Version : Type 0 where
-  pub fields : List ℕ
+  pub fields : SlotFields
   pub content : List ℕ
 
 abbrev pub version : List ℕ → ℕ → ℕ → Version
 version image base slot = record {
-  fields = bytes_at image (slot + 2) 78;
+  fields = fields_in (bytes_at image slot layout.slot_length);
   content = take (size image slot) (bytes_of image base slot (pages_of (size image slot)));
 }
 

@@ -14,7 +14,7 @@ use Rattle.commit_graph.specs.declared.history.Version.{Version}
 use Rattle.trace_book.specs.Same.{same_epoch}
 use Rattle.trace_book.specs.declared.record.Record.{Record}
 use Rattle.trace_book.specs.declared.record.Record.TheVariants as says
-use Rattle.dir_format.specs.Entries.{nothing_seen}
+use Rattle.tree_model.specs.of_dir_format.Entries.{nothing_seen}
 use Rattle.tree_model.specs.declared.copy.HeldCopy.{HeldCopy}
 use Rattle.tree_model.specs.Lists.{put_first}
 use Rattle.tree_model.specs.Packs.{has_pack}

@@ -10,7 +10,7 @@ use Rattle.locus_ids.specs.declared.refusal.Refusal.TheVariants as refusal
 use Rattle.version_vector.specs.Counters.{part, AllLe}
 use Rattle.version_vector.proofs.Counting.{joined_least, AllLe-same}
 use Rattle.commit_graph.specs.Grants.{Opener, is_read, excluder, kept_refusal, grant_refusal}
-use Rattle.dir_format.specs.Entries.{nothing_seen}
+use Rattle.tree_model.specs.of_dir_format.Entries.{nothing_seen}
 use Rattle.wire_messages.specs.declared.body.Opening.{Opening}
 use Rattle.wire_messages.specs.declared.body.Opening.TheVariants as how
 use Rattle.role_steps.specs.Views.{Frame}

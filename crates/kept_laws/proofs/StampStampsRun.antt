@@ -1,17 +1,14 @@
 -- In every run no file has two commits with one stamp.
-use Rattle.std.proofs.Common.{◌≡◌, ℕ, ◌+◌, ◌≤◌, ◌==◌, nat_lt, Bool, true, false, cond, List, [], ◌∷◌, map, filter, length, Option, Some, None, refl, sym, ◌∙◌, ap, subst, inl, inr, arith, ◌-◌}
-use Rattle.std.proofs.lemmas.Bool.Decides.{nat_tests}
-use Rattle.role_steps.proofs.of_plain_facts.Numbers.{equal}
-use Rattle.role_steps.proofs.of_plain_facts.Options.{some_same as some_eq}
+use Rattle.std.proofs.Common.{◌≡◌, ℕ, ◌≤◌, List, [], ◌∷◌, map, Option, Some, None, refl, sym, ◌∙◌, ap, subst, inl, inr, arith, ◌-◌}
 use Rattle.locus_ids.specs.declared.ids.FileId.{FileId}
 use Rattle.locus_ids.specs.declared.config.Config.{Config}
-use Rattle.locus_ids.specs.Sizes.{inode_span, sites_max}
+use Rattle.locus_ids.specs.Sizes.{inode_span}
 use Rattle.schedule_lines.specs.declared.line.ScheduleLine.{ScheduleLine}
 use Rattle.trace_book.specs.declared.record.Record.TheVariants as says
 use Rattle.trace_book.specs.declared.record.StopCause.TheVariants as cause
 use Rattle.role_steps.specs.Own.{Every}
 use Rattle.role_steps.specs.Tables.{row}
-use Rattle.role_steps.specs.Views.{SiteView, Told, Shown, Event, Calls, Receives, Ticks, Parts, Merges, GivesUp, all_sites, file_key}
+use Rattle.role_steps.specs.Views.{SiteView, Told, Shown, Event, Calls, Receives, Ticks, Parts, Merges, GivesUp, file_key}
 use Rattle.role_steps.specs.Storage.{copy_key, instance_key}
 use Rattle.role_steps.specs.Epochs.{frame_in}
 use Rattle.role_steps.specs.declared.copies.FileCopy.{FileCopy}
@@ -19,10 +16,9 @@ use Rattle.role_steps.specs.declared.instances.Instance.{Instance}
 use Rattle.role_steps.specs.declared.instances.Stage.TheVariants as stage
 use Rattle.role_steps.specs.declared.rounds.InEpoch.{InEpoch}
 use Rattle.role_steps.proofs.Sending.{every_map}
-use Rattle.role_steps.proofs.Counted.{CountsFrom, sites_count}
 use Rattle.the_run.specs.Disks.{boots}
 use Rattle.the_run.specs.Steps.{epoch_id, step}
-use Rattle.the_run.specs.Worlds.{World, Place, Running, Numbered, Line, number_of, links_of, place_at, place_in, place_site, script_of, disk_of, passed, acts, fresh, root_copy, formatted, first_place, first_world}
+use Rattle.the_run.specs.Worlds.{World, Running, Numbered, Line, number_of, links_of, place_at, script_of, disk_of, passed, acts, fresh, root_copy, formatted, first_world}
 use Rattle.the_run.specs.Runs.{packet_record, run_in}
 use Rattle.the_run.specs.Kept.{WasSent, IsOwn, Kept}
 use Rattle.the_run.proofs.Boots.{boots_reached}
@@ -42,6 +38,7 @@ use Rattle.vector_laws.specs.HistoryCommits.{IsSite, StampsAreOnce}
 use Rattle.make_laws.specs.of_lock_laws.Facts.{NumberedFact as LockNumbered, WorldFact as LockWorld}
 use Rattle.make_laws.specs.RunningStores.{InstanceSo, Stands}
 use Rattle.make_laws.proofs.RunningStandRun.{Orderly, Standing, standing_kept, first_standing, stores_stand}
+use Rattle.vector_laws.proofs.of_law_walks.FirstWorld.{first_places}
 use Rattle.kept_laws.specs.StampCommits.{stood, Here}
 use Rattle.kept_laws.specs.StampLaws.{Laws}
 use Rattle.kept_laws.specs.StampCovering.{CopyCounts}
@@ -206,9 +203,6 @@ all_kept c = record {
 
 -- ---- the first world ----
 
-none_place : (p : Place) → ◌≡◌ {A = Option Place} None (Some p) → ⊥
-none_place p e = cc
-
 one_not_zero : ◌≡◌ {A = ℕ} 1 0 → ⊥
 one_not_zero e = cc
 
@@ -222,30 +216,13 @@ first_site c t site = running_place c [] t (fresh 1 (formatted c t)) site
     (record { copies = every_map (CopyFact []) (root_copy c) _ (λ g. record { root = refl; site = refl; number = refl; none = seen_none }); pulls = tt; inside = refl })
     (record { boot = one_not_zero; disk = λ file small. none_counts t file (row copy_key (file_key file) (formatted c t)) (row_at (λ (x : FileCopy). x.file.ino ≡ 1) copy_key (file_key file) (formatted c t) (every_map (λ (x : FileCopy). x.file.ino ≡ 1) (root_copy c) _ (λ g. refl))) (omega (arith, small)); inside = (refl, refl) })
 
-first_places : (c : Config) (ss : List ℕ) (s : ℕ) (p : Place) → Every IsSite ss → place_in (row place_site s (map (first_place c) ss)) ≡ Some p → PlaceCovers c [] s p
-first_places c [] s p h e = absurd (none_place p e)
-first_places c (t ∷ ts) s p h e =
-    (elim (t == s) as (λ b. (t == s) ≡ b → place_in (elim b [ true ↦ Some (first_place c t) | false ↦ row place_site s (map (first_place c) ts) ]) ≡ Some p → PlaceCovers c [] s p) [
-      | true ↦ λ q f. subst (λ (n : ℕ). PlaceCovers c [] n p) (equal t s q) (subst (PlaceCovers c [] t) (some_eq (Running (fresh 1 (formatted c t))) p f) (first_site c t h.0))
-      | false ↦ λ q f. first_places c ts s p h.1 f
-    ]) refl e
-
-kept_sites : (P : ℕ → Type 0) (test : ℕ → Bool) (xs : List ℕ) → Every P xs → Every P (filter test xs)
-kept_sites P test [] h = tt
-kept_sites P test (x ∷ xs) h = elim (test x) as (λ b. Every P (cond b (x ∷ filter test xs) (filter test xs))) [ true ↦ (h.0, kept_sites P test xs h.1) | false ↦ kept_sites P test xs h.1 ]
-
--- the numbers from this one on, up to sixteen
-sites_from : (low : ℕ) (xs : List ℕ) → CountsFrom low xs → 1 ≤ low → low + length xs ≤ sites_max + 1 → Every IsSite xs
-sites_from low [] r h g = tt
-sites_from low (x ∷ xs) r h g = (record { low = (let e : x ≡ low = r.0 in omega (arith, e, h)); high = (let e : x ≡ low = r.0 in omega (arith, e, g)) }, sites_from (low + 1) xs r.1 (omega (arith, h)) (omega (arith, g)))
-
 first_covers : (c : Config) → WorldCovers c (first_world c)
 first_covers c = record {
   numbered = tt;
   once = λ file. tt;
   fit = λ s file n m. absurd m;
   synced = λ e key file r. absurd r;
-  places = λ s p here. first_places c _ s p (kept_sites IsSite (λ t. nat_lt t (c.sites + 1)) all_sites (sites_from 1 all_sites sites_count (omega arith) (omega arith))) here;
+  places = first_places c (PlaceCovers c []) (λ s own. first_site c s (record { low = own.0.0; high = own.0.1 }));
   packets = tt;
   underway = tt;
 }

@@ -1,8 +1,8 @@
 -- The premises of laws that ask the same of many kinds.
 use Rattle.std.proofs.Common.{◌≡◌, ℕ, List, [], ◌∷◌, Option, Some, None}
 use Rattle.locus_ids.specs.declared.config.Config.{Config}
-use Rattle.trace_book.specs.declared.record.Record.{Record}
-use Rattle.trace_book.specs.declared.record.Record.TheVariants as says
+use Rattle.the_run.specs.of_trace_book.declared.record.Record.{Record}
+use Rattle.the_run.specs.of_trace_book.declared.record.Record.TheVariants as says
 use Rattle.the_run.specs.of_wire_messages.declared.packet.Packet.{Packet}
 use Rattle.the_run.specs.of_wire_messages.declared.body.Body.{Body}
 use Rattle.the_run.specs.of_wire_messages.declared.body.Body.TheVariants as body

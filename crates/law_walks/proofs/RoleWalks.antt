@@ -8,11 +8,11 @@ use Rattle.locus_ids.specs.declared.ids.Mode.{Mode}
 use Rattle.locus_ids.specs.declared.ids.Mode.TheVariants as mode
 use Rattle.locus_ids.specs.declared.refusal.Refusal.TheVariants as refusal
 use Rattle.the_run.specs.of_commit_graph.Versions.{same_stamp}
-use Rattle.trace_book.specs.declared.call.Call.{Call}
-use Rattle.trace_book.specs.declared.operation.Op.{Op}
-use Rattle.trace_book.specs.declared.operation.Op.TheVariants as op
-use Rattle.trace_book.specs.declared.operation.Outcome.{Outcome as Result}
-use Rattle.trace_book.specs.declared.operation.Outcome.TheVariants as result
+use Rattle.the_run.specs.of_trace_book.declared.call.Call.{Call}
+use Rattle.the_run.specs.of_trace_book.declared.operation.Op.{Op}
+use Rattle.the_run.specs.of_trace_book.declared.operation.Op.TheVariants as op
+use Rattle.the_run.specs.of_trace_book.declared.operation.Outcome.{Outcome as Result}
+use Rattle.the_run.specs.of_trace_book.declared.operation.Outcome.TheVariants as result
 use Rattle.the_run.specs.of_call_rules.declared.answer.Answer.{Answer}
 use Rattle.the_run.specs.of_call_rules.declared.want.Want.{Want}
 use Rattle.the_run.specs.of_call_rules.declared.want.Want.TheVariants as want

@@ -2,7 +2,7 @@
 use Rattle.std.specs.List.{flat_map}
 use Rattle.std.proofs.Common.{◌≡◌, ℕ, true, false, ◌&&◌, not, List, [], ◌∷◌, Option, Some, None, refl, ◌∙◌}
 use Rattle.locus_ids.specs.declared.config.Config.{Config}
-use Rattle.trace_book.specs.declared.call.Call.TheVariants as call
+use Rattle.the_run.specs.of_trace_book.declared.call.Call.TheVariants as call
 use Rattle.the_run.specs.of_wire_messages.declared.packet.Packet.{Packet}
 use Rattle.the_run.specs.of_wire_messages.declared.body.Body.{Body}
 use Rattle.the_run.specs.of_wire_messages.declared.body.Body.TheVariants as body
@@ -11,11 +11,11 @@ use Rattle.the_run.specs.of_role_steps.Tables.{row, first_that}
 use Rattle.the_run.specs.of_role_steps.Views.{Frame, Store, Users, SiteView, Outcome, quiet, and_then, within}
 use Rattle.the_run.specs.of_role_steps.Reports.{on_have_of, on_report, on_closed, on_have, sync_repeats}
 use Rattle.the_run.specs.of_role_steps.Opens.{on_opened}
-use Rattle.the_run.specs.of_role_steps.Storage.{copy_of, instance_of, with_version, store_repeats}
-use Rattle.the_run.specs.of_role_steps.Pulling.{wanted_pages, pull_repeats}
+use Rattle.the_run.specs.of_role_steps.Storage.{copy_of, instance_of, store_repeats}
+use Rattle.the_run.specs.of_role_steps.Pulling.{pull_repeats}
 use Rattle.the_run.specs.of_role_steps.Requests.{users_repeats}
 use Rattle.the_run.specs.of_role_steps.Epochs.{frame_in, with_users, report_packets, all_reports}
-use Rattle.the_run.specs.of_role_steps.Adoption.{notes_own_at, notes_own, with_store, table_group, is_ready, fits_own, content_under, adopts_pull, without_pull, adopts_first, with_adopted}
+use Rattle.the_run.specs.of_role_steps.Adoption.{notes_own_at, notes_own, with_store, table_group, is_ready, fits_own, adopts_pull, without_pull, adopts_first, with_adopted}
 use Rattle.the_run.specs.of_role_steps.Mends.{mending, kept_stamps, has_mend_in, wants_mend, starts_mend_of, starts_mend, starts_mends_in, row_file}
 use Rattle.the_run.specs.of_role_steps.Versions.{file_row}
 use Rattle.the_run.specs.of_role_steps.declared.pulls.Pull.{Pull}

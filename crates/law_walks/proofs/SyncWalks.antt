@@ -6,8 +6,8 @@ use Rattle.locus_ids.specs.declared.ids.Mode.{Mode}
 use Rattle.locus_ids.specs.declared.ids.Mode.TheVariants as mode
 use Rattle.locus_ids.specs.declared.ids.Serial.{Serial}
 use Rattle.locus_ids.specs.declared.ids.Stamp.{Stamp}
-use Rattle.trace_book.specs.declared.operation.What.{What}
-use Rattle.trace_book.specs.declared.operation.What.TheVariants as what
+use Rattle.the_run.specs.of_trace_book.declared.operation.What.{What}
+use Rattle.the_run.specs.of_trace_book.declared.operation.What.TheVariants as what
 use Rattle.the_run.specs.of_wire_messages.declared.body.Body.{Body}
 use Rattle.the_run.specs.of_wire_messages.declared.body.Body.TheVariants as body
 use Rattle.the_run.specs.of_wire_messages.declared.body.OpenedAs.{OpenedAs}

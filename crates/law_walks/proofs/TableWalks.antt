@@ -7,7 +7,7 @@ use Rattle.locus_ids.specs.declared.sites.Members.{Members}
 use Rattle.locus_ids.specs.declared.sites.Sites.{Sites}
 use Rattle.locus_ids.specs.declared.sites.Links.{Links}
 use Rattle.locus_ids.specs.declared.config.Config.{Config}
-use Rattle.trace_book.specs.Same.{same_epoch}
+use Rattle.the_run.specs.of_trace_book.Same.{same_epoch}
 use Rattle.the_run.specs.of_wire_messages.declared.packet.Packet.{Packet}
 use Rattle.the_run.specs.of_wire_messages.declared.body.Body.{Body}
 use Rattle.the_run.specs.of_wire_messages.declared.body.Body.TheVariants as body

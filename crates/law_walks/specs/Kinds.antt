@@ -1,8 +1,8 @@
 -- The kinds of what a site makes inside an epoch: which role sends which packet, and tells what.
-use Rattle.trace_book.specs.declared.call.Call.{Call}
-use Rattle.trace_book.specs.declared.call.Call.TheVariants.{Mend}
-use Rattle.trace_book.specs.declared.record.Record.{Record}
-use Rattle.trace_book.specs.declared.record.Record.TheVariants as says
+use Rattle.the_run.specs.of_trace_book.declared.call.Call.{Call}
+use Rattle.the_run.specs.of_trace_book.declared.call.Call.TheVariants.{Mend}
+use Rattle.the_run.specs.of_trace_book.declared.record.Record.{Record}
+use Rattle.the_run.specs.of_trace_book.declared.record.Record.TheVariants as says
 use Rattle.the_run.specs.of_wire_messages.declared.body.Body.{Body}
 use Rattle.the_run.specs.of_wire_messages.declared.body.Body.TheVariants as body
 use Rattle.the_run.specs.of_role_steps.Views.{Told, Shown, Promises, Takes, LooksAgain, Begins, Shuts, Reserves}

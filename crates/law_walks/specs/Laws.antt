@@ -2,7 +2,7 @@
 use Rattle.std.specs.Prelude.{ℕ, ◌≡◌, Option, Some, None}
 use Rattle.locus_ids.specs.declared.ids.Serial.{Serial}
 use Rattle.locus_ids.specs.declared.config.Config.{Config}
-use Rattle.trace_book.specs.declared.record.Record.{Record}
+use Rattle.the_run.specs.of_trace_book.declared.record.Record.{Record}
 use Rattle.the_run.specs.of_wire_messages.declared.packet.Packet.{Packet}
 use Rattle.the_run.specs.of_wire_messages.declared.body.Body.{Body}
 use Rattle.the_run.specs.of_wire_messages.declared.body.Body.TheVariants.{ReportOk, ClosedOk}

@@ -1,7 +1,7 @@
 -- Which rows of opens may be open side by side: rows that come, and rows that take the place of others.
 use Rattle.std.proofs.Common.{◌≡◌, ℕ, ◌==◌, Bool, true, false, not, ◌&&◌, cond, List, [], ◌∷◌, filter, map, Option, Some, None, refl, sym, ◌∙◌, subst}
-use Rattle.role_steps.proofs.of_plain_facts.Options.{none_some}
-use Rattle.role_steps.proofs.of_plain_facts.Tests.{and_true, false_true}
+use Rattle.vector_laws.proofs.of_role_steps.of_plain_facts.Options.{none_some}
+use Rattle.vector_laws.proofs.of_role_steps.of_plain_facts.Tests.{and_true, false_true}
 use Rattle.locus_ids.specs.declared.ids.FileId.{FileId}
 use Rattle.locus_ids.specs.declared.ids.Mode.{Mode}
 use Rattle.locus_ids.specs.declared.ids.Mode.TheVariants as mode
@@ -12,14 +12,14 @@ use Rattle.commit_graph.specs.Versions.{same_file}
 use Rattle.commit_graph.specs.Grants.{Opener, is_read, excludes, excluder, grant_refusal}
 use Rattle.wire_messages.specs.declared.body.Opening.{Opening}
 use Rattle.wire_messages.specs.declared.body.Opening.TheVariants as how
-use Rattle.role_steps.specs.Own.{Every}
-use Rattle.role_steps.specs.Tables.{row, with_latest}
-use Rattle.role_steps.specs.Views.{Frame}
-use Rattle.role_steps.specs.Versions.{kept, stamps_of, file_row}
-use Rattle.role_steps.specs.Opens.{OpenRequest, Decision, Denies, Grants, mode_of, is_open_stage, is_open_on, opener_of, openers, decision, file_decision, unless_refused, grant_on, granted_row, numbered_file, open_key}
-use Rattle.role_steps.specs.declared.synchronizing.SyncTable.{SyncTable}
-use Rattle.role_steps.specs.declared.synchronizing.FileRow.{FileRow}
-use Rattle.role_steps.specs.declared.synchronizing.OpenRow.{OpenRow}
+use Rattle.vector_laws.specs.of_role_steps.Own.{Every}
+use Rattle.vector_laws.specs.of_role_steps.Tables.{row, with_latest}
+use Rattle.vector_laws.specs.of_role_steps.Views.{Frame}
+use Rattle.vector_laws.specs.of_role_steps.Versions.{kept, stamps_of, file_row}
+use Rattle.vector_laws.specs.of_role_steps.Opens.{OpenRequest, Decision, Denies, Grants, mode_of, is_open_stage, is_open_on, opener_of, openers, decision, file_decision, unless_refused, grant_on, granted_row, numbered_file, open_key}
+use Rattle.vector_laws.specs.of_role_steps.declared.synchronizing.SyncTable.{SyncTable}
+use Rattle.vector_laws.specs.of_role_steps.declared.synchronizing.FileRow.{FileRow}
+use Rattle.vector_laws.specs.of_role_steps.declared.synchronizing.OpenRow.{OpenRow}
 use Rattle.vector_laws.proofs.of_the_run.Boots.{every_weaker}
 use Rattle.vector_laws.proofs.of_the_run.InsideSync.{Found, row_found}
 use Rattle.vector_laws.proofs.SyncFacts.{every_latest}

@@ -3,10 +3,10 @@ use Rattle.std.proofs.Common.{ℕ, List, [], ◌∷◌, Option, Some, sym, subst
 use Rattle.locus_ids.specs.declared.config.Config.{Config}
 use Rattle.locus_ids.specs.declared.ids.EpochId.{EpochId}
 use Rattle.vector_laws.specs.of_schedule_lines.declared.line.ScheduleLine.{ScheduleLine}
-use Rattle.role_steps.specs.Own.{Every}
-use Rattle.role_steps.specs.declared.rounds.InEpoch.{InEpoch}
-use Rattle.role_steps.specs.declared.users.Asking.{Asking}
-use Rattle.role_steps.specs.declared.users.Asking.TheVariants as asking
+use Rattle.vector_laws.specs.of_role_steps.Own.{Every}
+use Rattle.vector_laws.specs.of_role_steps.declared.rounds.InEpoch.{InEpoch}
+use Rattle.vector_laws.specs.of_role_steps.declared.users.Asking.{Asking}
+use Rattle.vector_laws.specs.of_role_steps.declared.users.Asking.TheVariants as asking
 use Rattle.vector_laws.specs.of_the_run.Kept.{Among}
 use Rattle.vector_laws.specs.of_the_run.Runs.{run_in}
 use Rattle.vector_laws.specs.of_the_run.Steps.{epoch_id}

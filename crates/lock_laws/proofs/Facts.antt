@@ -1,5 +1,5 @@
 -- Facts stay when more is told.
-use Rattle.std.proofs.Common.{◌≡◌, ℕ, List, [], ◌∷◌, ◌++◌, Option, Some, None, sym, subst, inr}
+use Rattle.std.proofs.Common.{◌≡◌, ℕ, List, [], ◌∷◌, ◌++◌, Option, Some, None, inr}
 use Rattle.locus_ids.specs.declared.ids.EpochId.{EpochId}
 use Rattle.locus_ids.specs.declared.ids.FileId.{FileId}
 use Rattle.locus_ids.specs.declared.ids.Mode.{Mode}
@@ -13,28 +13,29 @@ use Rattle.wire_messages.specs.declared.body.Granted.{Granted}
 use Rattle.wire_messages.specs.declared.body.Granted.TheVariants as granted
 use Rattle.wire_messages.specs.declared.body.OpenedAs.{OpenedAs}
 use Rattle.wire_messages.specs.declared.body.OpenedAs.TheVariants as opened
-use Rattle.role_steps.specs.Own.{Every}
-use Rattle.role_steps.specs.Views.{Users, SiteView, Told, Shown, Begins, Shuts, DiskWrite, Outcome, joined_to, first_written, serial_key}
-use Rattle.role_steps.specs.declared.instances.Instance.{Instance}
-use Rattle.role_steps.specs.declared.instances.Stage.{Stage}
-use Rattle.role_steps.specs.declared.instances.Stage.TheVariants as stage
-use Rattle.role_steps.specs.declared.rounds.InEpoch.{InEpoch}
-use Rattle.role_steps.specs.declared.synchronizing.SyncTable.{SyncTable}
-use Rattle.role_steps.specs.declared.synchronizing.OpenRow.{OpenRow}
-use Rattle.role_steps.specs.declared.synchronizing.OpenStage.{OpenStage}
-use Rattle.role_steps.specs.declared.synchronizing.OpenStage.TheVariants as opening
-use Rattle.role_steps.specs.declared.users.Asking.{Asking}
-use Rattle.role_steps.specs.declared.users.Asking.TheVariants as asking
-use Rattle.role_steps.specs.declared.users.WaitingCall.{WaitingCall}
-use Rattle.role_steps.specs.declared.users.UserInstance.{UserInstance}
-use Rattle.role_steps.proofs.Sending.{every_append}
+use Rattle.vector_laws.specs.of_role_steps.Own.{Every}
+use Rattle.vector_laws.specs.of_role_steps.Views.{Users, SiteView, Told, Shown, Begins, Shuts, Outcome, joined_to, serial_key}
+use Rattle.vector_laws.specs.of_role_steps.declared.instances.Instance.{Instance}
+use Rattle.vector_laws.specs.of_role_steps.declared.instances.Stage.{Stage}
+use Rattle.vector_laws.specs.of_role_steps.declared.instances.Stage.TheVariants as stage
+use Rattle.vector_laws.specs.of_role_steps.declared.rounds.InEpoch.{InEpoch}
+use Rattle.vector_laws.specs.of_role_steps.declared.synchronizing.SyncTable.{SyncTable}
+use Rattle.vector_laws.specs.of_role_steps.declared.synchronizing.OpenRow.{OpenRow}
+use Rattle.vector_laws.specs.of_role_steps.declared.synchronizing.OpenStage.{OpenStage}
+use Rattle.vector_laws.specs.of_role_steps.declared.synchronizing.OpenStage.TheVariants as opening
+use Rattle.vector_laws.specs.of_role_steps.declared.users.Asking.{Asking}
+use Rattle.vector_laws.specs.of_role_steps.declared.users.Asking.TheVariants as asking
+use Rattle.vector_laws.specs.of_role_steps.declared.users.WaitingCall.{WaitingCall}
+use Rattle.vector_laws.specs.of_role_steps.declared.users.UserInstance.{UserInstance}
 use Rattle.vector_laws.specs.of_the_run.Steps.{epoch_id, from_user}
 use Rattle.vector_laws.proofs.of_the_run.Boots.{every_weaker}
+use Rattle.vector_laws.specs.of_fact_walks.Facts.{Fine as Owes}
+use Rattle.vector_laws.specs.of_fact_walks.Keeping.{Growing}
+use Rattle.vector_laws.proofs.of_fact_walks.Outcomes.{told_append, told_each, then_fine as then_owes}
 use Rattle.vector_laws.specs.Written.{WasTold}
 use Rattle.vector_laws.specs.Facts.{onto}
-use Rattle.vector_laws.proofs.Facts.{onto_append}
 use Rattle.lock_laws.specs.Going.{IsGranted, RecordGoesOn, InstanceGoesOn}
-use Rattle.lock_laws.specs.Facts.{IsGiven, IsGivenOn, OpenedFact, DoneFact, BodyFact, PacketFact, NoFact, Factless, GrantedIn, HeldFact, AskingFact, WaitingFact, UsersFact, StageFact, InstanceFact, AskedFact, RowFact, OpenFact, TableFact, InEpochFact, ViewFact, AllGoOn, DiskFact, Fine}
+use Rattle.lock_laws.specs.Facts.{IsGiven, IsGivenOn, OpenedFact, DoneFact, BodyFact, PacketFact, NoFact, Factless, GrantedIn, HeldFact, AskingFact, WaitingFact, UsersFact, StageFact, InstanceFact, AskedFact, RowFact, OpenFact, TableFact, InEpochFact, ViewFact, locks, AllGoOn, Fine}
 
 -- whatever was told before is told later
 abbrev pub Later : List Told → List Told → Type 1
@@ -184,25 +185,33 @@ aloof_told past (Shuts s e inst) h = absurd h
 aloof_told past _ h = tt
 
 pub aloof_go : (past : List Told) (xs : List Told) → Every Aloof xs → AllGoOn past xs
-aloof_go past [] h = tt
-aloof_go past (x ∷ xs) h = (aloof_told past x h.0, aloof_go (x ∷ past) xs h.1)
+aloof_go past xs h = told_each locks Aloof aloof_told past xs h
 
 -- ---- outcomes ----
 
 pub go_append : (past a b : List Told) → AllGoOn past a → AllGoOn (onto a past) b → AllGoOn past (a ++ b)
-go_append past [] b h g = g
-go_append past (x ∷ xs) b h g = (h.0, go_append (x ∷ past) xs b h.1 g)
+go_append past a b h g = told_append locks past a b h g
 
-disk_then : (past : List Told) (a b : Option DiskWrite) → DiskFact past a → b ≡ None → DiskFact past (first_written a b)
-disk_then past None b h e = subst (DiskFact past) (sym e) tt
-disk_then past (Some d) b h e = h
+pub growing : Growing locks
+growing = record {
+  carries = λ past x from to e b. body_later past (x ∷ past) (one_later x past) from to e b;
+  view = λ past x me v. view_later past (x ∷ past) (one_later x past) me v;
+  disk = λ past x copies h. tt;
+}
+
+-- an outcome owes what the walk of facts asks
+pub fine_in : {V : Type 0} (F : List Told → V → Type 0) (past : List Told) (o : Outcome V) → Fine F past o → Owes locks F past o
+fine_in F past o h = record { view = h.view; sent = h.sent; told = h.goes; written = h.disk }
+
+pub fine_of : {V : Type 0} (F : List Told → V → Type 0) (past : List Told) (o : Outcome V) → Owes locks F past o → Fine F past o
+fine_of F past o h = record { view = h.view; sent = h.sent; goes = h.told; disk = h.written }
 
 -- one thing, and then another that writes nothing
 pub then_fine : {V W : Type 0} (F : List Told → V → Type 0) (G : List Told → W → Type 0) (past : List Told) (o : Outcome V) (p : Outcome W) → Fine F past o → Fine G (onto o.told past) p → p.written ≡ None → Fine G past (joined_to o p)
-then_fine F G past o p h g e = record {
-  view = subst (λ (now : List Told). G now p.view) (sym (onto_append o.told p.told past)) g.view;
-  sent = subst (λ (now : List Told). Every (PacketFact now) (o.sent ++ p.sent)) (sym (onto_append o.told p.told past))
-      (every_append (PacketFact (onto p.told (onto o.told past))) o.sent p.sent (packets_later (onto o.told past) (onto p.told (onto o.told past)) (onto_later p.told (onto o.told past)) o.sent h.sent) g.sent);
-  goes = go_append past o.told p.told h.goes g.goes;
-  disk = disk_then past o.written p.written h.disk e;
-}
+then_fine F G past o p h g e = fine_of G past (joined_to o p) (then_owes locks growing F G past o p (fine_in F past o h) (fine_in G (onto o.told past) p g) e)
+
+abbrev pub OfSite : ℕ → List Told → SiteView → Type 0
+OfSite me past v = ViewFact past me v
+
+abbrev pub SiteFine : ℕ → List Told → Outcome SiteView → Type 0
+SiteFine me past o = Fine (OfSite me) past o

@@ -1,8 +1,8 @@
 -- The tables of a site know each plain grant of their groups: what each event of a site keeps of that.
 use Rattle.std.proofs.Common.{◌≡◌, ℕ, ◌==◌, nat_lt, Bool, true, false, cond, List, [], ◌∷◌, ◌++◌, map, filter, Option, Some, None, refl, sym, ◌∙◌, ap, subst, inl, inr, arith}
 use Rattle.std.proofs.lemmas.Bool.Decides.{nat_tests}
-use Rattle.role_steps.proofs.of_plain_facts.Numbers.{apart, equal}
-use Rattle.role_steps.proofs.of_plain_facts.Tests.{false_true}
+use Rattle.vector_laws.proofs.of_role_steps.of_plain_facts.Numbers.{apart, equal}
+use Rattle.vector_laws.proofs.of_role_steps.of_plain_facts.Tests.{false_true}
 use Rattle.locus_ids.specs.declared.ids.EpochId.{EpochId}
 use Rattle.locus_ids.specs.declared.ids.FileId.{FileId}
 use Rattle.locus_ids.specs.declared.ids.Mode.{Mode}
@@ -10,15 +10,15 @@ use Rattle.locus_ids.specs.declared.sites.Members.{Members}
 use Rattle.locus_ids.specs.declared.config.Config.{Config}
 use Rattle.trace_book.specs.declared.record.Record.{Record}
 use Rattle.trace_book.specs.declared.record.Record.TheVariants as says
-use Rattle.role_steps.specs.Own.{Every}
-use Rattle.role_steps.specs.Tables.{row, with_row, first_that}
-use Rattle.role_steps.specs.Views.{SiteView, Told, Shown, DiskWrite, Outcome, quiet, joined_to, first_written, sync_site, all_groups}
-use Rattle.role_steps.specs.Reports.{new_table}
-use Rattle.role_steps.specs.Epochs.{is_sync_site}
-use Rattle.role_steps.specs.Adoption.{table_group, with_table}
-use Rattle.role_steps.specs.declared.rounds.InEpoch.{InEpoch}
-use Rattle.role_steps.specs.declared.synchronizing.SyncTable.{SyncTable}
-use Rattle.role_steps.proofs.Sending.{every_append}
+use Rattle.vector_laws.specs.of_role_steps.Own.{Every}
+use Rattle.vector_laws.specs.of_role_steps.Tables.{row, with_row, first_that}
+use Rattle.vector_laws.specs.of_role_steps.Views.{SiteView, Told, Shown, DiskWrite, Outcome, quiet, joined_to, first_written, sync_site, all_groups}
+use Rattle.vector_laws.specs.of_role_steps.Reports.{new_table}
+use Rattle.vector_laws.specs.of_role_steps.Epochs.{is_sync_site}
+use Rattle.vector_laws.specs.of_role_steps.Adoption.{table_group, with_table}
+use Rattle.vector_laws.specs.of_role_steps.declared.rounds.InEpoch.{InEpoch}
+use Rattle.vector_laws.specs.of_role_steps.declared.synchronizing.SyncTable.{SyncTable}
+use Rattle.vector_laws.proofs.of_role_steps.Sending.{every_append}
 use Rattle.vector_laws.specs.of_the_run.Steps.{at_table_of}
 use Rattle.vector_laws.proofs.of_the_run.Boots.{every_weaker}
 use Rattle.vector_laws.proofs.of_the_run.InsideSync.{every_row, Found, first_found}

@@ -1,6 +1,6 @@
 -- Each event of a site: its tables know each plain grant of their groups, and each grant is locked.
 use Rattle.std.proofs.Common.{◌≡◌, ℕ, ◌+◌, true, false, cond, ◌&&◌, not, List, [], ◌∷◌, ◌++◌, map, filter, Option, Some, None, refl, sym, ◌∙◌, subst, inl, inr}
-use Rattle.role_steps.proofs.of_plain_facts.Options.{some_same}
+use Rattle.vector_laws.proofs.of_role_steps.of_plain_facts.Options.{some_same}
 use Rattle.locus_ids.specs.Sites.{has}
 use Rattle.locus_ids.specs.declared.ids.EpochId.{EpochId}
 use Rattle.locus_ids.specs.declared.ids.FileId.{FileId}
@@ -11,59 +11,46 @@ use Rattle.locus_ids.specs.declared.sites.Links.{Links}
 use Rattle.locus_ids.specs.declared.config.Config.{Config}
 use Rattle.trace_book.specs.Same.{same_epoch}
 use Rattle.trace_book.specs.declared.call.Call.TheVariants as call
-use Rattle.trace_book.specs.declared.record.Record.{Record}
 use Rattle.trace_book.specs.declared.record.Record.TheVariants as says
 use Rattle.wire_messages.specs.declared.packet.Packet.{Packet}
 use Rattle.wire_messages.specs.declared.body.Body.{Body}
 use Rattle.wire_messages.specs.declared.body.Body.TheVariants as body
-use Rattle.role_steps.specs.Own.{Every}
-use Rattle.role_steps.specs.Tables.{row, without_row, first_that}
-use Rattle.role_steps.specs.Views.{Frame, Store, Users, SiteView, Event, Calls, Receives, Ticks, Parts, Merges, GivesUp, Told, Shown, Promises, DiskWrite, Outcome, quiet, sends, tells, and_then, joined_to, first_written, sync_site, pack_sites, all_groups}
-use Rattle.role_steps.specs.Reports.{new_table, on_have_of, on_report, on_open, on_look, on_closed, on_have}
-use Rattle.role_steps.specs.Opens.{on_opened}
-use Rattle.role_steps.specs.Storage.{copy_of, instance_of}
-use Rattle.role_steps.specs.Using.{on_call, reply_record}
-use Rattle.role_steps.specs.Versions.{file_row}
-use Rattle.role_steps.specs.Epochs.{is_epoch_below, frame_in, with_users, leaves_of, leaves, promises, promised_view, reached, polls, round_id, begins_round, boots_where, part_boot, starts_part_of, starts_part, merge_boot, starts_merge, promise_packet, refuse_packet, on_poll, on_promise_of, on_refuse_of, own_groups, is_sync_site, joins, may_install, is_in, joined_packet, on_install, on_joined, passed_over, unanswered, chosen_members, chosen_set, installs_all, decides_if, passes_over_of, passes_over}
-use Rattle.role_steps.specs.Adoption.{notes_own_at, adopt_record, table_group, with_table, with_store, without_pull, is_ready, adopts_pull, adopts_first, with_adopted, fits_own}
-use Rattle.role_steps.specs.Mends.{mending, kept_stamps, has_mend_in, wants_mend, starts_mend_of, starts_mend, starts_mends_in, row_file}
-use Rattle.role_steps.specs.Pulling.{pull_of, on_notify, on_page, on_delta, pages_in}
-use Rattle.role_steps.specs.declared.pulls.Pull.{Pull}
-use Rattle.role_steps.specs.declared.rounds.InEpoch.{InEpoch}
-use Rattle.role_steps.specs.declared.rounds.Round.{Round}
-use Rattle.role_steps.specs.declared.synchronizing.SyncTable.{SyncTable}
-use Rattle.role_steps.specs.declared.synchronizing.FileRow.{FileRow}
-use Rattle.role_steps.specs.declared.users.WaitingCall.{WaitingCall}
-use Rattle.role_steps.proofs.Sending.{every_map}
-use Rattle.vector_laws.specs.of_the_run.Steps.{is_dropped, takes_framed, takes, adopts_in, tries_at, whole, call_frame, epoch_id, takes_call, step, adopts_of, starts_mends_of, ends_event, from_user, group_of, is_opened_in, takes_inside, with_pulls}
-use Rattle.vector_laws.proofs.of_the_run.Boots.{every_weaker}
+use Rattle.vector_laws.specs.of_role_steps.Own.{Every}
+use Rattle.vector_laws.specs.of_role_steps.Tables.{row, without_row, first_that}
+use Rattle.vector_laws.specs.of_role_steps.Views.{Frame, Store, Users, SiteView, Event, Calls, Receives, Ticks, Parts, Merges, GivesUp, Told, Shown, Promises, DiskWrite, Outcome, quiet, sends, tells, and_then, joined_to, first_written, sync_site, pack_sites, all_groups}
+use Rattle.vector_laws.specs.of_role_steps.Reports.{new_table, on_have_of, on_report, on_open, on_look, on_closed, on_have}
+use Rattle.vector_laws.specs.of_role_steps.Opens.{on_opened}
+use Rattle.vector_laws.specs.of_role_steps.Storage.{copy_of}
+use Rattle.vector_laws.specs.of_role_steps.Using.{on_call, reply_record}
+use Rattle.vector_laws.specs.of_role_steps.Versions.{file_row}
+use Rattle.vector_laws.specs.of_role_steps.Epochs.{is_epoch_below, frame_in, with_users, leaves_of, leaves, promises, promised_view, reached, polls, round_id, begins_round, boots_where, part_boot, starts_part_of, starts_part, merge_boot, starts_merge, promise_packet, refuse_packet, on_poll, on_promise_of, on_refuse_of, own_groups, is_sync_site, joins, may_install, is_in, joined_packet, on_install, on_joined, passed_over, unanswered, chosen_members, chosen_set, installs_all, decides_if, passes_over_of, passes_over}
+use Rattle.vector_laws.specs.of_role_steps.Adoption.{notes_own_at, adopt_record, table_group, with_table, with_store, without_pull, is_ready, adopts_pull, adopts_first, with_adopted, fits_own}
+use Rattle.vector_laws.specs.of_role_steps.Mends.{has_mend_in, wants_mend, starts_mend_of, starts_mend, starts_mends_in, row_file}
+use Rattle.vector_laws.specs.of_role_steps.Pulling.{pull_of, pages_in}
+use Rattle.vector_laws.specs.of_role_steps.declared.pulls.Pull.{Pull}
+use Rattle.vector_laws.specs.of_role_steps.declared.rounds.InEpoch.{InEpoch}
+use Rattle.vector_laws.specs.of_role_steps.declared.rounds.Round.{Round}
+use Rattle.vector_laws.specs.of_role_steps.declared.synchronizing.SyncTable.{SyncTable}
+use Rattle.vector_laws.specs.of_role_steps.declared.synchronizing.FileRow.{FileRow}
+use Rattle.vector_laws.specs.of_role_steps.declared.users.WaitingCall.{WaitingCall}
+use Rattle.vector_laws.proofs.of_role_steps.Sending.{every_map}
+use Rattle.vector_laws.specs.of_the_run.Steps.{is_dropped, takes_framed, takes, adopts_in, tries_at, whole, call_frame, epoch_id, takes_call, step, adopts_of, starts_mends_of, ends_event, is_opened_in, takes_inside}
 use Rattle.vector_laws.proofs.of_the_run.InsideSync.{Found, row_found}
 use Rattle.vector_laws.proofs.of_run_laws.Telling.{on_opened_talks, on_open_talks, on_look_talks, on_report_talks, on_closed_talks, on_have_talks}
 use Rattle.vector_laws.specs.Facts.{onto}
 use Rattle.vector_laws.proofs.Facts.{onto_append}
+use Rattle.vector_laws.specs.of_fact_walks.Roles.{IsForTable}
+use Rattle.vector_laws.proofs.of_fact_walks.Roles.{by_role, stores_by, readers_by, users_by, pulls_by}
 use Rattle.lock_laws.specs.Joins.{WasJoined}
 use Rattle.lock_laws.specs.Locks.{IsOfAFile}
 use Rattle.lock_laws.specs.Grants.{WasGrantedAs}
-use Rattle.lock_laws.proofs.Facts.{AloofRecord, Aloof}
 use Rattle.lock_laws.proofs.GrantSites.{bares_by, put_tables, rising_put, ascending_filter, made_rising, groups_ascend, passing, is_synced, Orderly, SyncedBy, GrantsSynced, GrantsIn, SiteLock, SiteKeeps, orderly_before, synced_after, in_bare, alike, none_bare, plain_site, quiet_site, then_site, in_epoch, group_part, with_part}
-use Rattle.lock_laws.proofs.SiteFacts.{PullsAloof, notify_aloof, delta_aloof, page_aloof}
 use Rattle.lock_laws.proofs.StepFacts.{SiteSilent, notify_silent, page_silent, delta_silent, framed_notify}
 use Rattle.lock_laws.proofs.GrantFacts.{on_opened_keeps, on_open_keeps, on_look_keeps, on_report_keeps, on_closed_keeps, have_lock, on_have_keeps}
-use Rattle.lock_laws.proofs.GrantTold.{Held, TableLock, BareRecord, Bare, bare_locked}
-use Rattle.lock_laws.proofs.BareRoles.{Bares, on_call_bare, on_open_done_bare, on_op_done_bare, on_as_held_bare, on_close_done_bare, on_look_done_bare, StoreBare, on_open_ss_bare, on_close_bare, on_closed_ok_bare, on_op_bare, on_read_held_bare}
+use Rattle.lock_laws.proofs.GrantTold.{Held, TableLock, Bare, bare_locked}
+use Rattle.lock_laws.proofs.BareRoles.{Bares, StoreBare, storing, using, stores, versions, users, on_call_bare}
 
 -- ---- inside the epoch ----
-
-aloof_record : (r : Record) → AloofRecord r → BareRecord r
-aloof_record (says.Grant e call request inst m file stamp ss) h = absurd h
-aloof_record _ h = tt
-
-aloof_bare : (x : Told) → Aloof x → Bare x
-aloof_bare (Shown r) h = aloof_record r h
-aloof_bare _ h = tt
-
-pulls_bare : (xs : List Told) → Every Aloof xs → Every Bare xs
-pulls_bare xs h = every_weaker Aloof Bare xs aloof_bare h
 
 user_site : (c : Config) (me : ℕ) (past : List Told) (v : SiteView) (o : Outcome Users) → Bares o → SiteLock c past me v → SiteKeeps c me past (record { view = with_users v o.view; sent = o.sent; told = o.told; written = o.written })
 user_site c me past v o k h = plain_site c me past v (record { view = with_users v o.view; sent = o.sent; told = o.told; written = o.written }) refl refl k.0 (none_bare o.written k.1) h
@@ -71,45 +58,32 @@ user_site c me past v o k h = plain_site c me past v (record { view = with_users
 store_site : (c : Config) (me : ℕ) (past : List Told) (v : SiteView) (o : Outcome Store) → StoreBare o → SiteLock c past me v → SiteKeeps c me past (record { view = with_store v o.view; sent = o.sent; told = o.told; written = o.written })
 store_site c me past v o k h = plain_site c me past v (record { view = with_store v o.view; sent = o.sent; told = o.told; written = o.written }) refl refl k.0 k.1 h
 
+tables_site : (c : Config) (me boot : ℕ) (past : List Told) (from : ℕ) (v : SiteView) (e : InEpoch) (x : Body) → IsForTable x → v.epoch ≡ Some e → SiteLock c past me v → SiteKeeps c me past (takes_inside (frame_in c me boot e) from x v)
+tables_site c me boot past from v e (body.Report group copies) is here h = group_part c me past (on_report (frame_in c me boot e) from copies) v e group here h (on_report_talks (frame_in c me boot e) from copies) (λ t q k. on_report_keeps c past me e.members (frame_in c me boot e) from copies t k)
+tables_site c me boot past from v e (body.Open serial call process request file how) is here h = group_part c me past (on_open (frame_in c me boot e) from (record { serial = serial; call = call; process = process; request = request; file = file; how = how })) v e file.group here h (on_open_talks (frame_in c me boot e) from (record { serial = serial; call = call; process = process; request = request; file = file; how = how })) (λ t q k. on_open_keeps c past me e.members (frame_in c me boot e) from (record { serial = serial; call = call; process = process; request = request; file = file; how = how }) t (sym q) k)
+tables_site c me boot past from v e (body.Opened inst answer) is here h = with_part c me past (on_opened (frame_in c me boot e) inst answer) v e (is_opened_in inst) here h (on_opened_talks (frame_in c me boot e) inst answer) (λ t k. on_opened_keeps c past me e.members (frame_in c me boot e) inst answer t k)
+tables_site c me boot past from v e (body.Closed inst made) is here h = with_part c me past (on_closed (frame_in c me boot e) from inst made) v e (is_opened_in inst) here h (on_closed_talks (frame_in c me boot e) from inst made) (λ t k. on_closed_keeps c past me e.members (frame_in c me boot e) from inst made t k)
+tables_site c me boot past from v e (body.Look call process request take file what) is here h = group_part c me past (on_look (frame_in c me boot e) from (record { call = call; process = process; request = request; take = take; file = file; what = what })) v e file.group here h (on_look_talks (frame_in c me boot e) from (record { call = call; process = process; request = request; take = take; file = file; what = what })) (λ t q k. on_look_keeps c past me e.members (frame_in c me boot e) from (record { call = call; process = process; request = request; take = take; file = file; what = what }) t k)
+tables_site c me boot past from v e (body.Have file stamp) is here h = group_part c me past (on_have from file stamp) v e file.group here h (on_have_talks from file stamp) (λ t q k. on_have_keeps c past me e.members (frame_in c me boot e) from file stamp t k)
+tables_site c me boot past from v e _ is here h = absurd is
+
 inside_site : (c : Config) (me boot : ℕ) (past : List Told) (from : ℕ) (v : SiteView) (e : InEpoch) (x : Body) → v.epoch ≡ Some e → SiteLock c past me v → SiteKeeps c me past (takes_inside (frame_in c me boot e) from x v)
-inside_site c me boot past from v e (body.Report group copies) here h = group_part c me past (on_report (frame_in c me boot e) from copies) v e group here h (on_report_talks (frame_in c me boot e) from copies) (λ t q k. on_report_keeps c past me e.members (frame_in c me boot e) from copies t k)
-inside_site c me boot past from v e (body.ReportOk group) here h = plain_site c me past v _ refl refl tt tt h
-inside_site c me boot past from v e (body.Open serial call process request file how) here h = group_part c me past (on_open (frame_in c me boot e) from (record { serial = serial; call = call; process = process; request = request; file = file; how = how })) v e file.group here h (on_open_talks (frame_in c me boot e) from (record { serial = serial; call = call; process = process; request = request; file = file; how = how })) (λ t q k. on_open_keeps c past me e.members (frame_in c me boot e) from (record { serial = serial; call = call; process = process; request = request; file = file; how = how }) t (sym q) k)
-inside_site c me boot past from v e (body.OpenSs inst file mode set kind base vector parents) here h = store_site c me past v _ (on_open_ss_bare (frame_in c me boot e) (record { inst = inst; file = file; mode = mode; set = set; kind = kind; base = base; vector = vector; parents = parents }) v.store) h
-inside_site c me boot past from v e (body.Opened inst answer) here h = with_part c me past (on_opened (frame_in c me boot e) inst answer) v e (is_opened_in inst) here h (on_opened_talks (frame_in c me boot e) inst answer) (λ t k. on_opened_keeps c past me e.members (frame_in c me boot e) inst answer t k)
-inside_site c me boot past from v e (body.OpenDone serial answer) here h = user_site c me past v _ (on_open_done_bare (frame_in c me boot e) (kept_stamps v) serial answer v.users) h
-inside_site c me boot past from v e (body.Op serial n o seen) here h = store_site c me past v _ (on_op_bare (frame_in c me boot e) (mending v (group_of (instance_of v.store (from_user from serial)))) (from_user from serial) n o seen v.store) h
-inside_site c me boot past from v e (body.ReadHeld serial n at len) here h = store_site c me past v _ (on_read_held_bare (frame_in c me boot e) (from_user from serial) n at len v.store) h
-inside_site c me boot past from v e (body.OpDone serial n result) here h = user_site c me past v _ (on_op_done_bare (frame_in c me boot e) serial n result v.users) h
-inside_site c me boot past from v e (body.AsHeld serial n len) here h = user_site c me past v _ (on_as_held_bare (frame_in c me boot e) serial n v.users) h
-inside_site c me boot past from v e (body.Close serial) here h = store_site c me past v _ (on_close_bare (frame_in c me boot e) (from_user from serial) v.store) h
-inside_site c me boot past from v e (body.Closed inst made) here h = with_part c me past (on_closed (frame_in c me boot e) from inst made) v e (is_opened_in inst) here h (on_closed_talks (frame_in c me boot e) from inst made) (λ t k. on_closed_keeps c past me e.members (frame_in c me boot e) from inst made t k)
-inside_site c me boot past from v e (body.ClosedOk inst) here h = store_site c me past v _ (on_closed_ok_bare (frame_in c me boot e) inst v.store) h
-inside_site c me boot past from v e (body.CloseDone serial answer) here h = user_site c me past v _ (on_close_done_bare (frame_in c me boot e) serial answer v.users) h
-inside_site c me boot past from v e (body.Look call process request take file what) here h = group_part c me past (on_look (frame_in c me boot e) from (record { call = call; process = process; request = request; take = take; file = file; what = what })) v e file.group here h (on_look_talks (frame_in c me boot e) from (record { call = call; process = process; request = request; take = take; file = file; what = what })) (λ t q k. on_look_keeps c past me e.members (frame_in c me boot e) from (record { call = call; process = process; request = request; take = take; file = file; what = what }) t k)
-inside_site c me boot past from v e (body.LookSs us call process request take file what serve) here h = plain_site c me past v _ refl refl tt tt h
-inside_site c me boot past from v e (body.LookDone call request take answer) here h = user_site c me past v _ (on_look_done_bare (frame_in c me boot e) call request take answer v.users) h
-inside_site c me boot past from v e (body.Notify file kind set size stamp vector holder) here h =
-    let p : Pull = record { file = file; kind = kind; set = set; size = size; stamp = stamp; vector = vector; holder = holder; base = None; wanted = None; content = [] } in
-    let o : Outcome (List Pull) = on_notify (frame_in c me boot e) from (copy_of v.store file) p v.pulls in
-    let s : PullsAloof o = notify_aloof (frame_in c me boot e) from (copy_of v.store file) p v.pulls in
-    plain_site c me past v (record { view = with_pulls v o.view; sent = o.sent; told = o.told; written = o.written }) refl refl (pulls_bare o.told s.told) (none_bare o.written s.none) h
-inside_site c me boot past from v e (body.Pull file stamp page) here h = plain_site c me past v _ refl refl tt tt h
-inside_site c me boot past from v e (body.Want file wanted own) here h = plain_site c me past v _ refl refl tt tt h
-inside_site c me boot past from v e (body.Page file stamp page bytes) here h =
-    let o : Outcome (List Pull) = on_page (frame_in c me boot e) file stamp page bytes v.pulls in
-    let s : PullsAloof o = page_aloof (frame_in c me boot e) stamp page bytes (pull_of v.pulls file) v.pulls in
-    plain_site c me past v (record { view = with_pulls v o.view; sent = o.sent; told = o.told; written = o.written }) refl refl (pulls_bare o.told s.told) (none_bare o.written s.none) h
-inside_site c me boot past from v e (body.Delta file wanted pages) here h =
-    let o : Outcome (List Pull) = on_delta (frame_in c me boot e) (copy_of v.store file) file wanted pages v.pulls in
-    let s : PullsAloof o = delta_aloof (frame_in c me boot e) (pages_in (copy_of v.store file)) wanted pages (pull_of v.pulls file) v.pulls in
-    plain_site c me past v (record { view = with_pulls v o.view; sent = o.sent; told = o.told; written = o.written }) refl refl (pulls_bare o.told s.told) (none_bare o.written s.none) h
-inside_site c me boot past from v e (body.Have file stamp) here h = group_part c me past (on_have from file stamp) v e file.group here h (on_have_talks from file stamp) (λ t q k. on_have_keeps c past me e.members (frame_in c me boot e) from file stamp t k)
-inside_site c me boot past from v e body.Poll here h = quiet_site c me past v h
-inside_site c me boot past from v e (body.Promise reach) here h = quiet_site c me past v h
-inside_site c me boot past from v e (body.Refuse promised) here h = quiet_site c me past v h
-inside_site c me boot past from v e (body.Install members) here h = quiet_site c me past v h
-inside_site c me boot past from v e body.Joined here h = quiet_site c me past v h
+inside_site c me boot past from v e x here h =
+    by_role Q f from v (record {
+      tables = λ y is. tables_site c me boot past from v e y is here h;
+      stores = stores_by Q storing f from v (stores f) versions (λ y o is p. store_site c me past v o (p.1, p.2) h);
+      readers = readers_by Q storing f from v (stores f).reads (λ b is. tt) (λ y o is same p. store_site c me past v o (p.1, p.2) h);
+      users = users_by Q using f from v (users f) (λ y o is p. user_site c me past v o (p.1, p.2) h);
+      pulls = pulls_by Q storing f from v (stores f).reads (λ b is. tt) (λ y o is p. plain_site c me past v _ refl refl p.1 p.2 h);
+      reported = λ group. plain_site c me past v _ refl refl tt tt h;
+      forming = λ y is. quiet_site c me past v h;
+    }) x
+  where
+    f : Frame
+    f = frame_in c me boot e
+
+    Q : Body → Outcome SiteView → Type 0
+    Q y o = SiteKeeps c me past o
 
 -- ---- adoptions and mends ----
 

@@ -1,7 +1,7 @@
 -- What a table knows of plain grants, and what is told of them.
 use Rattle.std.proofs.Common.{◌≡◌, ℕ, ◌==◌, Bool, true, false, ◌⊎◌, List, [], ◌∷◌, ◌++◌, Option, Some, None, refl, sym, ◌∙◌, ap, subst, inl, inr, arith}
 use Rattle.std.proofs.lemmas.Bool.Decides.{nat_tests}
-use Rattle.role_steps.proofs.of_plain_facts.Numbers.{equal_self}
+use Rattle.vector_laws.proofs.of_role_steps.of_plain_facts.Numbers.{equal_self}
 use Rattle.locus_ids.specs.declared.ids.EpochId.{EpochId}
 use Rattle.locus_ids.specs.declared.ids.FileId.{FileId}
 use Rattle.locus_ids.specs.declared.ids.Mode.{Mode}
@@ -9,13 +9,13 @@ use Rattle.locus_ids.specs.declared.sites.Members.{Members}
 use Rattle.locus_ids.specs.declared.config.Config.{Config}
 use Rattle.trace_book.specs.declared.record.Record.{Record}
 use Rattle.trace_book.specs.declared.record.Record.TheVariants as says
-use Rattle.role_steps.specs.Own.{Every}
-use Rattle.role_steps.specs.Tables.{row, with_latest}
-use Rattle.role_steps.specs.Views.{Told, Shown, sync_site}
-use Rattle.role_steps.specs.Opens.{is_open_stage, open_key}
-use Rattle.role_steps.specs.declared.synchronizing.SyncTable.{SyncTable}
-use Rattle.role_steps.specs.declared.synchronizing.OpenRow.{OpenRow}
-use Rattle.role_steps.proofs.Rows.{passed_row, found_row}
+use Rattle.vector_laws.specs.of_role_steps.Own.{Every}
+use Rattle.vector_laws.specs.of_role_steps.Tables.{row, with_latest}
+use Rattle.vector_laws.specs.of_role_steps.Views.{Told, Shown, sync_site}
+use Rattle.vector_laws.specs.of_role_steps.Opens.{is_open_stage, open_key}
+use Rattle.vector_laws.specs.of_role_steps.declared.synchronizing.SyncTable.{SyncTable}
+use Rattle.vector_laws.specs.of_role_steps.declared.synchronizing.OpenRow.{OpenRow}
+use Rattle.vector_laws.proofs.of_role_steps.Rows.{passed_row, found_row}
 use Rattle.vector_laws.specs.Facts.{onto, EarlyFact}
 use Rattle.lock_laws.specs.Locks.{IsOfAFile}
 use Rattle.lock_laws.specs.Grants.{GrantedAsRecord, GrantedAs, WasGrantedAs, IsOver, LockedTold, LockedRecord}

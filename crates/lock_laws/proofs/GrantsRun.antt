@@ -1,6 +1,6 @@
 -- In every run each plain grant is locked by the earlier ones of its file in its epoch.
-use Rattle.std.proofs.Common.{◌≡◌, ◌≢◌, ℕ, ◌==◌, Bool, true, false, cond, List, [], ◌∷◌, map, Option, Some, None, refl, sym, ◌∙◌, ap, subst, inl, inr}
-use Rattle.role_steps.proofs.of_plain_facts.Options.{some_same as some_eq, some_same}
+use Rattle.std.proofs.Common.{◌≡◌, ◌≢◌, ℕ, Bool, true, false, cond, List, [], ◌∷◌, map, Option, Some, None, refl, sym, ◌∙◌, ap, subst, inl, inr}
+use Rattle.vector_laws.proofs.of_role_steps.of_plain_facts.Options.{some_same as some_eq, some_same}
 use Rattle.locus_ids.specs.declared.ids.EpochId.{EpochId}
 use Rattle.locus_ids.specs.declared.ids.FileId.{FileId}
 use Rattle.locus_ids.specs.declared.ids.Mode.{Mode}
@@ -12,16 +12,15 @@ use Rattle.trace_book.specs.declared.record.Record.TheVariants as says
 use Rattle.trace_book.specs.declared.record.StopCause.{StopCause}
 use Rattle.trace_book.specs.declared.record.StopCause.TheVariants as cause
 use Rattle.wire_messages.specs.declared.packet.Packet.{Packet}
-use Rattle.role_steps.specs.Own.{Every}
-use Rattle.role_steps.specs.Tables.{row}
-use Rattle.role_steps.specs.Views.{SiteView, Told, Shown, DiskWrite, Outcome, Receives, sync_site}
-use Rattle.role_steps.specs.declared.copies.FileCopy.{FileCopy}
-use Rattle.role_steps.specs.declared.rounds.InEpoch.{InEpoch}
-use Rattle.role_steps.proofs.Sending.{every_map}
+use Rattle.vector_laws.specs.of_role_steps.Own.{Every}
+use Rattle.vector_laws.specs.of_role_steps.Views.{SiteView, Told, Shown, DiskWrite, Outcome, Receives, sync_site}
+use Rattle.vector_laws.specs.of_role_steps.declared.copies.FileCopy.{FileCopy}
+use Rattle.vector_laws.specs.of_role_steps.declared.rounds.InEpoch.{InEpoch}
+use Rattle.vector_laws.proofs.of_role_steps.Sending.{every_map}
 use Rattle.vector_laws.specs.of_the_run.Disks.{Disk, Booted, Whole, CutOff, boots, cut_disk, is_on_disk}
 use Rattle.vector_laws.specs.of_the_run.Steps.{step}
 use Rattle.vector_laws.specs.of_the_run.Joins.{Joined}
-use Rattle.vector_laws.specs.of_the_run.Worlds.{World, Place, Running, Stopped, Numbered, Line, links_of, place_at, place_in, place_site, script_of, happened, told_onto, disk_of, puts, arms, passed, stops_with, cause_of, acts, fresh, formatted, first_place, first_world}
+use Rattle.vector_laws.specs.of_the_run.Worlds.{World, Running, Stopped, Numbered, Line, links_of, place_at, script_of, happened, told_onto, disk_of, puts, arms, passed, stops_with, cause_of, acts, fresh, first_world}
 use Rattle.vector_laws.specs.of_the_run.Runs.{boots_as, packet_record, run_in}
 use Rattle.vector_laws.specs.of_the_run.Kept.{Kept}
 use Rattle.vector_laws.proofs.of_the_run.Boots.{at_each, acts_cases, every_weaker}
@@ -33,6 +32,7 @@ use Rattle.vector_laws.specs.Held.{IsOf, Writes, OnDisk}
 use Rattle.vector_laws.specs.Facts.{onto}
 use Rattle.vector_laws.proofs.SiteDisks.{step_disk}
 use Rattle.vector_laws.proofs.FactsRun.{past_onto}
+use Rattle.vector_laws.proofs.of_law_walks.FirstWorld.{first_views}
 use Rattle.lock_laws.specs.Joins.{WasJoined}
 use Rattle.lock_laws.specs.Locks.{IsOfAFile}
 use Rattle.lock_laws.specs.Grants.{WasGrantedAs, GrantsAreLocked}
@@ -200,19 +200,8 @@ grant_kept c = record {
 
 -- ---- the first world, and the law ----
 
-none_place : (p : Place) → ◌≡◌ {A = Option Place} None (Some p) → ⊥
-none_place p e = cc
-
-first_fact : (c : Config) (ss : List ℕ) (s : ℕ) (v : SiteView) → place_in (row place_site s (map (first_place c) ss)) ≡ Some (Running v) → SiteLock c [] s v
-first_fact c [] s v e = absurd (none_place (Running v) e)
-first_fact c (t ∷ ts) s v e =
-    (elim (t == s) as (λ b. place_in (elim b [ true ↦ Some (first_place c t) | false ↦ row place_site s (map (first_place c) ts) ]) ≡ Some (Running v) → SiteLock c [] s v) [
-      | true ↦ λ f. subst (SiteLock c [] s) (running_view (fresh 1 (formatted c t)) v (some_eq (Running (fresh 1 (formatted c t))) (Running v) f)) refl
-      | false ↦ λ f. first_fact c ts s v f
-    ]) e
-
 first_grants : (c : Config) → WhereOrderly c (first_world c)
-first_grants c h = record { synced = λ e key file m it g. absurd g; locked = tt; views = λ s v here. first_fact c _ s v here }
+first_grants c h = record { synced = λ e key file m it g. absurd g; locked = tt; views = first_views c (SiteLock c []) (λ s own. refl) }
 
 joined_line : (s : ℕ) (id : EpochId) (m : Members) (trace : List Line) → WasJoined (past_of trace) s id m → Joined s id m trace
 joined_line s id m [] h = absurd h

@@ -1,8 +1,8 @@
 -- What a site joins in an event, by its boot: no other part of an event joins or boots.
 use Rattle.std.proofs.Common.{◌≡◌, ℕ, zero, suc, ◌+◌, ◌==◌, ◌⊎◌, Bool, true, false, cond, ◌&&◌, not, List, [], ◌∷◌, ◌++◌, map, get_or, Option, Some, None, refl, sym, ◌∙◌, ap, subst, inl, inr, arith}
 use Rattle.std.proofs.lemmas.Bool.Decides.{nat_tests}
-use Rattle.role_steps.proofs.of_plain_facts.Numbers.{equal, equal_self}
-use Rattle.role_steps.proofs.of_plain_facts.Tests.{both_true}
+use Rattle.vector_laws.proofs.of_role_steps.of_plain_facts.Numbers.{equal, equal_self}
+use Rattle.vector_laws.proofs.of_role_steps.of_plain_facts.Tests.{both_true}
 use Rattle.locus_ids.specs.Sites.{has}
 use Rattle.locus_ids.specs.declared.ids.EpochId.{EpochId}
 use Rattle.locus_ids.specs.declared.sites.Sites.{Sites}
@@ -15,17 +15,17 @@ use Rattle.trace_book.specs.declared.record.Record.TheVariants as says
 use Rattle.wire_messages.specs.declared.packet.Packet.{Packet}
 use Rattle.wire_messages.specs.declared.body.Body.{Body}
 use Rattle.wire_messages.specs.declared.body.Body.TheVariants as body
-use Rattle.role_steps.specs.Own.{Every}
-use Rattle.role_steps.specs.Tables.{without_row}
-use Rattle.role_steps.specs.Views.{SiteView, Told, Shown, Promises, DiskWrite, Outcome, Event, Calls, Receives, Ticks, Parts, Merges, GivesUp, quiet, sends, tells, and_then, joined_to, first_written, boot_in, all_sites}
-use Rattle.role_steps.specs.Using.{reply_record}
-use Rattle.role_steps.specs.Reports.{new_table}
-use Rattle.role_steps.specs.Epochs.{is_epoch_below, leaves_of, leaves, promises, promised_view, reached, polls, round_id, begins_round, starts_merge, boots_where, merge_boot, part_boot, starts_part_of, starts_part, promise_packet, refuse_packet, on_poll, counts_promise, with_promise, on_promise_of, on_refuse_of, joins, may_install, is_in, joined_packet, on_install, on_joined, passed_over, unanswered, member_boot, polled_boot, chosen_members, chosen_set, installs_all, decides_if, passes_over_of, passes_over}
-use Rattle.role_steps.specs.declared.rounds.InEpoch.{InEpoch}
-use Rattle.role_steps.specs.declared.rounds.Round.{Round}
-use Rattle.role_steps.specs.declared.users.WaitingCall.{WaitingCall}
-use Rattle.role_steps.proofs.Sending.{every_append, every_map}
-use Rattle.role_steps.proofs.Counted.{CountsFrom, sites_count}
+use Rattle.vector_laws.specs.of_role_steps.Own.{Every}
+use Rattle.vector_laws.specs.of_role_steps.Tables.{without_row}
+use Rattle.vector_laws.specs.of_role_steps.Views.{SiteView, Told, Shown, Promises, DiskWrite, Outcome, Event, Calls, Receives, Ticks, Parts, Merges, GivesUp, quiet, sends, tells, and_then, joined_to, first_written, boot_in, all_sites}
+use Rattle.vector_laws.specs.of_role_steps.Using.{reply_record}
+use Rattle.vector_laws.specs.of_role_steps.Reports.{new_table}
+use Rattle.vector_laws.specs.of_role_steps.Epochs.{is_epoch_below, leaves_of, leaves, promises, promised_view, reached, polls, round_id, begins_round, starts_merge, boots_where, merge_boot, part_boot, starts_part_of, starts_part, promise_packet, refuse_packet, on_poll, counts_promise, with_promise, on_promise_of, on_refuse_of, joins, may_install, is_in, joined_packet, on_install, on_joined, passed_over, unanswered, member_boot, polled_boot, chosen_members, chosen_set, installs_all, decides_if, passes_over_of, passes_over}
+use Rattle.vector_laws.specs.of_role_steps.declared.rounds.InEpoch.{InEpoch}
+use Rattle.vector_laws.specs.of_role_steps.declared.rounds.Round.{Round}
+use Rattle.vector_laws.specs.of_role_steps.declared.users.WaitingCall.{WaitingCall}
+use Rattle.vector_laws.proofs.of_role_steps.Sending.{every_append, every_map}
+use Rattle.vector_laws.proofs.of_role_steps.Counted.{CountsFrom, sites_count}
 use Rattle.vector_laws.specs.of_the_run.Joins.{TableOk, Plain}
 use Rattle.vector_laws.specs.of_the_run.Steps.{is_dropped, takes_framed, takes, tries_at, adopts_in, starts_mends_of, ends_event, whole, call_frame, epoch_id, takes_call, step}
 use Rattle.vector_laws.proofs.of_the_run.Boots.{every_weaker}

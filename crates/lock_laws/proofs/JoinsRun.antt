@@ -1,8 +1,8 @@
 -- In every run no site joins an epoch twice.
-use Rattle.std.proofs.Common.{◌≡◌, ℕ, ◌+◌, ◌==◌, ◌≤◌, ◌⊎◌, Bool, true, false, cond, List, [], ◌∷◌, ◌++◌, map, Option, Some, None, refl, sym, ◌∙◌, ap, subst, inl, inr, arith}
+use Rattle.std.proofs.Common.{◌≡◌, ℕ, ◌+◌, ◌==◌, ◌≤◌, ◌⊎◌, Bool, true, false, cond, List, [], ◌∷◌, ◌++◌, map, Some, None, refl, sym, ◌∙◌, ap, subst, inl, inr, arith}
 use Rattle.std.proofs.lemmas.Bool.Decides.{nat_tests}
-use Rattle.role_steps.proofs.of_plain_facts.Numbers.{at_most_of, equal, equal_self}
-use Rattle.role_steps.proofs.of_plain_facts.Options.{some_same}
+use Rattle.vector_laws.proofs.of_role_steps.of_plain_facts.Numbers.{at_most_of, equal, equal_self}
+use Rattle.vector_laws.proofs.of_role_steps.of_plain_facts.Options.{some_same}
 use Rattle.locus_ids.specs.declared.ids.EpochId.{EpochId}
 use Rattle.locus_ids.specs.declared.sites.Members.{Members}
 use Rattle.locus_ids.specs.declared.config.Config.{Config}
@@ -12,15 +12,14 @@ use Rattle.trace_book.specs.declared.record.Record.TheVariants as says
 use Rattle.trace_book.specs.declared.record.StopCause.{StopCause}
 use Rattle.trace_book.specs.declared.record.StopCause.TheVariants as cause
 use Rattle.wire_messages.specs.declared.packet.Packet.{Packet}
-use Rattle.role_steps.specs.Own.{Every}
-use Rattle.role_steps.specs.Epochs.{is_epoch_below}
-use Rattle.role_steps.specs.Tables.{row}
-use Rattle.role_steps.specs.Views.{SiteView, Told, Shown, DiskWrite, Outcome, Receives, boot_in}
-use Rattle.role_steps.proofs.Sending.{every_map}
+use Rattle.vector_laws.specs.of_role_steps.Own.{Every}
+use Rattle.vector_laws.specs.of_role_steps.Epochs.{is_epoch_below}
+use Rattle.vector_laws.specs.of_role_steps.Views.{SiteView, Told, Shown, DiskWrite, Outcome, Receives, boot_in}
+use Rattle.vector_laws.proofs.of_role_steps.Sending.{every_map}
 use Rattle.vector_laws.specs.of_the_run.Disks.{Disk, Booted, Whole, CutOff, boots, cut_disk, is_on_disk}
 use Rattle.vector_laws.specs.of_the_run.Steps.{step}
 use Rattle.vector_laws.specs.of_the_run.Joins.{IsJoinRecord, IsJoin, Joined, OneList}
-use Rattle.vector_laws.specs.of_the_run.Worlds.{World, Place, Running, Stopped, Numbered, Line, links_of, place_at, place_in, place_site, script_of, happened, disk_of, puts, arms, passed, stops_with, cause_of, acts, fresh, formatted, first_place}
+use Rattle.vector_laws.specs.of_the_run.Worlds.{World, Place, Running, Stopped, Numbered, Line, links_of, place_at, script_of, happened, disk_of, puts, arms, passed, stops_with, cause_of, acts, fresh}
 use Rattle.vector_laws.specs.of_the_run.Runs.{boots_as, packet_record, run_in}
 use Rattle.vector_laws.specs.of_the_run.Kept.{Kept}
 use Rattle.vector_laws.proofs.of_the_run.Boots.{at_each, acts_cases, Reached, boots_reached}
@@ -33,6 +32,7 @@ use Rattle.vector_laws.proofs.of_run_laws.Rises.{run_joins_rise}
 use Rattle.vector_laws.specs.Written.{past_of}
 use Rattle.vector_laws.specs.Facts.{onto}
 use Rattle.vector_laws.proofs.FactsRun.{past_onto}
+use Rattle.vector_laws.proofs.of_law_walks.FirstWorld.{first_places}
 use Rattle.lock_laws.specs.Joins.{WasJoined, FirstRecord, FirstJoin, JoinsAreOnce, boot_record, boot_told, ListsBoot, BootRecord, BootGoesOn, BootsGoOn}
 use Rattle.lock_laws.proofs.JoinFacts.{JoinRecord, JoinTold, Stays, Keeps, step_keeps}
 
@@ -186,19 +186,8 @@ boot_kept c = record {
   booting = λ n s d w here g. as_fact n s d (boots (script_of w s) d) w here (boots_reached (script_of w s) d) g;
 }
 
-none_place : (p : Place) → ◌≡◌ {A = Option Place} None (Some p) → ⊥
-none_place p e = cc
-
-first_fact : (c : Config) (ss : List ℕ) (s : ℕ) (p : Place) → place_in (row place_site s (map (first_place c) ss)) ≡ Some p → PlaceFact [] s p
-first_fact c [] s p e = absurd (none_place p e)
-first_fact c (t ∷ ts) s p e =
-    (elim (t == s) as (λ b. place_in (elim b [ true ↦ Some (first_place c t) | false ↦ row place_site s (map (first_place c) ts) ]) ≡ Some p → PlaceFact [] s p) [
-      | true ↦ λ f. subst (PlaceFact [] s) (some_same (Running (fresh 1 (formatted c t))) p f) (record { boot_is = refl; round = tt; tables = tt })
-      | false ↦ λ f. first_fact c ts s p f
-    ]) e
-
 run_boots : (c : Config) (lines : List ScheduleLine) → BootsGoOn (past_of (run_in c lines).trace)
-run_boots c lines = let f : BootFact (run_in c lines) = every_run c BootFact (boot_kept c) (record { goes = tt; places = λ s p here. first_fact c _ s p here }) lines in f.goes
+run_boots c lines = let f : BootFact (run_in c lines) = every_run c BootFact (boot_kept c) (record { goes = tt; places = first_places c (PlaceFact []) (λ s own. record { boot_is = refl; round = tt; tables = tt }) }) lines in f.goes
 
 -- ---- boots rise ----
 

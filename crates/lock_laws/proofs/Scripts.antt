@@ -1,6 +1,6 @@
 -- What each script asks on the way: an operation that changes a file is of what was opened to write.
 use Rattle.std.proofs.Common.{◌≡◌, ℕ, ◌⊎◌, Bool, true, false, cond, List, [], ◌∷◌, Option, Some, None, refl, sym, ◌∙◌, ap, subst, inl, inr}
-use Rattle.role_steps.proofs.of_plain_facts.Tests.{false_true}
+use Rattle.vector_laws.proofs.of_role_steps.of_plain_facts.Tests.{false_true}
 use Rattle.locus_ids.specs.declared.ids.EpochId.{EpochId}
 use Rattle.locus_ids.specs.declared.ids.FileId.{FileId}
 use Rattle.locus_ids.specs.declared.ids.Kind.{Kind}
@@ -23,17 +23,17 @@ use Rattle.trace_book.specs.declared.operation.What.{What}
 use Rattle.trace_book.specs.declared.operation.What.TheVariants as what
 use Rattle.trace_book.specs.declared.reply.Reply.{Reply}
 use Rattle.trace_book.specs.Names.{plain_name}
-use Rattle.call_rules.specs.declared.answer.Answer.{Answer}
-use Rattle.call_rules.specs.declared.answer.Answer.TheVariants as answer
-use Rattle.call_rules.specs.declared.want.Want.{Want}
-use Rattle.call_rules.specs.declared.want.Want.TheVariants as want
-use Rattle.call_rules.specs.Closing.{Own, Unchanged, Changed, closes, aborts, gives, give_up, close_all}
-use Rattle.call_rules.specs.Making.{after_insert, after_make, fills, after_probe, probes, opens_dir}
-use Rattle.call_rules.specs.Reopening.{reads_again, reopened, reopen_wants}
-use Rattle.call_rules.specs.Removing.{removes, empties, opens_target, by_kind, finds}
-use Rattle.call_rules.specs.Naming.{renames}
-use Rattle.call_rules.specs.Mending.{after_mend, brings, mend_wants}
-use Rattle.call_rules.specs.Opening.{opens_file, close_wants, lists, describes, Shows}
+use Rattle.vector_laws.specs.of_call_rules.declared.answer.Answer.{Answer}
+use Rattle.vector_laws.specs.of_call_rules.declared.answer.Answer.TheVariants as answer
+use Rattle.vector_laws.specs.of_call_rules.declared.want.Want.{Want}
+use Rattle.vector_laws.specs.of_call_rules.declared.want.Want.TheVariants as want
+use Rattle.vector_laws.specs.of_call_rules.Closing.{Own, Unchanged, Changed, closes, aborts, gives, give_up, close_all}
+use Rattle.vector_laws.specs.of_call_rules.Making.{after_insert, after_make, fills, after_probe, probes, opens_dir}
+use Rattle.vector_laws.specs.of_call_rules.Reopening.{reads_again, reopened, reopen_wants}
+use Rattle.vector_laws.specs.of_call_rules.Removing.{removes, empties, opens_target, by_kind, finds}
+use Rattle.vector_laws.specs.of_call_rules.Naming.{renames}
+use Rattle.vector_laws.specs.of_call_rules.Mending.{after_mend, brings, mend_wants}
+use Rattle.vector_laws.specs.of_call_rules.Opening.{opens_file, close_wants, lists, describes, Shows}
 use Rattle.lock_laws.specs.Writing.{changes, OpensToWrite, Opens, IsOpenedToWrite}
 
 -- a script after its first answer

@@ -11,31 +11,31 @@ use Rattle.trace_book.specs.declared.operation.Op.{Op}
 use Rattle.trace_book.specs.declared.operation.Op.TheVariants as op
 use Rattle.trace_book.specs.declared.operation.Outcome.{Outcome as Result}
 use Rattle.trace_book.specs.declared.operation.Outcome.TheVariants as result
-use Rattle.role_steps.specs.of_file_effects.Effects.{Effect}
-use Rattle.role_steps.specs.of_file_effects.Works.{counted}
-use Rattle.role_steps.specs.of_file_effects.declared.work.Work.{Work}
+use Rattle.vector_laws.specs.of_role_steps.of_file_effects.Effects.{Effect}
+use Rattle.vector_laws.specs.of_role_steps.of_file_effects.Works.{counted}
+use Rattle.vector_laws.specs.of_role_steps.of_file_effects.declared.work.Work.{Work}
 use Rattle.wire_messages.specs.declared.packet.Packet.{Packet}
 use Rattle.wire_messages.specs.declared.body.Body.{Body}
 use Rattle.wire_messages.specs.declared.body.Body.TheVariants as body
 use Rattle.wire_messages.specs.declared.body.MadeVersion.{MadeVersion}
 use Rattle.wire_messages.specs.declared.body.CloseAnswer.{CloseAnswer}
 use Rattle.wire_messages.specs.declared.body.CloseAnswer.TheVariants as closing
-use Rattle.role_steps.specs.Own.{Every}
-use Rattle.role_steps.specs.Views.{Frame, Store, Told, Shown, Begins, Shuts, Reserves, Outcome, quiet, sends, and_then, to_some, to_sync, sync_site, serial_key}
-use Rattle.role_steps.specs.Storage.{StoreRequest, copy_of, instance_key, instance_of, is_open, own_ino, begun_instance, begins, with_instance, opened_packets, opens, opens_made, on_open_ss_of, on_open_ss, is_spent, instance_committed, commit_record, commits, next_stamp, next_vector, made_version, shut, closed_packets, shuts, shuts_again, closes_owing, closes, on_close_at, on_close_of, on_close, ends_at, on_closed_ok_of, on_closed_ok, closed_again, store_repeats}
-use Rattle.role_steps.specs.of_dir_format.Entries.{nothing_seen}
-use Rattle.role_steps.specs.Operations.{act_record, acts, acts_committed, commits_owing, last_committed, commit_op, executes_effect, executes, op_again, by_number, on_op_at, on_op_of, on_op, in_form, nothing_to_mend, on_read_held}
-use Rattle.role_steps.specs.OperationEffects.{Mending, effect_of}
-use Rattle.role_steps.specs.declared.instances.Instance.{Instance}
-use Rattle.role_steps.specs.declared.instances.Stage.{Stage}
-use Rattle.role_steps.specs.declared.instances.Stage.TheVariants as stage
-use Rattle.role_steps.proofs.Sending.{every_cond}
+use Rattle.vector_laws.specs.of_role_steps.Own.{Every}
+use Rattle.vector_laws.specs.of_role_steps.Views.{Frame, Store, Told, Shown, Begins, Shuts, Reserves, Outcome, quiet, sends, and_then, to_some, to_sync, sync_site, serial_key}
+use Rattle.vector_laws.specs.of_role_steps.Storage.{StoreRequest, copy_of, instance_key, instance_of, is_open, own_ino, begun_instance, begins, with_instance, opened_packets, opens, opens_made, on_open_ss_of, on_open_ss, is_spent, instance_committed, commit_record, commits, next_stamp, next_vector, made_version, shut, closed_packets, shuts, shuts_again, closes_owing, closes, on_close_at, on_close_of, on_close, ends_at, on_closed_ok_of, on_closed_ok, closed_again, store_repeats}
+use Rattle.vector_laws.specs.of_role_steps.of_dir_format.Entries.{nothing_seen}
+use Rattle.vector_laws.specs.of_role_steps.Operations.{act_record, acts, acts_committed, commits_owing, last_committed, commit_op, executes_effect, executes, op_again, by_number, on_op_at, on_op_of, on_op, in_form, nothing_to_mend, on_read_held}
+use Rattle.vector_laws.specs.of_role_steps.OperationEffects.{Mending, effect_of}
+use Rattle.vector_laws.specs.of_role_steps.declared.instances.Instance.{Instance}
+use Rattle.vector_laws.specs.of_role_steps.declared.instances.Stage.{Stage}
+use Rattle.vector_laws.specs.of_role_steps.declared.instances.Stage.TheVariants as stage
+use Rattle.vector_laws.proofs.of_role_steps.Sending.{every_cond}
 use Rattle.vector_laws.specs.Facts.{onto}
 use Rattle.vector_laws.proofs.SyncFacts.{FoundAt, row_at, every_flat, every_latest}
 use Rattle.lock_laws.specs.Going.{WasBegunAt, WasShutAt, WasReleased, WasStarted, IsGranted}
 use Rattle.lock_laws.specs.Facts.{BodyFact, PacketFact, StageFact, InstanceFact, Fine}
 use Rattle.lock_laws.proofs.Facts.{one_later, onto_later, granted_later, instance_later, instances_later, then_fine}
-use Rattle.role_steps.proofs.HeldReads.{held_read_sent}
+use Rattle.vector_laws.proofs.of_role_steps.HeldReads.{held_read_sent}
 
 abbrev pub StoreFact : List Told → ℕ → EpochId → Store → Type 0
 StoreFact past me e s = Every (InstanceFact past me e) s.instances

@@ -18,23 +18,23 @@ use Rattle.wire_messages.specs.declared.body.MadeVersion.{MadeVersion}
 use Rattle.wire_messages.specs.declared.body.ReportedCopy.{ReportedCopy}
 use Rattle.wire_messages.specs.declared.body.OpenedAs.{OpenedAs}
 use Rattle.wire_messages.specs.declared.body.OpenedAs.TheVariants as opened
-use Rattle.role_steps.specs.Own.{Every}
-use Rattle.role_steps.specs.Tables.{row}
-use Rattle.role_steps.specs.Views.{Frame, Told, Shown, Outcome, quiet, sends, and_then, packet, process_key, serial_key}
-use Rattle.role_steps.specs.Versions.{file_row, holders_of, chosen_site}
-use Rattle.role_steps.specs.Notices.{lagging, notice, notices_of, notices_by, file_notices, notices, row_notices}
-use Rattle.role_steps.specs.Opens.{OpenRequest, Decision, Denies, Grants, is_open_stage, decision, refuse_record, decides, denied_row, asked_row, granted_row, numbered_file, granted_at_once, granted_at_last, repeats_open, on_open_of, takes_open, open_row, open_key, with_open, answers_open, by_stage, on_opened_of, on_opened}
-use Rattle.role_steps.specs.Looks.{LookRequest, Service, Denies as Unserved, Serves, service, letter, serving_letter, last_look, is_look_before, is_same_look, new_look, after_last, takes_look, look_key}
-use Rattle.role_steps.specs.Reports.{sync_repeats, brought_files, waits_early, is_early_of, on_open, on_look, takes_early, takes_all_early, starts, starts_if, have_all_reported, counts_report, with_reported, with_all_reported, with_report, on_report, published, published_notices, closed_ok, releases, closes_at, on_closed_of, on_closed, on_have_of, on_have}
-use Rattle.role_steps.specs.declared.synchronizing.SyncTable.{SyncTable}
-use Rattle.role_steps.specs.declared.synchronizing.FileRow.{FileRow}
-use Rattle.role_steps.specs.declared.synchronizing.VersionRow.{VersionRow}
-use Rattle.role_steps.specs.declared.synchronizing.OpenRow.{OpenRow}
-use Rattle.role_steps.specs.declared.synchronizing.OpenStage.{OpenStage}
-use Rattle.role_steps.specs.declared.synchronizing.OpenStage.TheVariants as stage
-use Rattle.role_steps.specs.declared.synchronizing.LastLook.{LastLook}
-use Rattle.role_steps.specs.declared.synchronizing.Early.{Early}
-use Rattle.role_steps.proofs.Sending.{every_append, every_cond, every_map, every_flat_map}
+use Rattle.vector_laws.specs.of_role_steps.Own.{Every}
+use Rattle.vector_laws.specs.of_role_steps.Tables.{row}
+use Rattle.vector_laws.specs.of_role_steps.Views.{Frame, Told, Shown, Outcome, quiet, sends, and_then, packet, process_key, serial_key}
+use Rattle.vector_laws.specs.of_role_steps.Versions.{file_row, holders_of, chosen_site}
+use Rattle.vector_laws.specs.of_role_steps.Notices.{lagging, notice, notices_of, notices_by, file_notices, notices, row_notices}
+use Rattle.vector_laws.specs.of_role_steps.Opens.{OpenRequest, Decision, Denies, Grants, is_open_stage, decision, refuse_record, decides, denied_row, asked_row, granted_row, numbered_file, granted_at_once, granted_at_last, repeats_open, on_open_of, takes_open, open_row, open_key, with_open, answers_open, by_stage, on_opened_of, on_opened}
+use Rattle.vector_laws.specs.of_role_steps.Looks.{LookRequest, Service, Denies as Unserved, Serves, service, letter, serving_letter, last_look, is_look_before, is_same_look, new_look, after_last, takes_look, look_key}
+use Rattle.vector_laws.specs.of_role_steps.Reports.{sync_repeats, brought_files, waits_early, is_early_of, on_open, on_look, takes_early, takes_all_early, starts, starts_if, have_all_reported, counts_report, with_reported, with_all_reported, with_report, on_report, published, published_notices, closed_ok, releases, closes_at, on_closed_of, on_closed, on_have_of, on_have}
+use Rattle.vector_laws.specs.of_role_steps.declared.synchronizing.SyncTable.{SyncTable}
+use Rattle.vector_laws.specs.of_role_steps.declared.synchronizing.FileRow.{FileRow}
+use Rattle.vector_laws.specs.of_role_steps.declared.synchronizing.VersionRow.{VersionRow}
+use Rattle.vector_laws.specs.of_role_steps.declared.synchronizing.OpenRow.{OpenRow}
+use Rattle.vector_laws.specs.of_role_steps.declared.synchronizing.OpenStage.{OpenStage}
+use Rattle.vector_laws.specs.of_role_steps.declared.synchronizing.OpenStage.TheVariants as stage
+use Rattle.vector_laws.specs.of_role_steps.declared.synchronizing.LastLook.{LastLook}
+use Rattle.vector_laws.specs.of_role_steps.declared.synchronizing.Early.{Early}
+use Rattle.vector_laws.proofs.of_role_steps.Sending.{every_append, every_cond, every_map, every_flat_map}
 use Rattle.vector_laws.proofs.of_the_run.InsideSync.{every_row, Found, row_found}
 use Rattle.vector_laws.specs.Written.{WasGranted, WasTold}
 use Rattle.vector_laws.specs.Facts.{onto, WaitingFact, EarlyFact}

@@ -14,9 +14,9 @@ use Rattle.trace_book.specs.declared.operation.Op.TheVariants as op
 use Rattle.trace_book.specs.declared.operation.Outcome.{Outcome as Result}
 use Rattle.trace_book.specs.declared.reply.Reply.{Reply}
 use Rattle.trace_book.specs.declared.reply.Reply.TheVariants as reply
-use Rattle.call_rules.specs.declared.answer.Answer.{Answer}
-use Rattle.call_rules.specs.declared.want.Want.{Want}
-use Rattle.call_rules.specs.declared.want.Want.TheVariants as want
+use Rattle.vector_laws.specs.of_call_rules.declared.answer.Answer.{Answer}
+use Rattle.vector_laws.specs.of_call_rules.declared.want.Want.{Want}
+use Rattle.vector_laws.specs.of_call_rules.declared.want.Want.TheVariants as want
 use Rattle.wire_messages.specs.declared.body.Body.{Body}
 use Rattle.wire_messages.specs.declared.body.Opening.{Opening}
 use Rattle.wire_messages.specs.declared.body.CloseAnswer.{CloseAnswer}
@@ -24,31 +24,28 @@ use Rattle.wire_messages.specs.declared.body.LookAnswer.{LookAnswer}
 use Rattle.wire_messages.specs.declared.body.LookAnswer.TheVariants as looked
 use Rattle.wire_messages.specs.declared.body.Granted.{Granted}
 use Rattle.wire_messages.specs.declared.body.Granted.TheVariants as granted
-use Rattle.role_steps.specs.Own.{Every}
-use Rattle.role_steps.specs.Tables.{first_that}
-use Rattle.role_steps.specs.Views.{Frame, Users, Told, Outcome, quiet, tells, and_then, packet, to_some, to_sync, sync_site, serial_key}
-use Rattle.role_steps.specs.Requests.{waiting_key, instance_serial, without_waiting, user_instance, with_user_instance, without_user_instance, operation_body, request_packets, asks, asks_open, next_request, asks_op_of, asks_close_of, seen_by, users_repeats}
-use Rattle.role_steps.specs.Using.{reply_record, is_hopeless, without_hope, after_reply, holds_again, replies, asks_want, next_want, goes_on, frees, accept_record, on_call, counted_users, counted_call, accepted_call, takes_record, with_answer, takes_answer, takes_copied, takes_open, version_read, on_open_done_of, on_open_done, on_op_done_of, on_as_held_of, keeps_brought, on_op_done, on_as_held, on_close_done_of, on_close_done, looks_again, with_brought, content_answer, takes_look, on_look_done_of, on_look_done, asks_open_of, asks_op_number, asks_held_number, asks_take, changed_records, users_leave, op_answer, close_answer, opened_answer, kept_for, mended_file}
-use Rattle.role_steps.specs.Using as using
-use Rattle.role_steps.specs.declared.users.Asking.{Asking}
-use Rattle.role_steps.specs.declared.users.Asking.TheVariants as asking
-use Rattle.role_steps.specs.declared.users.WaitingCall.{WaitingCall}
-use Rattle.role_steps.specs.declared.users.UserInstance.{UserInstance}
-use Rattle.role_steps.proofs.Sending.{every_map}
+use Rattle.vector_laws.specs.of_role_steps.Own.{Every}
+use Rattle.vector_laws.specs.of_role_steps.Tables.{first_that}
+use Rattle.vector_laws.specs.of_role_steps.Views.{Frame, Users, Told, Outcome, quiet, tells, and_then, packet, to_some, to_sync, sync_site, serial_key}
+use Rattle.vector_laws.specs.of_role_steps.Requests.{waiting_key, instance_serial, without_waiting, user_instance, with_user_instance, without_user_instance, operation_body, request_packets, asks, asks_open, next_request, asks_op_of, asks_close_of, seen_by, users_repeats}
+use Rattle.vector_laws.specs.of_role_steps.Using.{reply_record, is_hopeless, without_hope, after_reply, holds_again, replies, asks_want, next_want, goes_on, frees, accept_record, on_call, counted_users, counted_call, accepted_call, takes_record, with_answer, takes_answer, takes_copied, takes_open, version_read, on_open_done_of, on_open_done, on_op_done_of, on_as_held_of, keeps_brought, on_op_done, on_as_held, on_close_done_of, on_close_done, looks_again, with_brought, content_answer, takes_look, on_look_done_of, on_look_done, asks_open_of, asks_op_number, asks_held_number, asks_take, users_leave, op_answer, close_answer}
+use Rattle.vector_laws.specs.of_role_steps.Using as using
+use Rattle.vector_laws.specs.of_role_steps.declared.users.Asking.{Asking}
+use Rattle.vector_laws.specs.of_role_steps.declared.users.Asking.TheVariants as asking
+use Rattle.vector_laws.specs.of_role_steps.declared.users.WaitingCall.{WaitingCall}
+use Rattle.vector_laws.specs.of_role_steps.declared.users.UserInstance.{UserInstance}
+use Rattle.vector_laws.proofs.of_role_steps.Sending.{every_map}
 use Rattle.vector_laws.specs.of_the_run.Steps.{from_user}
 use Rattle.vector_laws.proofs.of_the_run.InsideSync.{every_row, every_without, Found, row_found}
 use Rattle.vector_laws.proofs.SyncFacts.{every_flat}
 use Rattle.lock_laws.specs.Facts.{IsGiven, PacketFact, NoFact, DoneFact, GrantedIn, HeldFact, AskingFact, WaitingFact, UsersFact}
+use Rattle.vector_laws.specs.of_fact_walks.Keeping.{IsFrameOf}
 use Rattle.lock_laws.proofs.Facts.{no_fact, Aloof}
-use Rattle.role_steps.proofs.Caching.{kept_only}
+use Rattle.vector_laws.proofs.of_role_steps.Caching.{kept_only}
 
 -- ---- packets ----
 
 -- the frame is that of the epoch, where the site is in one
-abbrev pub IsFrameOf : Frame → Option EpochId → Type 0
-IsFrameOf f None = Unit {0}
-IsFrameOf f (Some e) = f.epoch ≡ e
-
 grant_in : (past : List Told) (f : Frame) (o : Option EpochId) (key ss : ℕ) → IsFrameOf f o → GrantedIn past o key ss → IsGiven past f.epoch key ss
 grant_in past f None key ss q h = absurd h
 grant_in past f (Some e) key ss q h = subst (λ (id : EpochId). IsGiven past id key ss) (sym q) h

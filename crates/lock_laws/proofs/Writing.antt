@@ -1,6 +1,6 @@
 -- A script changes what it has opened to write, or what its descriptor names.
 use Rattle.std.proofs.Common.{◌≡◌, ℕ, ◌⊎◌, Bool, true, false, List, [], ◌∷◌, ◌++◌, Option, Some, None, refl, sym, ◌∙◌, ap, subst, inl, inr}
-use Rattle.role_steps.proofs.of_plain_facts.Tests.{false_true}
+use Rattle.vector_laws.proofs.of_role_steps.of_plain_facts.Tests.{false_true}
 use Rattle.locus_ids.specs.declared.ids.CallId.{CallId}
 use Rattle.locus_ids.specs.declared.ids.FileId.{FileId}
 use Rattle.locus_ids.specs.declared.ids.Kind.{Kind}
@@ -19,15 +19,15 @@ use Rattle.trace_book.specs.declared.reply.Reply.TheVariants as reply
 use Rattle.trace_book.specs.declared.descriptor.Beginning.{Beginning}
 use Rattle.trace_book.specs.declared.descriptor.Beginning.TheVariants as begins
 use Rattle.trace_book.specs.Names.{components, last_of}
-use Rattle.call_rules.specs.Mailing.{tells_name, shown_messages}
-use Rattle.call_rules.specs.declared.answer.Answer.{Answer}
-use Rattle.call_rules.specs.declared.answer.Answer.TheVariants as answer
-use Rattle.call_rules.specs.declared.want.Want.{Want}
-use Rattle.call_rules.specs.declared.want.Want.TheVariants as want
-use Rattle.call_rules.specs.Words.{is_badly_named}
-use Rattle.call_rules.specs.Walks.{Walked, Asks, Fails, There, Strays, root_of, mounted_in, passes, walk, walked}
-use Rattle.call_rules.specs.Opening.{opens_file, op_wants, uses_wants, lists, describes, shown_in}
-use Rattle.call_rules.specs.Scripts.{path_wants, begun_wants, named_wants}
+use Rattle.vector_laws.specs.of_call_rules.Mailing.{tells_name, shown_messages}
+use Rattle.vector_laws.specs.of_call_rules.declared.answer.Answer.{Answer}
+use Rattle.vector_laws.specs.of_call_rules.declared.answer.Answer.TheVariants as answer
+use Rattle.vector_laws.specs.of_call_rules.declared.want.Want.{Want}
+use Rattle.vector_laws.specs.of_call_rules.declared.want.Want.TheVariants as want
+use Rattle.vector_laws.specs.of_call_rules.Words.{is_badly_named}
+use Rattle.vector_laws.specs.of_call_rules.Walks.{Walked, Asks, Fails, There, Strays, root_of, mounted_in, passes, walk, walked}
+use Rattle.vector_laws.specs.of_call_rules.Opening.{opens_file, op_wants, uses_wants, lists, describes, shown_in}
+use Rattle.vector_laws.specs.of_call_rules.Scripts.{path_wants, begun_wants, named_wants}
 use Rattle.lock_laws.specs.Writing.{changes, OpensToWrite, IsOpenedToWrite, IsWrite, IsWriteOn, ScriptsOpenWhatTheyChange}
 use Rattle.lock_laws.proofs.Scripts.{Sound, quiet_sound, never_do, give_do, look_do, do_inst, do_op, probes_within, opens_dir_sound, finds_within, renames_within, close_quiet, mend_sound, opens_file_quiet, reopen_quiet, lists_quiet, describes_quiet}
 

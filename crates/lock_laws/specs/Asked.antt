@@ -2,11 +2,11 @@
 use Rattle.std.specs.Prelude.{ℕ, ◌≡◌, List, Some}
 use Rattle.locus_ids.specs.declared.ids.EpochId.{EpochId}
 use Rattle.locus_ids.specs.declared.ids.FileId.{FileId}
-use Rattle.role_steps.specs.Views.{SiteView, serial_key}
-use Rattle.role_steps.specs.declared.rounds.InEpoch.{InEpoch}
-use Rattle.role_steps.specs.declared.users.Asking.{Asking}
-use Rattle.role_steps.specs.declared.users.Asking.TheVariants as asking
-use Rattle.role_steps.specs.declared.users.WaitingCall.{WaitingCall}
+use Rattle.vector_laws.specs.of_role_steps.Views.{SiteView, serial_key}
+use Rattle.vector_laws.specs.of_role_steps.declared.rounds.InEpoch.{InEpoch}
+use Rattle.vector_laws.specs.of_role_steps.declared.users.Asking.{Asking}
+use Rattle.vector_laws.specs.of_role_steps.declared.users.Asking.TheVariants as asking
+use Rattle.vector_laws.specs.of_role_steps.declared.users.WaitingCall.{WaitingCall}
 use Rattle.vector_laws.specs.of_the_run.Kept.{Among}
 use Rattle.vector_laws.specs.of_the_run.Steps.{from_user}
 use Rattle.vector_laws.specs.of_the_run.Worlds.{World, Running, Line, place_at}

@@ -14,23 +14,24 @@ use Rattle.wire_messages.specs.declared.body.Granted.{Granted}
 use Rattle.wire_messages.specs.declared.body.Granted.TheVariants as granted
 use Rattle.wire_messages.specs.declared.body.OpenedAs.{OpenedAs}
 use Rattle.wire_messages.specs.declared.body.OpenedAs.TheVariants as opened
-use Rattle.role_steps.specs.Own.{Every}
-use Rattle.role_steps.specs.Views.{Users, SiteView, Told, Shown, DiskWrite, Outcome, serial_key}
-use Rattle.role_steps.specs.declared.instances.Instance.{Instance}
-use Rattle.role_steps.specs.declared.instances.Stage.{Stage}
-use Rattle.role_steps.specs.declared.instances.Stage.TheVariants as stage
-use Rattle.role_steps.specs.declared.rounds.InEpoch.{InEpoch}
-use Rattle.role_steps.specs.declared.synchronizing.SyncTable.{SyncTable}
-use Rattle.role_steps.specs.declared.synchronizing.OpenRow.{OpenRow}
-use Rattle.role_steps.specs.declared.synchronizing.OpenStage.{OpenStage}
-use Rattle.role_steps.specs.declared.synchronizing.OpenStage.TheVariants as opening
-use Rattle.role_steps.specs.declared.synchronizing.LastLook.{LastLook}
-use Rattle.role_steps.specs.declared.users.Asking.{Asking}
-use Rattle.role_steps.specs.declared.users.Asking.TheVariants as asking
-use Rattle.role_steps.specs.declared.users.WaitingCall.{WaitingCall}
-use Rattle.role_steps.specs.declared.users.UserInstance.{UserInstance}
+use Rattle.vector_laws.specs.of_role_steps.Own.{Every}
+use Rattle.vector_laws.specs.of_role_steps.Views.{Users, SiteView, Told, Shown, DiskWrite, Outcome, serial_key}
+use Rattle.vector_laws.specs.of_role_steps.declared.instances.Instance.{Instance}
+use Rattle.vector_laws.specs.of_role_steps.declared.instances.Stage.{Stage}
+use Rattle.vector_laws.specs.of_role_steps.declared.instances.Stage.TheVariants as stage
+use Rattle.vector_laws.specs.of_role_steps.declared.rounds.InEpoch.{InEpoch}
+use Rattle.vector_laws.specs.of_role_steps.declared.synchronizing.SyncTable.{SyncTable}
+use Rattle.vector_laws.specs.of_role_steps.declared.synchronizing.OpenRow.{OpenRow}
+use Rattle.vector_laws.specs.of_role_steps.declared.synchronizing.OpenStage.{OpenStage}
+use Rattle.vector_laws.specs.of_role_steps.declared.synchronizing.OpenStage.TheVariants as opening
+use Rattle.vector_laws.specs.of_role_steps.declared.synchronizing.LastLook.{LastLook}
+use Rattle.vector_laws.specs.of_role_steps.declared.users.Asking.{Asking}
+use Rattle.vector_laws.specs.of_role_steps.declared.users.Asking.TheVariants as asking
+use Rattle.vector_laws.specs.of_role_steps.declared.users.WaitingCall.{WaitingCall}
+use Rattle.vector_laws.specs.of_role_steps.declared.users.UserInstance.{UserInstance}
 use Rattle.vector_laws.specs.of_the_run.Steps.{epoch_id, from_user}
 use Rattle.vector_laws.specs.of_the_run.Worlds.{World, Running, Numbered, place_at}
+use Rattle.vector_laws.specs.of_fact_walks.Facts.{Facts, AllTold, WrittenIn}
 use Rattle.vector_laws.specs.Written.{past_of, WasGranted, WasTold}
 use Rattle.vector_laws.specs.Facts.{onto, EarlyFact}
 use Rattle.lock_laws.specs.Going.{WasBegunAt, WasShutAt, WasReleased, WasStarted, IsGranted, InstanceGoesOn, InstancesGoOn}
@@ -176,14 +177,24 @@ pub record ViewFact (past : List Told) (s : ℕ) (v : SiteView) : Type 0 where
 
 -- ---- outcomes ----
 
+-- the law of facts: all that was told of instances goes on as it must
+abbrev pub locks : Facts
+locks = record {
+  assumes = λ past. Unit {0};
+  carries = BodyFact;
+  pull = λ past p. Unit {0};
+  view = ViewFact;
+  disk = λ past copies. Unit {0};
+  told = InstanceGoesOn;
+  written = λ past d. InstanceGoesOn past (Shown d.says);
+}
+
 abbrev pub AllGoOn : List Told → List Told → Type 0
-AllGoOn past [] = Unit {0}
-AllGoOn past (x ∷ xs) = InstanceGoesOn past x × AllGoOn (x ∷ past) xs
+AllGoOn past told = AllTold locks past told
 
 -- the version that is written, which its record tells before all else of the event
 abbrev pub DiskFact : List Told → Option DiskWrite → Type 0
-DiskFact past None = Unit {0}
-DiskFact past (Some d) = InstanceGoesOn past (Shown d.says)
+DiskFact past d = WrittenIn locks past d
 
 -- what an outcome owes, whose view has these facts
 pub record Fine {V : Type 0} (F : List Told → V → Type 0) (past : List Told) (o : Outcome V) : Type 0 where

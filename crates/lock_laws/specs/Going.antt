@@ -6,7 +6,7 @@ use Rattle.locus_ids.specs.declared.ids.Mode.{Mode}
 use Rattle.locus_ids.specs.declared.ids.Mode.TheVariants as mode
 use Rattle.trace_book.specs.declared.record.Record.{Record}
 use Rattle.trace_book.specs.declared.record.Record.TheVariants as says
-use Rattle.role_steps.specs.Views.{Told, Shown, Begins, Shuts, serial_key}
+use Rattle.vector_laws.specs.of_role_steps.Views.{Told, Shown, Begins, Shuts, serial_key}
 use Rattle.vector_laws.specs.Written.{WasTold, WasGranted}
 
 -- ---- what was told of an instance, by the epoch and the key of its serial number ----

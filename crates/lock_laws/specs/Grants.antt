@@ -6,7 +6,7 @@ use Rattle.locus_ids.specs.declared.ids.Mode.{Mode}
 use Rattle.commit_graph.specs.Grants.{is_read}
 use Rattle.trace_book.specs.declared.record.Record.{Record}
 use Rattle.trace_book.specs.declared.record.Record.TheVariants as says
-use Rattle.role_steps.specs.Views.{Told, Shown, serial_key}
+use Rattle.vector_laws.specs.of_role_steps.Views.{Told, Shown, serial_key}
 use Rattle.vector_laws.specs.Written.{WasTold}
 use Rattle.lock_laws.specs.Going.{WasReleased}
 use Rattle.lock_laws.specs.Locks.{IsOfAFile}

@@ -4,7 +4,7 @@ use Rattle.locus_ids.specs.declared.ids.EpochId.{EpochId}
 use Rattle.locus_ids.specs.declared.sites.Members.{Members}
 use Rattle.trace_book.specs.declared.record.Record.{Record}
 use Rattle.trace_book.specs.declared.record.Record.TheVariants as says
-use Rattle.role_steps.specs.Views.{Told, Shown, boot_in}
+use Rattle.vector_laws.specs.of_role_steps.Views.{Told, Shown, boot_in}
 use Rattle.vector_laws.specs.of_the_run.Joins.{IsJoin}
 use Rattle.vector_laws.specs.Written.{WasTold}
 

@@ -4,11 +4,11 @@ use Rattle.locus_ids.specs.declared.ids.Mode.{Mode}
 use Rattle.locus_ids.specs.declared.ids.Mode.TheVariants as mode
 use Rattle.commit_graph.specs.Versions.{same_file}
 use Rattle.commit_graph.specs.Grants.{is_read}
-use Rattle.role_steps.specs.Own.{Every}
-use Rattle.role_steps.specs.Views.{SiteView}
-use Rattle.role_steps.specs.Opens.{is_open_stage}
-use Rattle.role_steps.specs.declared.synchronizing.SyncTable.{SyncTable}
-use Rattle.role_steps.specs.declared.synchronizing.OpenRow.{OpenRow}
+use Rattle.vector_laws.specs.of_role_steps.Own.{Every}
+use Rattle.vector_laws.specs.of_role_steps.Views.{SiteView}
+use Rattle.vector_laws.specs.of_role_steps.Opens.{is_open_stage}
+use Rattle.vector_laws.specs.of_role_steps.declared.synchronizing.SyncTable.{SyncTable}
+use Rattle.vector_laws.specs.of_role_steps.declared.synchronizing.OpenRow.{OpenRow}
 use Rattle.vector_laws.specs.of_the_run.Worlds.{World, Running, place_at}
 
 -- a make has no file before it has a number

@@ -11,11 +11,11 @@ use Rattle.trace_book.specs.declared.operation.Op.{Op}
 use Rattle.trace_book.specs.declared.operation.Op.TheVariants as op
 use Rattle.trace_book.specs.declared.descriptor.Beginning.{Beginning}
 use Rattle.trace_book.specs.declared.descriptor.Beginning.TheVariants as begins
-use Rattle.call_rules.specs.declared.answer.Answer.{Answer}
-use Rattle.call_rules.specs.declared.answer.Answer.TheVariants as answer
-use Rattle.call_rules.specs.declared.want.Want.{Want}
-use Rattle.call_rules.specs.declared.want.Want.TheVariants as want
-use Rattle.call_rules.specs.Scripts.{named_wants}
+use Rattle.vector_laws.specs.of_call_rules.declared.answer.Answer.{Answer}
+use Rattle.vector_laws.specs.of_call_rules.declared.answer.Answer.TheVariants as answer
+use Rattle.vector_laws.specs.of_call_rules.declared.want.Want.{Want}
+use Rattle.vector_laws.specs.of_call_rules.declared.want.Want.TheVariants as want
+use Rattle.vector_laws.specs.of_call_rules.Scripts.{named_wants}
 
 -- the operation may change the content of its file
 abbrev pub changes : Op → Bool

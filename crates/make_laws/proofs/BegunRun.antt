@@ -1,8 +1,5 @@
 -- In every run what a storage site begins was asked so, and the number of what it makes was reserved.
-use Rattle.std.proofs.Common.{◌≡◌, ◌≤◌, ℕ, ◌+◌, ◌==◌, nat_lt, Bool, true, false, cond, ◌&&◌, ◌⊎◌, List, [], ◌∷◌, ◌++◌, filter, map, Option, Some, None, refl, sym, ◌∙◌, ap, subst, inl, inr, arith}
-use Rattle.std.proofs.lemmas.Bool.Decides.{nat_tests}
-use Rattle.role_steps.proofs.of_plain_facts.Numbers.{equal}
-use Rattle.role_steps.proofs.of_plain_facts.Tests.{both_true}
+use Rattle.std.proofs.Common.{◌≡◌, ◌≤◌, ℕ, ◌+◌, false, ◌⊎◌, List, [], ◌∷◌, ◌++◌, map, Some, None, refl, sym, ◌∙◌, ap, subst, inl, inr}
 use Rattle.locus_ids.specs.declared.ids.EpochId.{EpochId}
 use Rattle.locus_ids.specs.declared.ids.FileId.{FileId}
 use Rattle.locus_ids.specs.declared.ids.Mode.{Mode}
@@ -12,14 +9,13 @@ use Rattle.trace_book.specs.declared.record.Record.TheVariants as says
 use Rattle.trace_book.specs.declared.record.StopCause.TheVariants as cause
 use Rattle.wire_messages.specs.declared.packet.Packet.{Packet}
 use Rattle.role_steps.specs.Own.{Every}
-use Rattle.role_steps.specs.Tables.{row}
-use Rattle.role_steps.specs.Views.{Frame, Store, SiteView, Told, Shown, Begins, Reserves, Outcome, Event, Receives, all_sites, serial_key}
+use Rattle.role_steps.specs.Views.{Frame, Store, SiteView, Told, Shown, Begins, Reserves, Outcome, Event, Receives, serial_key}
 use Rattle.role_steps.specs.Epochs.{frame_in}
 use Rattle.role_steps.specs.Storage.{StoreRequest, on_open_ss}
 use Rattle.role_steps.proofs.Sending.{every_append, every_map}
 use Rattle.the_run.specs.Disks.{Disk, Booted, Whole, CutOff, boots, cut_disk, is_on_disk}
 use Rattle.the_run.specs.Steps.{is_dropped, step}
-use Rattle.the_run.specs.Worlds.{World, Place, Running, Stopped, Numbered, number_of, links_of, place_at, place_in, place_site, script_of, happened, numbered_from, newest_onto, told_onto, disk_of, puts, arms, passed, stops_with, cause_of, acts, first_place, first_world}
+use Rattle.the_run.specs.Worlds.{World, Place, Running, Stopped, Numbered, number_of, links_of, place_at, script_of, happened, numbered_from, newest_onto, told_onto, disk_of, puts, arms, passed, stops_with, cause_of, acts, first_world}
 use Rattle.the_run.specs.Runs.{boots_as, packet_record}
 use Rattle.the_run.specs.Kept.{Among, WasSent, IsOwn, Kept}
 use Rattle.the_run.proofs.Boots.{at_each, acts_cases, every_weaker}
@@ -33,6 +29,7 @@ use Rattle.pack_laws.specs.of_lock_laws.Going.{BegunAt}
 use Rattle.pack_laws.specs.of_lock_laws.Locks.{IsOfAFile}
 use Rattle.pack_laws.proofs.of_lock_laws.Facts.{onto_later}
 use Rattle.pack_laws.proofs.WriterAsksRun.{Leads, newest_leads, newest_has}
+use Rattle.pack_laws.proofs.of_law_walks.FirstWorld.{first_places}
 use Rattle.make_laws.specs.Holding.{ReservedAt, WasReserved}
 use Rattle.make_laws.specs.Made.{AsksSo, IsAskedThere, IsBegunSo, AllBegunSo, IsNoBegin, AlwaysBegunSo, WorldMade}
 use Rattle.make_laws.proofs.Telling.{AnyGroup, Plain}
@@ -280,31 +277,5 @@ made_kept c = record {
 
 -- ---- the first world ----
 
-none_place : (p : Place) → ◌≡◌ {A = Option Place} None (Some p) → ⊥
-none_place p e = cc
-
-filtered : (test : ℕ → Bool) (ss : List ℕ) → Every (λ (s : ℕ). 1 ≤ s) ss → Every (λ (s : ℕ). 1 ≤ s) (filter test ss)
-filtered test [] h = tt
-filtered test (s ∷ ss) h = elim (test s) as (λ b. Every (λ (n : ℕ). 1 ≤ n) (cond b (s ∷ filter test ss) (filter test ss))) [ true ↦ (h.0, filtered test ss h.1) | false ↦ filtered test ss h.1 ]
-
-first_low : (c : Config) (ss : List ℕ) → Every (λ (s : ℕ). 1 ≤ s) ss → (s : ℕ) (p : Place) → place_in (row place_site s (map (first_place c) ss)) ≡ Some p → 1 ≤ s
-first_low c [] h s p e = absurd (none_place p e)
-first_low c (t ∷ ts) h s p e =
-    (elim (t == s) as (λ b. (t == s) ≡ b → place_in (elim b [ true ↦ Some (first_place c t) | false ↦ row place_site s (map (first_place c) ts) ]) ≡ Some p → 1 ≤ s) [
-      | true ↦ λ q f. subst (λ (n : ℕ). 1 ≤ n) (equal t s q) h.0
-      | false ↦ λ q f. first_low c ts h.1 s p f
-    ]) refl e
-
-abbrev all_low : List ℕ → Bool
-all_low [] = true
-all_low (s ∷ ss) = nat_lt 0 s && all_low ss
-
-positive : (s : ℕ) → nat_lt 0 s ≡ true → 1 ≤ s
-positive s h = grind (arith, nat_tests)
-
-sites_low : (ss : List ℕ) → all_low ss ≡ true → Every (λ (s : ℕ). 1 ≤ s) ss
-sites_low [] h = tt
-sites_low (s ∷ ss) h = let k : (nat_lt 0 s ≡ true) × (all_low ss ≡ true) = both_true (nat_lt 0 s) (all_low ss) h in (positive s k.0, sites_low ss k.1)
-
 pub first_made : (c : Config) → WorldMade c (first_world c)
-first_made c = record { low = λ s p here. first_low c _ (filtered (λ s. nat_lt s (c.sites + 1)) all_sites (sites_low all_sites refl)) s p here; begun = λ s e key file h. absurd h; always = tt; reserved = λ s e key file h. absurd h; underway = tt }
+first_made c = record { low = first_places c (λ s p. 1 ≤ s) (λ s own. own.0.0); begun = λ s e key file h. absurd h; always = tt; reserved = λ s e key file h. absurd h; underway = tt }

@@ -1,7 +1,5 @@
 -- In every run a number is reserved for a file that nobody has committed.
-use Rattle.std.proofs.Common.{◌≡◌, ◌≤◌, ℕ, ◌==◌, Bool, true, false, cond, ◌⊎◌, List, [], ◌∷◌, ◌++◌, filter, map, Option, Some, None, refl, sym, ◌∙◌, ap, subst, inl, inr, arith}
-use Rattle.std.proofs.lemmas.Bool.Decides.{nat_tests}
-use Rattle.role_steps.proofs.of_plain_facts.Numbers.{equal}
+use Rattle.std.proofs.Common.{◌≡◌, ◌≤◌, ℕ, Bool, true, false, cond, ◌⊎◌, List, [], ◌∷◌, ◌++◌, filter, map, Option, Some, None, refl, sym, ◌∙◌, ap, subst, inl, inr}
 use Rattle.role_steps.proofs.of_plain_facts.Options.{some_same}
 use Rattle.role_steps.proofs.of_plain_facts.Tests.{false_true}
 use Rattle.locus_ids.specs.Sites.{has}
@@ -21,7 +19,7 @@ use Rattle.role_steps.specs.declared.copies.FileCopy.{FileCopy}
 use Rattle.role_steps.proofs.Sending.{every_map}
 use Rattle.the_run.specs.Disks.{Disk, Booted, Whole, CutOff, boots, cut_disk, is_on_disk}
 use Rattle.the_run.specs.Steps.{step}
-use Rattle.the_run.specs.Worlds.{World, Place, Running, Stopped, Numbered, links_of, place_at, place_in, place_site, script_of, happened, told_onto, disk_of, puts, arms, passed, stops_with, cause_of, acts, fresh, root_copy, formatted, first_place, first_world}
+use Rattle.the_run.specs.Worlds.{World, Place, Running, Stopped, Numbered, links_of, place_at, script_of, happened, told_onto, disk_of, puts, arms, passed, stops_with, cause_of, acts, fresh, root_copy, formatted, first_world}
 use Rattle.the_run.specs.Runs.{boots_as, packet_record, run_in}
 use Rattle.the_run.specs.Kept.{Among, Kept}
 use Rattle.the_run.proofs.Boots.{at_each, acts_cases}
@@ -40,6 +38,7 @@ use Rattle.pack_laws.specs.Making.{IsOwnNumber, WasCommitted, WasCommittedAt, Ho
 use Rattle.pack_laws.proofs.Making.{run_made}
 use Rattle.pack_laws.proofs.PacksRun.{run_packs}
 use Rattle.pack_laws.proofs.Homes.{run_homes}
+use Rattle.pack_laws.proofs.of_law_walks.FirstWorld.{first_places}
 use Rattle.make_laws.specs.Fresh.{FreshTold, NumbersAreFresh}
 use Rattle.make_laws.specs.Made.{HasCopy, IsListed, DiskHas, Lawful, WorldMade, StartListed, WorldListed, WorldFresh}
 use Rattle.make_laws.proofs.Telling.{AnyGroup, Plain, any_record}
@@ -254,9 +253,6 @@ making_kept c = record {
 
 -- ---- the first world ----
 
-none_place : (p : Place) → ◌≡◌ {A = Option Place} None (Some p) → ⊥
-none_place p e = cc
-
 root_is : (file : FileId) (g : ℕ) → file.ino ≡ 1 → file.group ≡ g → ◌≡◌ {A = FileId} (record { group = g; ino = 1 }) file
 root_is file g e f = λ i. record { group = sym f i; ino = sym e i }
 
@@ -272,20 +268,12 @@ roots_have c (g ∷ gs) s file e h k = by_pack (has (pack_sites c g) s) refl (ro
     by_pack false p rest (inl q) = absurd (false_true (sym p ∙ subst (λ (n : ℕ). has (pack_sites c n) s ≡ true) q k))
     by_pack false p rest (inr q) = rest q k
 
-first_disk : (c : Config) (ss : List ℕ) (s : ℕ) (p : Place) → place_in (row place_site s (map (first_place c) ss)) ≡ Some p → DiskHas c [] s (copies_on p)
-first_disk c [] s p e = absurd (none_place p e)
-first_disk c (t ∷ ts) s p e =
-    (elim (t == s) as (λ b. (t == s) ≡ b → place_in (elim b [ true ↦ Some (first_place c t) | false ↦ row place_site s (map (first_place c) ts) ]) ≡ Some p → DiskHas c [] s (copies_on p)) [
-      | true ↦ λ q f. subst (λ (n : ℕ). DiskHas c [] n (copies_on p)) (equal t s q) (subst (λ (x : Place). DiskHas c [] t (copies_on x)) (some_same (Running (fresh 1 (formatted c t))) p f) (formatted_has t))
-      | false ↦ λ q f. first_disk c ts s p f
-    ]) refl e
-  where
-    formatted_has : (u : ℕ) → DiskHas c [] u (formatted c u)
-    formatted_has u file (inl h) = absurd h
-    formatted_has u file (inr h) = roots_have c all_groups u file h.0 h.1 h.2
+formatted_has : (c : Config) (s : ℕ) → DiskHas c [] s (formatted c s)
+formatted_has c s file (inl h) = absurd h
+formatted_has c s file (inr h) = roots_have c all_groups s file h.0 h.1 h.2
 
 first_fresh : (c : Config) → Fresh c (first_world c)
-first_fresh c h = record { disks = λ s p here. first_disk c _ s p here; fresh = tt }
+first_fresh c h = record { disks = first_places c (λ s p. DiskHas c [] s (copies_on p)) (λ s own. formatted_has c s); fresh = tt }
 
 pub first_making : (c : Config) → Making c (first_world c)
 first_making c = (first_made c, first_listed c, first_fresh c)

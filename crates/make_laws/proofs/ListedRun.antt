@@ -1,5 +1,5 @@
 -- In every run the groups that start are listed, as those of tables are.
-use Rattle.std.proofs.Common.{◌≡◌, ℕ, ◌==◌, Bool, true, false, cond, List, [], ◌∷◌, map, Option, Some, None, sym, ◌∙◌, ap, subst, inl, inr}
+use Rattle.std.proofs.Common.{◌≡◌, ℕ, Bool, true, false, cond, List, [], ◌∷◌, map, Option, Some, None, sym, ◌∙◌, ap, subst, inl, inr}
 use Rattle.role_steps.proofs.of_plain_facts.Options.{some_same}
 use Rattle.locus_ids.specs.declared.ids.EpochId.{EpochId}
 use Rattle.locus_ids.specs.declared.config.Config.{Config}
@@ -9,7 +9,6 @@ use Rattle.trace_book.specs.declared.record.StopCause.{StopCause}
 use Rattle.trace_book.specs.declared.record.StopCause.TheVariants as cause
 use Rattle.wire_messages.specs.declared.packet.Packet.{Packet}
 use Rattle.role_steps.specs.Own.{Every}
-use Rattle.role_steps.specs.Tables.{row}
 use Rattle.role_steps.specs.Views.{Frame, Store, SiteView, Told, Shown, DiskWrite, Outcome, Event, Receives}
 use Rattle.role_steps.specs.Epochs.{frame_in}
 use Rattle.role_steps.specs.Storage.{StoreRequest, on_open_ss}
@@ -17,7 +16,7 @@ use Rattle.role_steps.specs.declared.copies.FileCopy.{FileCopy}
 use Rattle.role_steps.proofs.Sending.{every_append, every_map}
 use Rattle.the_run.specs.Disks.{Disk, Booted, Whole, CutOff, boots, cut_disk, is_on_disk}
 use Rattle.the_run.specs.Steps.{step}
-use Rattle.the_run.specs.Worlds.{World, Place, Running, Stopped, links_of, place_at, place_in, place_site, script_of, happened, disk_of, puts, arms, passed, stops_with, cause_of, acts, fresh, formatted, first_place, first_world}
+use Rattle.the_run.specs.Worlds.{World, Running, Stopped, links_of, place_at, script_of, happened, disk_of, puts, arms, passed, stops_with, cause_of, acts, fresh, first_world}
 use Rattle.the_run.specs.Runs.{boots_as, packet_record}
 use Rattle.the_run.specs.Kept.{Kept}
 use Rattle.the_run.proofs.Boots.{at_each, acts_cases, every_weaker}
@@ -28,6 +27,7 @@ use Rattle.pack_laws.specs.of_vector_laws.Facts.{onto}
 use Rattle.pack_laws.proofs.of_vector_laws.SiteDisks.{SiteDisk, step_disk}
 use Rattle.pack_laws.proofs.of_vector_laws.FactsRun.{past_onto}
 use Rattle.pack_laws.specs.of_lock_laws.Going.{Started, StartedRecord, WasStarted}
+use Rattle.pack_laws.proofs.of_law_walks.FirstWorld.{first_views}
 use Rattle.make_laws.specs.Made.{IsListed, StartRecord, StartListed, WorldListed}
 use Rattle.make_laws.proofs.Telling.{At, AtRecord}
 use Rattle.make_laws.proofs.SitesTell.{TablesAt, ToldAs, step_tells}
@@ -147,16 +147,5 @@ listed_kept c = record {
 
 -- ---- the first world ----
 
-none_place : (p : Place) → ◌≡◌ {A = Option Place} None (Some p) → ⊥
-none_place p e = cc
-
-first_tables : (c : Config) (ss : List ℕ) (s : ℕ) (v : SiteView) → place_in (row place_site s (map (first_place c) ss)) ≡ Some (Running v) → TablesAt IsListed v.tables
-first_tables c [] s v e = absurd (none_place (Running v) e)
-first_tables c (t ∷ ts) s v e =
-    (elim (t == s) as (λ b. place_in (elim b [ true ↦ Some (first_place c t) | false ↦ row place_site s (map (first_place c) ts) ]) ≡ Some (Running v) → TablesAt IsListed v.tables) [
-      | true ↦ λ f. subst (λ (u : SiteView). TablesAt IsListed u.tables) (running_view (fresh 1 (formatted c t)) v (some_same (Running (fresh 1 (formatted c t))) (Running v) f)) tt
-      | false ↦ λ f. first_tables c ts s v f
-    ]) e
-
 pub first_listed : (c : Config) → WorldListed (first_world c)
-first_listed c = record { starts = tt; tables = λ s v here. first_tables c _ s v here }
+first_listed c = record { starts = tt; tables = first_views c (λ s v. TablesAt IsListed v.tables) (λ s own. tt) }

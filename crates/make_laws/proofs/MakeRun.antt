@@ -15,7 +15,7 @@ use Rattle.role_steps.proofs.Sending.{every_map}
 use Rattle.the_run.specs.Disks.{boots}
 use Rattle.the_run.specs.Steps.{step}
 use Rattle.the_run.specs.Joins.{Joined}
-use Rattle.the_run.specs.Worlds.{World, Place, Running, Numbered, Line, links_of, place_at, place_in, place_site, script_of, disk_of, passed, acts, fresh, formatted, first_place, first_world}
+use Rattle.the_run.specs.Worlds.{World, Running, Numbered, Line, links_of, place_at, script_of, disk_of, passed, acts, fresh, first_world}
 use Rattle.the_run.specs.Runs.{packet_record, run_in}
 use Rattle.the_run.specs.Kept.{Kept}
 use Rattle.the_run.proofs.Boots.{every_weaker}
@@ -53,6 +53,7 @@ use Rattle.pack_laws.proofs.of_lock_laws.FactsRun.{run_goes}
 use Rattle.pack_laws.proofs.WriterGranting.{run_alike}
 use Rattle.pack_laws.specs.Packs.{HasPack}
 use Rattle.pack_laws.specs.Packed.{BodyPacked}
+use Rattle.pack_laws.proofs.of_law_walks.FirstWorld.{first_views}
 use Rattle.make_laws.specs.Made.{IsSender, NumberedSender, WorldSent}
 use Rattle.make_laws.specs.Holding.{ReservesAreApart}
 use Rattle.make_laws.specs.Tables.{Ordered, PlainGrantsAreFree}
@@ -68,7 +69,7 @@ use Rattle.make_laws.proofs.TableTold.{ordered_before}
 use Rattle.make_laws.proofs.MakeSites.{SiteMade}
 use Rattle.make_laws.proofs.MakeInside.{TableClosed, BodyMade}
 use Rattle.make_laws.proofs.MakeSteps.{Brings, EventBrings, step_site}
-use Rattle.make_laws.proofs.TablesRun.{WhereOrdered, WorldTables, AsideWrite, written_aside, running_view, told_fact, stops_fact, acts_fact, as_fact}
+use Rattle.make_laws.proofs.TablesRun.{WhereOrdered, WorldTables, AsideWrite, written_aside, told_fact, stops_fact, acts_fact, as_fact}
 
 -- ---- what a packet brings ----
 
@@ -201,19 +202,8 @@ ordered_kept c = record {
 
 -- ---- the first world, and the law ----
 
-none_place : (p : Place) → ◌≡◌ {A = Option Place} None (Some p) → ⊥
-none_place p e = cc
-
-first_fact : (c : Config) (ss : List ℕ) (s : ℕ) (v : SiteView) → place_in (row place_site s (map (first_place c) ss)) ≡ Some (Running v) → SiteMade c [] s v
-first_fact c [] s v e = absurd (none_place (Running v) e)
-first_fact c (t ∷ ts) s v e =
-    (elim (t == s) as (λ b. place_in (elim b [ true ↦ Some (first_place c t) | false ↦ row place_site s (map (first_place c) ts) ]) ≡ Some (Running v) → SiteMade c [] s v) [
-      | true ↦ λ f. subst (SiteMade c [] s) (running_view (fresh 1 (formatted c t)) v (some_same (Running (fresh 1 (formatted c t))) (Running v) f)) refl
-      | false ↦ λ f. first_fact c ts s v f
-    ]) e
-
 first_ordered : (c : Config) → Ordering c (first_world c)
-first_ordered c = ((first_all c, first_vectors c), (first_sent c, (λ h. record { synced = λ e group k. absurd k; plain = tt; views = λ s v here. first_fact c _ s v here })))
+first_ordered c = ((first_all c, first_vectors c), (first_sent c, (λ h. record { synced = λ e group k. absurd k; plain = tt; views = first_views c (SiteMade c []) (λ s own. refl) })))
 
 joined_line : (s : ℕ) (id : EpochId) (m : Members) (trace : List Line) → WasJoined (past_of trace) s id m → Joined s id m trace
 joined_line s id m [] h = absurd h

@@ -11,15 +11,15 @@ use Rattle.trace_book.specs.declared.operation.Op.{Op}
 use Rattle.trace_book.specs.declared.operation.Op.TheVariants as op
 use Rattle.trace_book.specs.declared.operation.Outcome.{Outcome as Result}
 use Rattle.trace_book.specs.declared.operation.Outcome.TheVariants as result
-use Rattle.dir_format.specs.declared.entry.Entry.{Entry}
-use Rattle.dir_format.specs.declared.looking.LookResult.{LookResult}
-use Rattle.dir_format.specs.declared.looking.LookResult.TheVariants as look
-use Rattle.dir_format.specs.Contents.{entries_of, is_dir}
-use Rattle.dir_format.specs.Lookups.{has_name, lookup, shown_names}
-use Rattle.dir_format.specs.Effects.{DirEffect, dir_effect, answers, refuses, size_of, probe_beside, probe_effect, find_by, find_effect, empty_among}
-use Rattle.file_effects.specs.Effects.{Effect, is_refusal, is_worded, in_directory, on_directory}
-use Rattle.file_effects.specs.Works.{begins_owing, counted, carried_out, operated}
-use Rattle.file_effects.specs.declared.work.Work.{Work}
+use Rattle.role_steps.specs.of_dir_format.declared.entry.Entry.{Entry}
+use Rattle.role_steps.specs.of_dir_format.declared.looking.LookResult.{LookResult}
+use Rattle.role_steps.specs.of_dir_format.declared.looking.LookResult.TheVariants as look
+use Rattle.role_steps.specs.of_dir_format.Contents.{entries_of, is_dir}
+use Rattle.role_steps.specs.of_dir_format.Lookups.{has_name, lookup, shown_names}
+use Rattle.role_steps.specs.of_dir_format.Effects.{DirEffect, dir_effect, answers, refuses, size_of, probe_beside, probe_effect, find_by, find_effect, empty_among}
+use Rattle.role_steps.specs.of_file_effects.Effects.{Effect, is_refusal, is_worded, in_directory, on_directory}
+use Rattle.role_steps.specs.of_file_effects.Works.{begins_owing, counted, carried_out, operated}
+use Rattle.role_steps.specs.of_file_effects.declared.work.Work.{Work}
 use Rattle.role_steps.specs.OperationEffects.{Mending, effect_of}
 use Rattle.pack_laws.specs.of_lock_laws.Writing.{changes}
 

@@ -1,18 +1,15 @@
 -- Sites are numbered from 1.
-use Rattle.std.proofs.Common.{◌≡◌, ◌≤◌, ℕ, ◌+◌, ◌==◌, nat_lt, true, false, Bool, cond, List, [], ◌∷◌, map, filter, Option, Some, None, refl, sym, ◌∙◌, subst, arith}
-use Rattle.std.proofs.lemmas.Bool.Decides.{nat_tests}
+use Rattle.std.proofs.Common.{◌≡◌, ◌≤◌, ℕ, List, [], Some, None, sym, ◌∙◌, subst}
 use Rattle.locus_ids.specs.declared.config.Config.{Config}
 use Rattle.wire_messages.specs.declared.packet.Packet.{Packet}
-use Rattle.role_steps.specs.Own.{Every}
-use Rattle.role_steps.specs.Tables.{row}
-use Rattle.role_steps.specs.Views.{SiteView, Told, Outcome, all_sites}
-use Rattle.role_steps.proofs.Counted.{every_site}
+use Rattle.role_steps.specs.Views.{SiteView, Told, Outcome}
 use Rattle.the_run.specs.Disks.{Booted, Whole, CutOff, boots}
-use Rattle.the_run.specs.Worlds.{World, Place, Running, Stopped, happened, place_at, place_in, place_site, script_of, puts, arms, passed, stops_with, disk_of, acts, fresh, first_place, first_world}
+use Rattle.the_run.specs.Worlds.{World, Place, Running, Stopped, happened, place_at, script_of, puts, arms, passed, stops_with, disk_of, acts, fresh, first_world}
 use Rattle.the_run.specs.Runs.{boots_as}
 use Rattle.the_run.specs.Kept.{Kept}
 use Rattle.the_run.proofs.Boots.{at_each}
 use Rattle.the_run.proofs.Events.{happened_keeps, acts_keeps, puts_other}
+use Rattle.pack_laws.proofs.of_law_walks.FirstWorld.{first_places}
 
 abbrev pub PlacesSited : World → Type 0
 PlacesSited w = (s : ℕ) (p : Place) → place_at w s ≡ Some p → 1 ≤ s
@@ -52,33 +49,5 @@ places_kept c = record {
 
 -- ---- the first world ----
 
-abbrev Above : ℕ → Type 0
-Above s = nat_lt 0 s ≡ true
-
-above_if : (b : Bool) (x : ℕ) (xs : List ℕ) → Above x → Every Above xs → Every Above (cond b (x ∷ xs) xs)
-above_if true x xs p h = (p, h)
-above_if false x xs p h = h
-
-above_filter : (test : ℕ → Bool) (xs : List ℕ) → Every Above xs → Every Above (filter test xs)
-above_filter test [] h = tt
-above_filter test (x ∷ xs) h = above_if (test x) x (filter test xs) h.0 (above_filter test xs h.1)
-
-all_above : Every Above all_sites
-all_above = every_site Above (λ s low high. grind (arith, nat_tests))
-
-none_place : (p : Place) → ◌≡◌ {A = Option Place} None (Some p) → ⊥
-none_place p e = cc
-
-above_one : (t s : ℕ) → Above t → (t == s) ≡ true → 1 ≤ s
-above_one t s h e = grind (arith, nat_tests)
-
-first_sited : (c : Config) (ss : List ℕ) → Every Above ss → (s : ℕ) (p : Place) → place_in (row place_site s (map (first_place c) ss)) ≡ Some p → 1 ≤ s
-first_sited c [] h s p e = absurd (none_place p e)
-first_sited c (t ∷ ts) h s p e =
-    (elim (t == s) as (λ b. (t == s) ≡ b → place_in (elim b [ true ↦ Some (first_place c t) | false ↦ row place_site s (map (first_place c) ts) ]) ≡ Some p → 1 ≤ s) [
-      | true ↦ λ q f. above_one t s h.0 q
-      | false ↦ λ q f. first_sited c ts h.1 s p f
-    ]) refl e
-
-pub first_places : (c : Config) → PlacesSited (first_world c)
-first_places c s p here = first_sited c _ (above_filter (λ s. nat_lt s (c.sites + 1)) all_sites all_above) s p here
+pub first_sited : (c : Config) → PlacesSited (first_world c)
+first_sited c = first_places c (λ s p. 1 ≤ s) (λ s own. own.0.0)

@@ -1,5 +1,5 @@
 -- In every run the facts about the instances of each site hold, and what is owed of what is told, where stores keep them.
-use Rattle.std.proofs.Common.{◌≡◌, ◌≢◌, ℕ, ◌+◌, ◌==◌, Bool, true, false, cond, List, [], ◌∷◌, map, Option, Some, None, refl, sym, ◌∙◌, ap, subst}
+use Rattle.std.proofs.Common.{◌≡◌, ◌≢◌, ℕ, ◌+◌, Bool, true, false, cond, List, [], ◌∷◌, map, Option, Some, None, refl, sym, ◌∙◌, ap, subst}
 use Rattle.role_steps.proofs.of_plain_facts.Options.{some_same}
 use Rattle.locus_ids.specs.declared.config.Config.{Config}
 use Rattle.trace_book.specs.declared.record.Record.TheVariants as says
@@ -7,14 +7,13 @@ use Rattle.trace_book.specs.declared.record.StopCause.{StopCause}
 use Rattle.trace_book.specs.declared.record.StopCause.TheVariants as cause
 use Rattle.wire_messages.specs.declared.packet.Packet.{Packet}
 use Rattle.role_steps.specs.Own.{Every}
-use Rattle.role_steps.specs.Tables.{row}
 use Rattle.role_steps.specs.Views.{SiteView, Told, Shown, DiskWrite, Outcome, Event, Calls, Receives, Ticks, Parts, Merges, GivesUp}
 use Rattle.role_steps.specs.declared.instances.Instance.{Instance}
 use Rattle.role_steps.specs.declared.rounds.InEpoch.{InEpoch}
 use Rattle.role_steps.proofs.Sending.{every_map}
 use Rattle.the_run.specs.Disks.{Disk, Booted, Whole, CutOff, boots, cut_disk, is_on_disk}
 use Rattle.the_run.specs.Steps.{step}
-use Rattle.the_run.specs.Worlds.{World, Place, Running, Stopped, Numbered, links_of, place_at, place_in, place_site, script_of, happened, newest_onto, numbered_from, told_onto, disk_of, puts, arms, passed, stops_with, cause_of, acts, fresh, formatted, first_place, first_world}
+use Rattle.the_run.specs.Worlds.{World, Running, Stopped, Numbered, links_of, place_at, script_of, happened, newest_onto, numbered_from, told_onto, disk_of, puts, arms, passed, stops_with, cause_of, acts, fresh, first_world}
 use Rattle.the_run.specs.Runs.{boots_as, packet_record}
 use Rattle.the_run.specs.Kept.{WasSent, IsOwn, Kept}
 use Rattle.the_run.proofs.Boots.{at_each, acts_cases, every_weaker}
@@ -27,6 +26,7 @@ use Rattle.pack_laws.specs.of_vector_laws.Facts.{onto}
 use Rattle.pack_laws.proofs.of_vector_laws.FactsRun.{past_onto}
 use Rattle.pack_laws.specs.of_lock_laws.Joins.{JoinsAreOnce}
 use Rattle.pack_laws.proofs.WriterAsksRun.{Leads, newest_leads}
+use Rattle.pack_laws.proofs.of_law_walks.FirstWorld.{first_views}
 use Rattle.make_laws.proofs.RunningSpine.{Facts, Owed, Free, Elsewhere, Mine, JoinedTold, StoresJoined, Spine, InSite, AllOwed, DiskOwed, Keeps, free_mine, free_elsewhere, mine_elsewhere, free_joins, free_owed, in_elsewhere, stores_after, order_before}
 use Rattle.make_laws.proofs.RunningSpineStep.{PacketDone, EventDone, step_keeps}
 
@@ -249,16 +249,5 @@ where_kept c W P F G good kept q stores = record {
 
 -- ---- the first world ----
 
-none_place : (p : Place) → ◌≡◌ {A = Option Place} None (Some p) → ⊥
-none_place p e = cc
-
-first_site : (F : Facts) (c : Config) (ss : List ℕ) (s : ℕ) (v : SiteView) → place_in (row place_site s (map (first_place c) ss)) ≡ Some (Running v) → InSite F [] s v v.epoch
-first_site F c [] s v e = absurd (none_place (Running v) e)
-first_site F c (t ∷ ts) s v e =
-    (elim (t == s) as (λ b. place_in (elim b [ true ↦ Some (first_place c t) | false ↦ row place_site s (map (first_place c) ts) ]) ≡ Some (Running v) → InSite F [] s v v.epoch) [
-      | true ↦ λ f. subst (λ (u : SiteView). InSite F [] s u u.epoch) (running_view (fresh 1 (formatted c t)) v (some_same (Running (fresh 1 (formatted c t))) (Running v) f)) refl
-      | false ↦ λ f. first_site F c ts s v f
-    ]) e
-
 pub first_where : (c : Config) (P : Premise) (F : SentFacts) (G : SentOwed) → Where P F G (first_world c)
-first_where c P F G b = record { stores = λ s e k. absurd k; owed = tt; views = λ s v here. first_site (F []) c _ s v here }
+first_where c P F G b = record { stores = λ s e k. absurd k; owed = tt; views = first_views c (λ s v. InSite (F []) [] s v v.epoch) (λ s own. refl) }

@@ -6,7 +6,7 @@ use Rattle.locus_ids.specs.declared.ids.Serial.{Serial}
 use Rattle.trace_book.specs.declared.operation.Op.{Op}
 use Rattle.trace_book.specs.declared.operation.Op.TheVariants as op
 use Rattle.trace_book.specs.declared.operation.Outcome.TheVariants as result
-use Rattle.file_effects.specs.Works.{begins_owing, aborted}
+use Rattle.role_steps.specs.of_file_effects.Works.{begins_owing, aborted}
 use Rattle.role_steps.specs.Views.{Frame, Store, Told, quiet, sends, serial_key, Outcome}
 use Rattle.role_steps.specs.Storage.{copy_of, content_of, instance_of}
 use Rattle.role_steps.specs.of_dir_format.Entries.{nothing_seen}

@@ -44,7 +44,7 @@ use Rattle.make_laws.proofs.RunningStand.{StandFacts, StandOwed, ChangesAreOfWri
 use Rattle.make_laws.proofs.RunningStandStore.{StoreOut, InStore, quiet_out, FoundHere, AsksHere, on_open_ss_out, on_close_out, on_closed_ok_out}
 use Rattle.make_laws.proofs.RunningStandOps.{FoundToWrite, on_op_out, on_read_held_out}
 use Rattle.make_laws.proofs.RunningUnderway.{UnderwaySent, sent_among, underway_kept, first_underway}
-use Rattle.make_laws.proofs.RunningPlacing.{PlacesSited, places_kept, first_places}
+use Rattle.make_laws.proofs.RunningPlacing.{PlacesSited, places_kept, first_sited}
 
 -- ---- what stands beside ----
 
@@ -168,7 +168,7 @@ pub standing_kept : (c : Config) → Kept c Standing
 standing_kept c = where_kept c Beside ChangesAreOfWriters StandFacts StandOwed (λ w g. g.0.0) (beside_kept c) stand_spines (stores_keep c)
 
 pub first_standing : (c : Config) → Standing (first_world c)
-first_standing c = ((first_both c, (first_underway c, first_places c)), first_where c ChangesAreOfWriters StandFacts StandOwed)
+first_standing c = ((first_both c, (first_underway c, first_sited c)), first_where c ChangesAreOfWriters StandFacts StandOwed)
 
 -- so stores stand, in each world of a run
 pub stores_stand : (w : World) → Standing w → Orderly w → StoresStand w

@@ -1,16 +1,13 @@
 -- In every run each packet is of one of the sites, in a boot of it.
-use Rattle.std.proofs.Common.{◌≡◌, ◌≤◌, ℕ, ◌+◌, ◌==◌, nat_lt, Bool, true, false, cond, List, [], ◌∷◌, filter, map, Option, Some, None, refl, sym, ◌∙◌, ap, subst, inl, inr, arith}
-use Rattle.std.proofs.lemmas.Bool.Decides.{nat_tests}
-use Rattle.role_steps.proofs.of_plain_facts.Numbers.{equal}
+use Rattle.std.proofs.Common.{◌≡◌, ◌≤◌, ℕ, ◌+◌, List, [], Some, None, refl, sym, ◌∙◌, ap, subst, arith}
 use Rattle.role_steps.proofs.of_plain_facts.Options.{some_same}
 use Rattle.locus_ids.specs.declared.config.Config.{Config}
 use Rattle.wire_messages.specs.declared.packet.Packet.{Packet}
 use Rattle.role_steps.specs.Own.{Every, IsOwn as IsOwnPacket, Sends}
-use Rattle.role_steps.specs.Tables.{row}
 use Rattle.role_steps.specs.Views.{SiteView, Told, Outcome, Receives, all_sites}
 use Rattle.the_run.specs.Disks.{Disk, Booted, Whole, CutOff, boots, cut_disk}
 use Rattle.the_run.specs.Steps.{step}
-use Rattle.the_run.specs.Worlds.{World, Place, Running, Stopped, number_of, links_of, place_at, place_in, place_site, script_of, happened, numbered_from, disk_of, puts, arms, passed, stops_with, acts, fresh, formatted, first_place, first_world}
+use Rattle.the_run.specs.Worlds.{World, Place, Running, Stopped, number_of, links_of, place_at, script_of, happened, numbered_from, disk_of, puts, arms, passed, stops_with, acts, fresh, first_world}
 use Rattle.the_run.specs.Runs.{boots_as}
 use Rattle.the_run.specs.Kept.{Among, Kept}
 use Rattle.the_run.proofs.Boots.{Reached, boots_reached, at_each, acts_cases, every_newest, every_numbered, every_weaker}
@@ -18,6 +15,7 @@ use Rattle.the_run.proofs.Events.{happened_keeps, puts_other, puts_same}
 use Rattle.the_run.proofs.InsideSync.{every_without}
 use Rattle.role_steps.proofs.Sending.{every_append}
 use Rattle.the_run.proofs.StepSends.{step_sends}
+use Rattle.pack_laws.proofs.of_law_walks.FirstWorld.{first_places, in_all_sites}
 use Rattle.make_laws.specs.Made.{IsSender, NumberedSender, IsPlaced, WorldSent}
 
 places_of : (s : ℕ) (new : Place) (w : World) → IsPlaced s new → ((t : ℕ) (p : Place) → place_at w t ≡ Some p → IsPlaced t p) → (t : ℕ) (p : Place) → place_at (puts s new w) t ≡ Some p → IsPlaced t p
@@ -82,24 +80,5 @@ sent_kept c = record {
   booting = λ n s d w here g. as_sent n s d (boots (script_of w s) d) w here (boots_reached (script_of w s) d) g;
 }
 
-none_place : (p : Place) → ◌≡◌ {A = Option Place} None (Some p) → ⊥
-none_place p e = cc
-
-filtered : (test : ℕ → Bool) (ss : List ℕ) → Every (λ (s : ℕ). Among s all_sites) ss → Every (λ (s : ℕ). Among s all_sites) (filter test ss)
-filtered test [] h = tt
-filtered test (s ∷ ss) h = elim (test s) as (λ b. Every (λ (n : ℕ). Among n all_sites) (cond b (s ∷ filter test ss) (filter test ss))) [ true ↦ (h.0, filtered test ss h.1) | false ↦ filtered test ss h.1 ]
-
-all_among : (ss all : List ℕ) → ((s : ℕ) → Among s ss → Among s all) → Every (λ (s : ℕ). Among s all) ss
-all_among [] all f = tt
-all_among (s ∷ ss) all f = (f s (inl refl), all_among ss all (λ t m. f t (inr m)))
-
-first_placed : (c : Config) (ss : List ℕ) → Every (λ (s : ℕ). Among s all_sites) ss → (s : ℕ) (p : Place) → place_in (row place_site s (map (first_place c) ss)) ≡ Some p → IsPlaced s p
-first_placed c [] h s p e = absurd (none_place p e)
-first_placed c (t ∷ ts) h s p e =
-    (elim (t == s) as (λ b. (t == s) ≡ b → place_in (elim b [ true ↦ Some (first_place c t) | false ↦ row place_site s (map (first_place c) ts) ]) ≡ Some p → IsPlaced s p) [
-      | true ↦ λ q f. subst (λ (x : Place). IsPlaced s x) (some_same (Running (fresh 1 (formatted c t))) p f) (record { site = subst (λ (n : ℕ). Among n all_sites) (equal t s q) h.0; boot = omega arith })
-      | false ↦ λ q f. first_placed c ts h.1 s p f
-    ]) refl e
-
 pub first_sent : (c : Config) → WorldSent (first_world c)
-first_sent c = record { places = λ s p here. first_placed c _ (filtered (λ s. nat_lt s (c.sites + 1)) all_sites (all_among all_sites all_sites (λ s m. m))) s p here; senders = tt; underway = tt }
+first_sent c = record { places = first_places c IsPlaced (λ s own. record { site = in_all_sites c s own; boot = omega arith }); senders = tt; underway = tt }

@@ -6,8 +6,8 @@ use Rattle.locus_ids.specs.declared.refusal.Refusal.TheVariants as refusal
 use Rattle.trace_book.specs.declared.operation.Op.{Op}
 use Rattle.trace_book.specs.declared.operation.Op.TheVariants as op
 use Rattle.trace_book.specs.declared.operation.Outcome.TheVariants as result
-use Rattle.file_effects.specs.Effects.{Effect}
-use Rattle.file_effects.specs.Works.{counted}
+use Rattle.role_steps.specs.of_file_effects.Effects.{Effect}
+use Rattle.role_steps.specs.of_file_effects.Works.{counted}
 use Rattle.wire_messages.specs.declared.body.CloseAnswer.{CloseAnswer}
 use Rattle.wire_messages.specs.declared.body.CloseAnswer.TheVariants as closing
 use Rattle.role_steps.specs.Own.{Every}

@@ -1,5 +1,5 @@
 -- What the laws of vectors carry of packets and views is kept by all that happens: it can stand beside other facts.
-use Rattle.std.proofs.Common.{◌≡◌, ℕ, ◌+◌, ◌==◌, Bool, true, false, cond, List, [], ◌∷◌, map, Option, Some, None, refl, sym, ◌∙◌, ap, subst, inl, inr}
+use Rattle.std.proofs.Common.{◌≡◌, ℕ, ◌+◌, Bool, true, false, cond, List, [], ◌∷◌, map, Some, None, refl, sym, ◌∙◌, ap, subst, inl, inr}
 use Rattle.role_steps.proofs.of_plain_facts.Options.{some_same}
 use Rattle.locus_ids.specs.declared.config.Config.{Config}
 use Rattle.trace_book.specs.declared.record.Record.TheVariants as says
@@ -7,14 +7,14 @@ use Rattle.trace_book.specs.declared.record.StopCause.{StopCause}
 use Rattle.trace_book.specs.declared.record.StopCause.TheVariants as cause
 use Rattle.wire_messages.specs.declared.packet.Packet.{Packet}
 use Rattle.role_steps.specs.Own.{Every}
-use Rattle.role_steps.specs.Tables.{row, with_row}
+use Rattle.role_steps.specs.Tables.{with_row}
 use Rattle.role_steps.specs.Views.{SiteView, Told, Shown, DiskWrite, Outcome, Event, Calls, Receives, Ticks, Parts, Merges, GivesUp}
 use Rattle.role_steps.specs.Storage.{copy_key}
 use Rattle.role_steps.specs.declared.copies.FileCopy.{FileCopy}
 use Rattle.role_steps.proofs.Sending.{every_append, every_map}
 use Rattle.the_run.specs.Disks.{Disk, Booted, Whole, CutOff, boots, cut_disk, is_on_disk}
 use Rattle.the_run.specs.Steps.{step}
-use Rattle.the_run.specs.Worlds.{World, Place, Running, Stopped, Numbered, Line, number_of, links_of, place_at, place_in, place_site, script_of, happened, numbered_from, told_onto, disk_of, puts, arms, passed, stops_with, cause_of, acts, fresh, root_copy, formatted, first_place, first_world}
+use Rattle.the_run.specs.Worlds.{World, Place, Running, Stopped, Numbered, Line, number_of, links_of, place_at, script_of, happened, numbered_from, told_onto, disk_of, puts, arms, passed, stops_with, cause_of, acts, fresh, root_copy, formatted, first_world}
 use Rattle.the_run.specs.Runs.{boots_as, packet_record}
 use Rattle.the_run.specs.Kept.{WasSent, IsOwn, Kept}
 use Rattle.the_run.proofs.Boots.{at_each, acts_cases, every_newest, every_numbered, every_weaker}
@@ -31,6 +31,7 @@ use Rattle.pack_laws.proofs.of_vector_laws.SyncFacts.{seen_none}
 use Rattle.pack_laws.proofs.of_vector_laws.StepFacts.{EventFact, step_fact}
 use Rattle.pack_laws.proofs.of_vector_laws.SiteFacts.{SiteFine}
 use Rattle.pack_laws.proofs.of_vector_laws.Held.{KeepsCopies, boots_copies}
+use Rattle.pack_laws.proofs.of_law_walks.FirstWorld.{first_places}
 
 -- ---- the trace ----
 
@@ -250,25 +251,17 @@ both_kept c = record {
 
 -- ---- the first world ----
 
-none_place : (p : Place) → ◌≡◌ {A = Option Place} None (Some p) → ⊥
-none_place p e = cc
-
 formatted_fact : (c : Config) (s : ℕ) → Every (CopyFact []) (formatted c s)
 formatted_fact c s = every_map (CopyFact []) (root_copy c) _ (λ g. record { root = refl; site = refl; number = refl; none = seen_none })
 
-first_fact : (c : Config) (ss : List ℕ) (s : ℕ) (p : Place) → place_in (row place_site s (map (first_place c) ss)) ≡ Some p → PlaceFact [] p
-first_fact c [] s p e = absurd (none_place p e)
-first_fact c (t ∷ ts) s p e =
-    (elim (t == s) as (λ b. place_in (elim b [ true ↦ Some (first_place c t) | false ↦ row place_site s (map (first_place c) ts) ]) ≡ Some p → PlaceFact [] p) [
-      | true ↦ λ f. subst (PlaceFact []) (some_same (Running (fresh 1 (formatted c t))) p f) (running_fact [] (fresh 1 (formatted c t)) (record { copies = formatted_fact c t; pulls = tt; inside = refl }))
-      | false ↦ λ f. first_fact c ts s p f
-    ]) e
+first_fact : (c : Config) (s : ℕ) (p : Place) → place_at (first_world c) s ≡ Some p → PlaceFact [] p
+first_fact c = first_places c (λ s. PlaceFact []) (λ s own. running_fact [] (fresh 1 (formatted c s)) (record { copies = formatted_fact c s; pulls = tt; inside = refl }))
 
 first_world_fact : (c : Config) → WorldFact (first_world c)
 first_world_fact c = record {
   numbered = tt;
-  disks = λ s p here. (first_fact c _ s p here).disk;
-  views = λ s v here. (first_fact c _ s (Running v) here).view v refl;
+  disks = λ s p here. (first_fact c s p here).disk;
+  views = λ s v here. (first_fact c s (Running v) here).view v refl;
   packets = tt;
   underway = tt;
 }

@@ -1,5 +1,5 @@
 -- Every run: all that it tells comes as it may.
-use Rattle.std.proofs.Common.{◌≡◌, ℕ, ◌+◌, ◌==◌, nat_lt, true, false, List, [], ◌∷◌, map, filter, Option, Some, None, refl, subst, inl, inr}
+use Rattle.std.proofs.Common.{◌≡◌, ℕ, ◌+◌, ◌==◌, true, false, List, [], ◌∷◌, map, Option, Some, refl, subst, inl, inr}
 use Rattle.std.specs.List.{list_any}
 use Rattle.locus_ids.specs.declared.config.Config.{Config}
 use Rattle.trace_book.specs.declared.call.Call.{Call}
@@ -8,16 +8,14 @@ use Rattle.schedule_lines.specs.Ranges.{fits_event}
 use Rattle.schedule_lines.specs.declared.line.Line.{Line as LineWords}
 use Rattle.schedule_lines.specs.declared.line.Line.TheVariants as line
 use Rattle.schedule_lines.specs.declared.line.ScheduleLine.{ScheduleLine}
-use Rattle.role_steps.specs.Own.{Every}
-use Rattle.role_steps.specs.Tables.{row}
-use Rattle.role_steps.specs.Views.{SiteView, Shown, Event, Calls, Receives, Ticks, Parts, Merges, GivesUp, all_sites}
+use Rattle.role_steps.specs.Views.{SiteView, Shown, Event, Calls, Receives, Ticks, Parts, Merges, GivesUp}
 use Rattle.role_steps.specs.declared.users.WaitingCall.{WaitingCall}
 use Rattle.role_steps.proofs.Sending.{every_map}
 use Rattle.the_run.specs.Disks.{boots}
-use Rattle.the_run.specs.Kept.{Among, WasSent}
+use Rattle.the_run.specs.Kept.{WasSent}
 use Rattle.the_run.specs.Runs.{is_busy, packet_record, run_in}
 use Rattle.the_run.specs.Steps.{step}
-use Rattle.the_run.specs.Worlds.{World, Place, PlaceRow, Running, Numbered, place_at, place_in, place_site, links_of, script_of, acts, passed, loses, number_of, fresh, formatted, first_place, first_world}
+use Rattle.the_run.specs.Worlds.{World, Place, Running, Numbered, place_at, links_of, script_of, acts, passed, loses, number_of, fresh, formatted, first_world}
 use Rattle.the_run.proofs.InsideSync.{every_without}
 use Rattle.call_row_laws.specs.of_row_laws.ByLine.{IsLine, Gives, KeptIn}
 use Rattle.call_row_laws.specs.of_row_laws.Voids.{LinesFit}
@@ -28,6 +26,7 @@ use Rattle.wire_messages.specs.declared.body.Body.TheVariants as body
 use Rattle.wire_messages.specs.declared.packet.Packet.{Packet}
 use Rattle.role_steps.specs.declared.rounds.InEpoch.{InEpoch}
 use Rattle.tree_laws.specs.Packets.{PacketFact}
+use Rattle.kept_laws.proofs.of_vector_laws.of_law_walks.FirstWorld.{first_places, first_views}
 use Rattle.one_tree_laws.specs.Places.{OutsideFact, PlaceFact, NumberedFact, WorldFact}
 use Rattle.one_tree_laws.specs.Rest.{IsRest}
 use Rattle.one_tree_laws.specs.Roles.{EventFact, MayCall, RolesDo}
@@ -35,10 +34,10 @@ use Rattle.one_tree_laws.specs.Wants.{Arrives, BodyAsked, DeltaOf, IsAsked, IsTi
 use Rattle.one_tree_laws.proofs.Frames.{first_users}
 use Rattle.one_tree_laws.proofs.Staying.{Stays}
 use Rattle.one_tree_laws.proofs.Cuts.{step_writes}
-use Rattle.one_tree_laws.proofs.Rising.{every_among, row_key}
+use Rattle.one_tree_laws.proofs.Rising.{every_among}
 use Rattle.one_tree_laws.proofs.Steps.{step_fine}
 use Rattle.one_tree_laws.proofs.WantsSteps.{came_of, step_wants}
-use Rattle.one_tree_laws.proofs.WantsWorlds.{CameAsked, NumberedAsked, running_view, step_looks}
+use Rattle.one_tree_laws.proofs.WantsWorlds.{CameAsked, NumberedAsked, step_looks}
 use Rattle.one_tree_laws.proofs.Worlds.{Holds, acts_holds, stop_holds, boots_hold, says_holds}
 
 -- ---- packets that pass ----
@@ -145,38 +144,13 @@ first_fact c roles s = record {
   pulls = refl;
 }
 
-first_rows : (c : Config) → RolesDo c → (ss : List ℕ) → Every (λ (r : PlaceRow). PlaceFact c r.site [] r.place) (map (first_place c) ss)
-first_rows c roles [] = tt
-first_rows c roles (s ∷ ss) = (first_fact c roles s, first_rows c roles ss)
-
-some_place : (p q : Place) → ◌≡◌ {A = Option Place} (Some p) (Some q) → p ≡ q
-some_place p q e = cc
-
-none_place : (p : Place) → ◌≡◌ {A = Option Place} None (Some p) → ⊥
-none_place p e = cc
-
-place_found : (c : Config) (xs : List PlaceRow) (s : ℕ) (p : Place) → Every (λ (r : PlaceRow). PlaceFact c r.site [] r.place) xs → (o : Option PlaceRow) → row place_site s xs ≡ o → place_in o ≡ Some p → PlaceFact c s [] p
-place_found c xs s p h None e k = absurd (none_place p k)
-place_found c xs s p h (Some r) e k =
-    let found : Among r xs × (r.site ≡ s) = row_key place_site s xs r e in
-    subst (λ (q : Place). PlaceFact c s [] q) (some_place r.place p k) (subst (λ (t : ℕ). PlaceFact c t [] r.place) found.1 (every_among (λ (x : PlaceRow). PlaceFact c x.site [] x.place) r xs found.0 h))
-
--- sites begin with no pulls and no tables
-fresh_rows : (c : Config) (ss : List ℕ) → Every (λ (r : PlaceRow). (v : SiteView) → r.place ≡ Running v → IsTidy v) (map (first_place c) ss)
-fresh_rows c [] = tt
-fresh_rows c (s ∷ ss) = ((λ v e. subst IsTidy (running_view (fresh 1 (formatted c s)) v e) (record { ascends = tt; looks = tt })), fresh_rows c ss)
-
-tidy_found : (xs : List PlaceRow) (s : ℕ) (v : SiteView) → Every (λ (r : PlaceRow). (u : SiteView) → r.place ≡ Running u → IsTidy u) xs → (o : Option PlaceRow) → row place_site s xs ≡ o → place_in o ≡ Some (Running v) → IsTidy v
-tidy_found xs s v h None e k = absurd (none_place (Running v) k)
-tidy_found xs s v h (Some r) e k = every_among (λ (x : PlaceRow). (u : SiteView) → x.place ≡ Running u → IsTidy u) r xs (row_key place_site s xs r e).0 h v (some_place r.place (Running v) k)
-
 pub first_holds : (c : Config) → RolesDo c → Holds c (first_world c)
 first_holds c roles r = record {
   followed = tt;
-  places = λ s p e. place_found c (first_world c).places s p (first_rows c roles (filter (λ (t : ℕ). nat_lt t (c.sites + 1)) all_sites)) (row place_site s (first_world c).places) refl e;
+  places = first_places c (λ s. PlaceFact c s []) (λ s own. first_fact c roles s);
   sent = tt;
   underway = tt;
-  asked = record { tidy = λ s v e. tidy_found (first_world c).places s v (fresh_rows c (filter (λ (t : ℕ). nat_lt t (c.sites + 1)) all_sites)) (row place_site s (first_world c).places) refl e; sent = tt; underway = tt };
+  asked = record { tidy = first_views c (λ s. IsTidy) (λ s own. record { ascends = tt; looks = tt }); sent = tt; underway = tt };
 }
 
 -- ---- every run ----

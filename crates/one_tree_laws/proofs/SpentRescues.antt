@@ -12,8 +12,8 @@ use Rattle.file_content.specs.Pages.{pages_needed, pages_replaced}
 use Rattle.dir_format.specs.declared.entry.Entry.{Entry}
 use Rattle.dir_format.specs.Entries.{max_count}
 use Rattle.dir_format.specs.Grammar.{dir_bytes}
-use Rattle.dir_reconcile.specs.declared.kept.KeptVector.{KeptVector}
-use Rattle.dir_reconcile.specs.Rescues.{chosen, is_that, is_to_rescue, rescue_is_spent, rescued, wants_rescue}
+use Rattle.tree_model.specs.of_dir_reconcile.declared.kept.KeptVector.{KeptVector}
+use Rattle.tree_model.specs.of_dir_reconcile.Rescues.{chosen, is_that, is_to_rescue, rescue_is_spent, rescued, wants_rescue}
 use Rattle.file_effects.specs.Effects.{Effect, is_refusal, mends, tells}
 use Rattle.file_effects.specs.Works.{result_in}
 use Rattle.role_steps.specs.OperationEffects.{Mending, has_several, mend_effect}

@@ -7,7 +7,7 @@ use Rattle.locus_ids.specs.declared.ids.FileId.{FileId}
 use Rattle.locus_ids.specs.declared.ids.Stamp.{Stamp}
 use Rattle.locus_ids.specs.declared.sites.Sites.{Sites}
 use Rattle.commit_graph.specs.Vectors.{vector_of}
-use Rattle.conflict_flags.specs.Written.{NoneTwice}
+use Rattle.kept_laws.specs.of_conflict_flags.Written.{NoneTwice}
 use Rattle.commit_graph.specs.Versions.{is_in, is_version, is_proper_ancestor, same_file, same_stamp}
 use Rattle.commit_graph.proofs.Names.{same_stamp_eq}
 use Rattle.trace_book.specs.declared.record.Record.{Record}

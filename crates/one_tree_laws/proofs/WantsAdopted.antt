@@ -12,7 +12,7 @@ use Rattle.locus_ids.specs.declared.ids.Stamp.{Stamp}
 use Rattle.locus_ids.specs.Sizes.{inode_span}
 use Rattle.commit_graph.specs.Vectors.{vector_of}
 use Rattle.commit_graph.specs.Versions.{same_file, same_stamp}
-use Rattle.dir_reconcile.specs.of_version_vector.Counters.{all_le}
+use Rattle.tree_model.specs.of_dir_reconcile.of_version_vector.Counters.{all_le}
 use Rattle.role_steps.specs.Adoption.{adopt_record, adopts, adopts_first, adopts_pull, fits_own, is_above_own, is_ready, notes_own_at, table_group, with_adopted, without_pull}
 use Rattle.role_steps.specs.Own.{Every}
 use Rattle.role_steps.specs.Pulling.{is_over, pull_key, pull_of}

@@ -57,8 +57,8 @@ use Rattle.tree_laws.specs.Past.{GrantRecord, Printed, WasGranted}
 use Rattle.tree_laws.specs.Printed.{entries}
 use Rattle.tree_laws.proofs.Names.{same_call_eq, same_epoch_eq}
 use Rattle.order_laws.proofs.Standing.{same_stamp_eq}
-use Rattle.rest_laws.specs.of_one_tree_laws.Rest.{EachRest}
-use Rattle.rest_laws.proofs.of_store_laws.Places.{AreOne, GrantedSo, granted_once, instance_granted}
+use Rattle.prompt_laws.specs.of_rest_laws.of_one_tree_laws.Rest.{EachRest}
+use Rattle.prompt_laws.proofs.of_rest_laws.of_store_laws.Places.{AreOne, GrantedSo, granted_once, instance_granted}
 use Rattle.steady_laws.specs.Answered.{IsAnsweredBy, ReadsOn, WasAnswered}
 use Rattle.steady_laws.specs.Reads.{AsksRead, IsRead}
 use Rattle.steady_laws.proofs.Answered.{was_answered}
@@ -68,8 +68,8 @@ use Rattle.steady_laws.proofs.Reading.{read_is}
 use Rattle.one_version_laws.proofs.Asks.{read_wants}
 use Rattle.one_version_laws.proofs.Granted.{AnswerGranted, GrantedAgain, ReadsAgain, reads_again_so}
 use Rattle.one_version_laws.proofs.Keeping.{GrantedOn}
-use Rattle.rest_laws.proofs.Readers.{ReadsVersion, last_stands, reader_reads}
-use Rattle.rest_laws.proofs.StoreStepReading.{began_as_now}
+use Rattle.prompt_laws.proofs.of_rest_laws.Readers.{ReadsVersion, last_stands, reader_reads}
+use Rattle.prompt_laws.proofs.of_rest_laws.StoreStepReading.{began_as_now}
 use Rattle.one_version_laws.proofs.Stood.{Stood, begun_then, content_then, named_then, stands_then, stood, was_then}
 
 -- the bytes are of the version, which stands

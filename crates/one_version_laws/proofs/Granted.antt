@@ -54,9 +54,9 @@ use Rattle.tree_laws.proofs.Names.{same_call_eq}
 use Rattle.tree_laws.proofs.Owing.{every_added}
 use Rattle.tree_laws.proofs.Scripts.{begun_stays, named_stays}
 use Rattle.order_laws.proofs.Standing.{same_file_eq}
-use Rattle.rest_laws.proofs.StoreStepAsking.{step_named}
-use Rattle.rest_laws.proofs.of_store_laws.ScriptReopening.{OpensKept, read_kept}
-use Rattle.rest_laws.proofs.of_one_tree_laws.of_user_laws.OpenGrants.{tells_version}
+use Rattle.prompt_laws.proofs.of_rest_laws.StoreStepAsking.{step_named}
+use Rattle.prompt_laws.proofs.of_rest_laws.of_store_laws.ScriptReopening.{OpensKept, read_kept}
+use Rattle.prompt_laws.proofs.of_rest_laws.of_one_tree_laws.of_user_laws.OpenGrants.{tells_version}
 use Rattle.one_version_laws.proofs.Asks.{AsRead, read_asks, read_wants}
 
 abbrev With : ℕ → Told → List Line → List Line

@@ -50,18 +50,18 @@ use Rattle.tree_laws.proofs.Reopening.{FromSteady, reopens_from}
 use Rattle.tree_laws.proofs.Waiting.{accepted, found_among}
 use Rattle.the_run.specs.Kept.{Among}
 use Rattle.order_laws.proofs.Standing.{same_stamp_eq}
-use Rattle.rest_laws.specs.of_one_tree_laws.Rest.{EachRest}
-use Rattle.rest_laws.specs.of_row_laws.Shown.{EachRecord}
-use Rattle.rest_laws.proofs.of_store_laws.ScriptLasting.{opened_from}
-use Rattle.rest_laws.proofs.of_store_laws.ScriptFitting.{ReadWords}
-use Rattle.rest_laws.proofs.of_store_laws.ScriptNaming.{Rereads, RereadsIn, named_reads}
-use Rattle.rest_laws.proofs.of_store_laws.ScriptOpened.{last_so}
+use Rattle.prompt_laws.specs.of_rest_laws.of_one_tree_laws.Rest.{EachRest}
+use Rattle.prompt_laws.specs.of_rest_laws.of_row_laws.Shown.{EachRecord}
+use Rattle.prompt_laws.proofs.of_rest_laws.of_store_laws.ScriptLasting.{opened_from}
+use Rattle.prompt_laws.proofs.of_rest_laws.of_store_laws.ScriptFitting.{ReadWords}
+use Rattle.prompt_laws.proofs.of_rest_laws.of_store_laws.ScriptNaming.{Rereads, RereadsIn, named_reads}
+use Rattle.prompt_laws.proofs.of_rest_laws.of_store_laws.ScriptOpened.{last_so}
 use Rattle.prompt_laws.specs.Given.{IsGiven, IsGivenRow}
 use Rattle.steady_laws.specs.Reads.{IsRead}
 use Rattle.steady_laws.proofs.Reading.{read_is}
 use Rattle.one_version_laws.proofs.Asks.{read_wants}
 use Rattle.one_version_laws.proofs.Granted.{AnswerGranted, GrantedAgain, LastGrant, ReadsAgain, last_grant, reads_again_so}
-use Rattle.rest_laws.proofs.StoreStepReading.{began_as_now}
+use Rattle.prompt_laws.proofs.of_rest_laws.StoreStepReading.{began_as_now}
 
 -- the instance was granted to read, on this version
 pub record GrantedOn (t : List Line) (e : EpochId) (i : Serial) (v : OneVersion) : Type 0 where

@@ -32,16 +32,16 @@ use Rattle.lawful_trace.specs.Progress.{left_epoch, unless_left, wants_next}
 use Rattle.lawful_trace.specs.Tables.{descriptor}
 use Rattle.tree_laws.specs.Following.{IsFollowed}
 use Rattle.tree_laws.specs.Printed.{entries, onto_entries}
-use Rattle.rest_laws.specs.of_one_tree_laws.Rest.{EachRest, IsRest, Past}
-use Rattle.rest_laws.specs.of_row_laws.Shown.{EachRecord, trace_of}
-use Rattle.rest_laws.proofs.of_row_laws.Fitting.{schedule_fits}
-use Rattle.rest_laws.proofs.Packs.{schedule_packs}
-use Rattle.rest_laws.proofs.Shown.{shown_entries}
-use Rattle.rest_laws.proofs.StoreStepFirst.{four_groups}
-use Rattle.rest_laws.proofs.of_one_tree_laws.Run.{run_holds}
-use Rattle.rest_laws.proofs.of_one_tree_laws.Staying.{stays}
-use Rattle.rest_laws.proofs.Resting.{run_low, run_rests}
-use Rattle.rest_laws.proofs.Roles.{roles_do}
+use Rattle.prompt_laws.specs.of_rest_laws.of_one_tree_laws.Rest.{EachRest, IsRest, Past}
+use Rattle.prompt_laws.specs.of_rest_laws.of_row_laws.Shown.{EachRecord, trace_of}
+use Rattle.prompt_laws.proofs.of_rest_laws.of_row_laws.Fitting.{schedule_fits}
+use Rattle.prompt_laws.proofs.of_rest_laws.Packs.{schedule_packs}
+use Rattle.prompt_laws.proofs.of_rest_laws.Shown.{shown_entries}
+use Rattle.prompt_laws.proofs.of_rest_laws.StoreStepFirst.{four_groups}
+use Rattle.prompt_laws.proofs.of_rest_laws.of_one_tree_laws.Run.{run_holds}
+use Rattle.prompt_laws.proofs.of_rest_laws.of_one_tree_laws.Staying.{stays}
+use Rattle.prompt_laws.proofs.of_rest_laws.Resting.{run_low, run_rests}
+use Rattle.prompt_laws.proofs.of_rest_laws.Roles.{roles_do}
 use Rattle.prompt_laws.specs.Given.{IsGiven, IsGivenRow}
 use Rattle.prompt_laws.proofs.RunReplies.{replies_given}
 use Rattle.steady_laws.specs.OneVersion.{Read, ReadsOneVersion, answers_read, is_answered, is_of_version, is_stale_where_due, kept_version, read_by, read_from, steady_of}

@@ -42,15 +42,15 @@ use Rattle.lawful_trace.specs.Tables.{begun, descriptor}
 use Rattle.tree_laws.specs.Following.{IsFollowed}
 use Rattle.tree_laws.specs.Printed.{entries}
 use Rattle.tree_laws.proofs.Names.{same_epoch_own}
-use Rattle.rest_laws.proofs.of_store_laws.Commits.{file_own}
-use Rattle.rest_laws.specs.of_one_tree_laws.Rest.{EachRest}
-use Rattle.rest_laws.proofs.of_store_laws.ScriptNaming.{BeganOpening, openers_begin}
+use Rattle.prompt_laws.proofs.of_rest_laws.of_store_laws.Commits.{file_own}
+use Rattle.prompt_laws.specs.of_rest_laws.of_one_tree_laws.Rest.{EachRest}
+use Rattle.prompt_laws.proofs.of_rest_laws.of_store_laws.ScriptNaming.{BeganOpening, openers_begin}
 use Rattle.steady_laws.specs.OneVersion.{holds_last, is_another, is_stale_where_due}
 use Rattle.one_version_laws.proofs.Asks.{read_wants}
 use Rattle.one_version_laws.proofs.Bytes.{Again, BeginsSteady, Held, Outside, begins_steady}
 use Rattle.one_version_laws.proofs.Granted.{AnswerGranted, ReadsAgain, no_version, reads_again_so}
 use Rattle.one_version_laws.proofs.Right.{AnswerRight, NotStale, answers_right}
-use Rattle.rest_laws.proofs.StoreStepReading.{began_as_now}
+use Rattle.prompt_laws.proofs.of_rest_laws.StoreStepReading.{began_as_now}
 
 -- the reply doesn't say that the descriptor is stale
 abbrev SaysFresh : Reply → Type 0

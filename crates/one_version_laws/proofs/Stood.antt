@@ -21,7 +21,7 @@ use Rattle.tree_laws.specs.Printed.{entries, onto_entries}
 use Rattle.tree_laws.proofs.Fresh.{IsNamed}
 use Rattle.tree_laws.proofs.Histories.{content_same, stands_more}
 use Rattle.tree_laws.proofs.Scripts.{begun_stays, named_stays}
-use Rattle.rest_laws.specs.of_one_tree_laws.Rest.{EachRest}
+use Rattle.prompt_laws.specs.of_rest_laws.of_one_tree_laws.Rest.{EachRest}
 
 -- the record was told after these lines
 pub record Stood (c : Config) (t : List Line) (r : Record) (before : Trace) : Type 0 where

@@ -7,8 +7,8 @@ use Rattle.schedule_lines.specs.declared.line.ScheduleLine.{ScheduleLine}
 use Rattle.the_run.specs.Runs.{run}
 use Rattle.the_run.specs.Worlds.{Line}
 use Rattle.tree_laws.specs.Printed.{entries}
-use Rattle.rest_laws.specs.of_one_tree_laws.Rest.{Past}
-use Rattle.rest_laws.specs.of_row_laws.Shown.{EachRecord, trace_of}
+use Rattle.prompt_laws.specs.of_rest_laws.of_one_tree_laws.Rest.{Past}
+use Rattle.prompt_laws.specs.of_rest_laws.of_row_laws.Shown.{EachRecord, trace_of}
 use Rattle.prompt_laws.specs.Given.{IsGivenRow}
 use Rattle.steady_laws.specs.OneVersion.{ReadsOneVersion}
 

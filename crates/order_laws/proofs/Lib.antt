@@ -22,3 +22,4 @@ pub mod ProcessOperations
 pub mod ProcessOperationsRun
 pub mod ProcessCurrentOpens
 pub mod ProcessSynchronizing
+pub use Rattle.tree_laws.proofs as of_tree_laws

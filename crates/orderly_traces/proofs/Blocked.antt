@@ -12,9 +12,8 @@ use Rattle.schedule_lines.specs.declared.line.ScheduleLine.{ScheduleLine}
 use Rattle.schedule_lines.specs.declared.line.ScheduleLine.TheVariants.{Passed, Event as EventLine}
 use Rattle.schedule_lines.specs.Ranges.{is_site}
 use Rattle.role_steps.specs.Own.{Every}
-use Rattle.role_steps.specs.Views.{SiteView, DiskWrite, Outcome, Event, Parts, Merges, all_sites}
+use Rattle.role_steps.specs.Views.{SiteView, DiskWrite, Outcome, Event, Parts, Merges}
 use Rattle.role_steps.specs.declared.rounds.InEpoch.{InEpoch}
-use Rattle.role_steps.proofs.Counted.{sites_count}
 use Rattle.tree_model.specs.Epochs.{is_up, epoch_of}
 use Rattle.lawful_trace.specs.Places.{starts_at}
 use Rattle.the_run.specs.Steps.{step, epoch_id}
@@ -27,7 +26,6 @@ use Rattle.orderly_laws.specs.of_epoch_laws.Forming.{TableFormless}
 use Rattle.orderly_laws.specs.Blocks.{StartsBy, IsInBlock, StartsNobody, asked_by_merge, asked_by_part}
 use Rattle.orderly_laws.specs.Rounded.{GoesOn, Decides}
 use Rattle.orderly_laws.specs.Settling.{boot_at}
-use Rattle.orderly_laws.proofs.Chosen.{counted_among}
 use Rattle.orderly_laws.proofs.StartTurn.{first_round, merges_unwritten, parts_unwritten, merge_begun, part_begun}
 use Rattle.orderly_traces.specs.Fits.{FitsCluster}
 use Rattle.orderly_traces.proofs.Placed.{placed, at_each}
@@ -54,7 +52,7 @@ site_there sites s h = (low, (high, fits))
     fits = grind (arith, nat_tests)
 
 has_place : (c : Config) (ls : List ScheduleLine) (s : ℕ) → is_site c.sites s ≡ true → place_at (run_in c ls) s ≡ None → ⊥
-has_place c ls s h = (let k : (1 ≤ s) × ((s ≤ sites_max) × (s ≤ c.sites)) = site_there c.sites s h in placed c ls s (counted_among 1 all_sites sites_count s k.0 (omega (arith, k.1.0))) k.1.1)
+has_place c ls s h = (let k : (1 ≤ s) × ((s ≤ sites_max) × (s ≤ c.sites)) = site_there c.sites s h in placed c ls s ((k.0, k.1.0), k.1.1))
 
 abbrev part_test : ℕ → Bool → Option EpochId → Option ℕ
 part_test p up e = cond (up && is_some e) (Some p) None

@@ -1,19 +1,19 @@
 -- The sites of the cluster have places, and no others.
-use Rattle.std.proofs.Common.{◌≡◌, ◌≢◌, ℕ, ◌+◌, ◌≤◌, ◌==◌, nat_lt, Bool, true, false, cond, List, [], ◌∷◌, map, filter, Some, None, refl, sym, ◌∙◌, ap, inl, inr, arith}
+use Rattle.std.proofs.Common.{◌≡◌, ◌≢◌, ℕ, Option, ◌≤◌, ◌==◌, Bool, true, false, List, [], Some, None, refl, sym, ◌∙◌, ap, arith}
 use Rattle.std.proofs.lemmas.Bool.Decides.{nat_tests}
 use Rattle.std.specs.Option.{is_some}
 use Rattle.locus_ids.specs.declared.config.Config.{Config}
 use Rattle.schedule_lines.specs.declared.line.ScheduleLine.{ScheduleLine}
 use Rattle.wire_messages.specs.declared.packet.Packet.{Packet}
-use Rattle.role_steps.specs.Tables.{row}
-use Rattle.role_steps.specs.Views.{SiteView, Told, Outcome, all_sites}
+use Rattle.role_steps.specs.Views.{SiteView, Told, Outcome}
 use Rattle.the_run.specs.Disks.{Booted, Whole, CutOff, boots}
-use Rattle.the_run.specs.Kept.{Among, Kept}
+use Rattle.the_run.specs.Kept.{Kept}
 use Rattle.the_run.specs.Steps.{step}
-use Rattle.the_run.specs.Worlds.{World, Place, PlaceRow, Running, Stopped, place_at, place_in, place_site, first_place, links_of, script_of, happened, puts, arms, passed, stops_with, disk_of, acts, first_world}
+use Rattle.the_run.specs.Worlds.{World, Place, Running, Stopped, place_at, links_of, script_of, happened, puts, arms, passed, stops_with, disk_of, acts, first_world}
 use Rattle.the_run.specs.Runs.{boots_as, run_in}
 use Rattle.the_run.proofs.Events.{happened_keeps, acts_keeps, puts_same, puts_other}
 use Rattle.the_run.proofs.Runs.{every_run}
+use Rattle.orderly_laws.proofs.of_epoch_laws.of_law_walks.FirstWorld.{InCluster, first_places, first_there}
 
 -- ---- places come and go with nothing ----
 
@@ -69,63 +69,20 @@ has_kept c t b = record {
 has_place : (c : Config) (lines : List ScheduleLine) (t : ℕ) → is_some (place_at (run_in c lines) t) ≡ is_some (place_at (first_world c) t)
 has_place c lines t = every_run c (Has t (is_some (place_at (first_world c) t))) (has_kept c t (is_some (place_at (first_world c) t))) refl lines
 
--- ---- the first world ----
-
-abbrev places : Config → List ℕ → List PlaceRow
-places c xs = map (first_place c) (filter (λ s. nat_lt s (c.sites + 1)) xs)
-
-there : (c : Config) (t : ℕ) (xs : List ℕ) → Among t xs → t ≤ c.sites → is_some (place_in (row place_site t (places c xs))) ≡ true
-there c t [] a le = absurd a
-there c t (x ∷ xs) a le =
-    (elim (nat_lt x (c.sites + 1)) as (λ b. nat_lt x (c.sites + 1) ≡ b → is_some (place_in (row place_site t (map (first_place c) (cond b (x ∷ filter (λ s. nat_lt s (c.sites + 1)) xs) (filter (λ s. nat_lt s (c.sites + 1)) xs))))) ≡ true) [
-      | true ↦ λ e. (elim (x == t) as (λ b. (x == t) ≡ b → is_some (place_in (elim b [ true ↦ Some (first_place c x) | false ↦ row place_site t (places c xs) ])) ≡ true) [
-        | true ↦ λ f. refl
-        | false ↦ λ f. there c t xs (later a (λ g. unequal g f)) le
-      ]) refl
-      | false ↦ λ e. there c t xs (later a (λ g. high g e)) le
-    ]) refl
-  where
-    later : Among t (x ∷ xs) → (t ≡ x → ⊥) → Among t xs
-    later (inl e) h = absurd (h e)
-    later (inr e) h = e
-
-    unequal : t ≡ x → (x == t) ≡ false → ⊥
-    unequal g f = grind (arith, nat_tests)
-
-    high : t ≡ x → nat_lt x (c.sites + 1) ≡ false → ⊥
-    high g f = grind (arith, nat_tests)
-
-nowhere : (c : Config) (t : ℕ) (xs : List ℕ) → c.sites + 1 ≤ t → is_some (place_in (row place_site t (places c xs))) ≡ false
-nowhere c t [] h = refl
-nowhere c t (x ∷ xs) h =
-    (elim (nat_lt x (c.sites + 1)) as (λ b. nat_lt x (c.sites + 1) ≡ b → is_some (place_in (row place_site t (map (first_place c) (cond b (x ∷ filter (λ s. nat_lt s (c.sites + 1)) xs) (filter (λ s. nat_lt s (c.sites + 1)) xs))))) ≡ false) [
-      | true ↦ λ e. (elim (x == t) as (λ b. (x == t) ≡ b → is_some (place_in (elim b [ true ↦ Some (first_place c x) | false ↦ row place_site t (places c xs) ])) ≡ false) [
-        | true ↦ λ f. absurd (low e f)
-        | false ↦ λ f. nowhere c t xs h
-      ]) refl
-      | false ↦ λ e. nowhere c t xs h
-    ]) refl
-  where
-    low : nat_lt x (c.sites + 1) ≡ true → (x == t) ≡ true → ⊥
-    low e f = grind (arith, nat_tests)
-
 -- ---- in every run ----
 
-pub placed : (c : Config) (lines : List ScheduleLine) (t : ℕ) → Among t all_sites → t ≤ c.sites → place_at (run_in c lines) t ≡ None → ⊥
-placed c lines t a le e = true_false (sym (has_place c lines t ∙ there c t all_sites a le) ∙ ap is_some e)
+pub placed : (c : Config) (lines : List ScheduleLine) (t : ℕ) → InCluster c t → place_at (run_in c lines) t ≡ None → ⊥
+placed c lines t own e = true_false (sym (has_place c lines t ∙ ap is_some (first_there c t own)) ∙ ap is_some e)
   where
     true_false : true ≡ false → ⊥
     true_false k = cc
 
 pub place_within : (c : Config) (lines : List ScheduleLine) (t : ℕ) (p : Place) → place_at (run_in c lines) t ≡ Some p → t ≤ c.sites
-place_within c lines t p e = by_order (nat_lt t (c.sites + 1)) refl
+place_within c lines t p e = by_first (place_at (first_world c) t) refl
   where
     true_false : true ≡ false → ⊥
     true_false k = cc
 
-    by_order : (b : Bool) → nat_lt t (c.sites + 1) ≡ b → t ≤ c.sites
-    by_order true f = grind (arith, nat_tests)
-    by_order false f = absurd (true_false (sym (ap is_some e) ∙ (has_place c lines t ∙ nowhere c t all_sites (high f))))
-      where
-        high : nat_lt t (c.sites + 1) ≡ false → c.sites + 1 ≤ t
-        high g = grind (arith, nat_tests)
+    by_first : (o : Option Place) → place_at (first_world c) t ≡ o → t ≤ c.sites
+    by_first None f = absurd (true_false (sym (ap is_some e) ∙ (has_place c lines t ∙ ap is_some f)))
+    by_first (Some q) f = first_places c (λ s p. s ≤ c.sites) (λ s own. own.1) t q f

@@ -1,5 +1,5 @@
 -- Whom a line asks and chooses, told by the records as by the world that the line finds.
-use Rattle.std.proofs.Common.{◌≡◌, ◌≢◌, ℕ, zero, suc, ◌+◌, ◌-◌, ◌≤◌, ◌==◌, nat_le, nat_lt, Bool, true, false, cond, not, ◌&&◌, ◌||◌, List, [], ◌∷◌, take, Option, Some, None, refl, sym, ◌∙◌, ap, ◌⊎◌, inl, inr, arith, ◌<◌}
+use Rattle.std.proofs.Common.{◌≡◌, ◌≢◌, ℕ, zero, suc, ◌-◌, ◌≤◌, ◌==◌, nat_le, nat_lt, Bool, true, false, cond, not, ◌&&◌, ◌||◌, List, [], ◌∷◌, take, Option, Some, None, refl, sym, ◌∙◌, ap, ◌⊎◌, inl, inr, arith, ◌<◌}
 use Rattle.std.proofs.lemmas.Bool.Decides.{nat_tests}
 use Rattle.std.specs.Option.{is_some}
 use Rattle.role_steps.proofs.of_plain_facts.Numbers.{at_most, equal, not_zero, not_zero_test}
@@ -16,7 +16,6 @@ use Rattle.role_steps.specs.Views.{SiteView, all_sites}
 use Rattle.role_steps.specs.Views as views
 use Rattle.role_steps.specs.Epochs.{boots_where, merge_boot, part_boot}
 use Rattle.role_steps.specs.declared.rounds.InEpoch.{InEpoch}
-use Rattle.role_steps.proofs.Counted.{sites_count}
 use Rattle.tree_model.specs.Folds.{Trace, before_line}
 use Rattle.tree_model.specs.Epochs.{is_up, boot_of}
 use Rattle.tree_model.specs.Packs.{boot_in, is_member}
@@ -34,7 +33,7 @@ use Rattle.orderly_laws.proofs.of_epoch_laws.Boots.{boot_there, boot_nowhere}
 use Rattle.orderly_laws.proofs.of_epoch_laws.Run as known
 use Rattle.orderly_laws.specs.Blocks.{StartsBy, IsInBlock, asked_by_merge, asked_by_part, asked_at, asked_inside}
 use Rattle.orderly_laws.specs.Settling.{boot_at, reaches, is_asked, is_chosen}
-use Rattle.orderly_laws.proofs.Chosen.{counted_among, and_true_right}
+use Rattle.orderly_laws.proofs.Chosen.{and_true_right}
 use Rattle.orderly_laws.proofs.Places.{runs, boot_here, link_boot, link_sized}
 use Rattle.orderly_traces.specs.Fits.{EachFits, IsCluster}
 use Rattle.orderly_traces.proofs.Circuits.{take_fits, cuts_no_self, cut_is, self_uncut}
@@ -62,15 +61,12 @@ range s =
 pub at_most_sixteen : (a b : ℕ) → a ≤ b → b ≤ sites_max → a ≤ sites_max
 at_most_sixteen a b p q = omega (arith, p, q)
 
-counted : (t : ℕ) → t ≤ sites_max → t + 1 ≤ sites_max + 1
-counted t le = omega (arith, le)
-
 -- a site of the cluster that is up has its place, and runs
 there : (lines : List ScheduleLine) → IsCluster lines → (k t : ℕ) → 1 ≤ t → t ≤ (config_of lines).sites → is_up (trace_of (at lines k)) t ≡ true → (v : SiteView) × (place_at (at lines k) t ≡ Some (Running v))
 there lines few k t low high up = by_place (place_at (at lines k) t) refl
   where
     by_place : (o : Option Place) → place_at (at lines k) t ≡ o → (v : SiteView) × (place_at (at lines k) t ≡ Some (Running v))
-    by_place None e = absurd (placed (config_of lines) (take k lines) t (counted_among 1 all_sites sites_count t low (counted t (at_most_sixteen t (config_of lines).sites high few))) high e)
+    by_place None e = absurd (placed (config_of lines) (take k lines) t ((low, at_most_sixteen t (config_of lines).sites high few), high) e)
     by_place (Some (Stopped d)) e = absurd (true_false (sym up ∙ ((run_courses (config_of lines) (take k lines)).course.places t (Stopped d) e).0))
     by_place (Some (Running v)) e = (v, e)
 

@@ -1,9 +1,6 @@
 -- In every run the inode numbers of committed and adopted files have 16 bits.
-use Rattle.std.proofs.Common.{◌≡◌, ◌≤◌, ℕ, ◌+◌, ◌==◌, nat_lt, nat_le, ◌&&◌, Bool, true, false, cond, List, [], ◌∷◌, filter, map, Option, Some, None, refl, sym, ◌∙◌, ap, subst, inl, inr, arith}
-use Rattle.std.proofs.lemmas.Bool.Decides.{nat_tests}
-use Rattle.role_steps.proofs.of_plain_facts.Numbers.{equal}
+use Rattle.std.proofs.Common.{◌≡◌, ◌≤◌, ℕ, ◌+◌, ◌==◌, nat_lt, Bool, true, false, cond, List, [], ◌∷◌, map, Option, Some, None, refl, sym, ◌∙◌, ap, subst, inl, inr, arith}
 use Rattle.role_steps.proofs.of_plain_facts.Options.{some_same}
-use Rattle.role_steps.proofs.of_plain_facts.Tests.{both_true}
 use Rattle.locus_ids.specs.declared.ids.FileId.{FileId}
 use Rattle.locus_ids.specs.declared.config.Config.{Config}
 use Rattle.locus_ids.specs.Sizes.{sites_max}
@@ -14,14 +11,14 @@ use Rattle.trace_book.specs.declared.record.StopCause.{StopCause}
 use Rattle.trace_book.specs.declared.record.StopCause.TheVariants as cause
 use Rattle.wire_messages.specs.declared.packet.Packet.{Packet}
 use Rattle.role_steps.specs.Own.{Every}
-use Rattle.role_steps.specs.Tables.{row, with_row}
-use Rattle.role_steps.specs.Views.{SiteView, Told, Shown, DiskWrite, Outcome, Event, Calls, Receives, Ticks, Parts, Merges, GivesUp, all_sites}
+use Rattle.role_steps.specs.Tables.{with_row}
+use Rattle.role_steps.specs.Views.{SiteView, Told, Shown, DiskWrite, Outcome, Event, Calls, Receives, Ticks, Parts, Merges, GivesUp}
 use Rattle.role_steps.specs.Storage.{copy_key}
 use Rattle.role_steps.specs.declared.copies.FileCopy.{FileCopy}
 use Rattle.role_steps.proofs.Sending.{every_append, every_map}
 use Rattle.lock_laws.specs.of_the_run.Disks.{Disk, Booted, Whole, CutOff, boots, cut_disk, is_on_disk}
 use Rattle.lock_laws.specs.of_the_run.Steps.{step}
-use Rattle.lock_laws.specs.of_the_run.Worlds.{World, Place, Running, Stopped, Numbered, number_of, links_of, place_at, place_in, place_site, script_of, happened, numbered_from, disk_of, puts, arms, passed, stops_with, cause_of, acts, fresh, root_copy, formatted, first_place, first_world}
+use Rattle.lock_laws.specs.of_the_run.Worlds.{World, Place, Running, Stopped, Numbered, number_of, links_of, place_at, script_of, happened, numbered_from, disk_of, puts, arms, passed, stops_with, cause_of, acts, fresh, root_copy, formatted, first_world}
 use Rattle.lock_laws.specs.of_the_run.Runs.{boots_as, packet_record, run_in}
 use Rattle.lock_laws.specs.of_the_run.Kept.{WasSent, IsOwn, Kept}
 use Rattle.lock_laws.proofs.of_the_run.Boots.{at_each, acts_cases, every_newest, every_numbered, every_weaker}
@@ -36,6 +33,7 @@ use Rattle.lock_laws.proofs.of_vector_laws.FactsRun.{past_onto}
 use Rattle.lock_laws.proofs.of_vector_laws.Held.{KeepsCopies, boots_copies}
 use Rattle.lock_laws.proofs.of_vector_laws.SiteDisks.{SiteDisk, step_disk}
 use Rattle.lock_laws.specs.of_vector_laws.HistoryCommits.{FitRecord, FitTold, NumbersFit}
+use Rattle.lock_laws.proofs.of_law_walks.FirstWorld.{first_places}
 use Rattle.pack_laws.specs.InodeFits.{Fits, PacketFits, CopyFits, ViewFits, NumberedFits, WorldFits}
 use Rattle.pack_laws.proofs.InodeSiteFits.{SiteOut, EventFits, step_fits}
 
@@ -238,31 +236,6 @@ fits_kept c = record {
 
 -- ---- the first world ----
 
-none_place : (p : Place) → ◌≡◌ {A = Option Place} None (Some p) → ⊥
-none_place p e = cc
-
-abbrev Small : ℕ → Type 0
-Small s = s ≤ sites_max
-
-small_if : (b : Bool) (x : ℕ) (xs : List ℕ) → Small x → Every Small xs → Every Small (cond b (x ∷ xs) xs)
-small_if true x xs p h = (p, h)
-small_if false x xs p h = h
-
-small_filter : (test : ℕ → Bool) (xs : List ℕ) → Every Small xs → Every Small (filter test xs)
-small_filter test [] h = tt
-small_filter test (x ∷ xs) h = small_if (test x) x (filter test xs) h.0 (small_filter test xs h.1)
-
-abbrev all_small : List ℕ → Bool
-all_small [] = true
-all_small (s ∷ ss) = nat_le s sites_max && all_small ss
-
-small_of : (s : ℕ) → nat_le s sites_max ≡ true → s ≤ sites_max
-small_of s h = grind (arith, nat_tests)
-
-each_small : (ss : List ℕ) → all_small ss ≡ true → Every Small ss
-each_small [] h = tt
-each_small (s ∷ ss) h = let k : (nat_le s sites_max ≡ true) × (all_small ss ≡ true) = both_true (nat_le s sites_max) (all_small ss) h in (small_of s k.0, each_small ss k.1)
-
 -- a root has the inode number 1
 formatted_fits : (c : Config) (s : ℕ) → Every CopyFits (formatted c s)
 formatted_fits c s = every_map CopyFits (root_copy c) _ (λ g. omega arith)
@@ -270,14 +243,6 @@ formatted_fits c s = every_map CopyFits (root_copy c) _ (λ g. omega arith)
 record FirstFits (s : ℕ) (p : Place) : Type 0 where
   small : s ≤ sites_max
   place : PlaceFits p
-
-first_fits : (c : Config) (ss : List ℕ) → Every Small ss → (s : ℕ) (p : Place) → place_in (row place_site s (map (first_place c) ss)) ≡ Some p → FirstFits s p
-first_fits c [] h s p e = absurd (none_place p e)
-first_fits c (t ∷ ts) h s p e =
-    (elim (t == s) as (λ b. (t == s) ≡ b → place_in (elim b [ true ↦ Some (first_place c t) | false ↦ row place_site s (map (first_place c) ts) ]) ≡ Some p → FirstFits s p) [
-      | true ↦ λ q f. subst (FirstFits s) (some_same (Running (fresh 1 (formatted c t))) p f) (record { small = subst Small (equal t s q) h.0; place = running_fits (fresh 1 (formatted c t)) (record { store = record { copies = formatted_fits c t; instances = tt }; pulls = tt; tables = tt }) })
-      | false ↦ λ q f. first_fits c ts h.1 s p f
-    ]) refl e
 
 first_world_fits : (c : Config) → WorldFits (first_world c)
 first_world_fits c = record {
@@ -290,7 +255,7 @@ first_world_fits c = record {
 }
   where
     first : (c : Config) (s : ℕ) (p : Place) → place_at (first_world c) s ≡ Some p → FirstFits s p
-    first c s p here = first_fits c _ (small_filter (λ s. nat_lt s (c.sites + 1)) all_sites (each_small all_sites refl)) s p here
+    first c = first_places c FirstFits (λ s own. record { small = own.0.1; place = running_fits (fresh 1 (formatted c s)) (record { store = record { copies = formatted_fits c s; instances = tt }; pulls = tt; tables = tt }) })
 
 -- ---- the law ----
 

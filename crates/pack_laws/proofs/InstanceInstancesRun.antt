@@ -1,9 +1,6 @@
 -- In every run there is such a book.
-use Rattle.std.proofs.Common.{◌≡◌, ◌≤◌, ℕ, ◌+◌, ◌==◌, nat_lt, nat_le, ◌&&◌, Bool, true, false, cond, List, [], ◌∷◌, filter, map, Option, Some, None, refl, sym, ◌∙◌, ap, subst, ◌⊎◌, inl, inr, arith}
-use Rattle.std.proofs.lemmas.Bool.Decides.{nat_tests}
-use Rattle.role_steps.proofs.of_plain_facts.Numbers.{equal}
+use Rattle.std.proofs.Common.{◌≡◌, ◌≤◌, ℕ, ◌+◌, Bool, true, false, cond, List, [], ◌∷◌, map, Option, Some, None, refl, sym, ◌∙◌, ap, subst, ◌⊎◌, inl, inr, arith}
 use Rattle.role_steps.proofs.of_plain_facts.Options.{some_same}
-use Rattle.role_steps.proofs.of_plain_facts.Tests.{both_true}
 use Rattle.locus_ids.specs.declared.config.Config.{Config}
 use Rattle.locus_ids.specs.Sizes.{sites_max}
 use Rattle.schedule_lines.specs.declared.line.ScheduleLine.{ScheduleLine}
@@ -13,14 +10,13 @@ use Rattle.trace_book.specs.declared.record.StopCause.{StopCause}
 use Rattle.trace_book.specs.declared.record.StopCause.TheVariants as cause
 use Rattle.wire_messages.specs.declared.packet.Packet.{Packet}
 use Rattle.role_steps.specs.Own.{Every}
-use Rattle.role_steps.specs.Tables.{row}
-use Rattle.role_steps.specs.Views.{SiteView, Told, Shown, DiskWrite, Outcome, Event, Calls, Receives, Ticks, Parts, Merges, GivesUp, all_sites}
+use Rattle.role_steps.specs.Views.{SiteView, Told, Shown, DiskWrite, Outcome, Event, Calls, Receives, Ticks, Parts, Merges, GivesUp}
 use Rattle.role_steps.specs.declared.copies.FileCopy.{FileCopy}
 use Rattle.role_steps.proofs.Sending.{every_append, every_map}
 use Rattle.lock_laws.specs.of_the_run.Disks.{Disk, Booted, Whole, CutOff, boots, cut_disk, is_on_disk}
 use Rattle.lock_laws.specs.of_the_run.Laws.{boot_on, boot_number}
 use Rattle.lock_laws.specs.of_the_run.Steps.{step}
-use Rattle.lock_laws.specs.of_the_run.Worlds.{World, Place, Running, Stopped, Numbered, Line, number_of, links_of, place_at, place_in, place_site, script_of, happened, numbered_from, disk_of, puts, arms, passed, stops_with, cut_told, cause_of, acts, fresh, first_place, first_world}
+use Rattle.lock_laws.specs.of_the_run.Worlds.{World, Place, Running, Stopped, Numbered, Line, number_of, links_of, place_at, script_of, happened, numbered_from, disk_of, puts, arms, passed, stops_with, cut_told, cause_of, acts, fresh, first_world}
 use Rattle.lock_laws.specs.of_the_run.Runs.{boots_as, packet_record, run_in}
 use Rattle.lock_laws.specs.of_the_run.Kept.{Among, WasSent, IsOwn, Kept}
 use Rattle.lock_laws.proofs.of_the_run.Boots.{at_each, puts_rises, acts_cases, every_newest, every_numbered, every_weaker, Reached, boots_reached}
@@ -35,6 +31,7 @@ use Rattle.lock_laws.specs.of_vector_laws.Written.{past_of}
 use Rattle.lock_laws.specs.of_vector_laws.Facts.{onto}
 use Rattle.lock_laws.proofs.of_vector_laws.FactsRun.{past_onto}
 use Rattle.lock_laws.proofs.of_vector_laws.SiteDisks.{SiteDisk, step_disk}
+use Rattle.lock_laws.proofs.of_law_walks.FirstWorld.{first_places}
 use Rattle.pack_laws.specs.InstanceBook.{Note, Listed, Asked, Placed, Began, Book, IsOf, Sound, Grown}
 use Rattle.pack_laws.specs.InstanceFacts.{PacketFact, RecordFact, ToldFact, ViewFact, OfABoot, NumberedFact, WorldFact, Booked}
 use Rattle.pack_laws.proofs.InstanceBooks.{Leads, grown_same, body_later, tolds_later, view_beside}
@@ -332,42 +329,9 @@ both_kept c = record {
 
 -- ---- the first world ----
 
-none_place : (p : Place) → ◌≡◌ {A = Option Place} None (Some p) → ⊥
-none_place p e = cc
-
-abbrev Small : ℕ → Type 0
-Small s = s ≤ sites_max
-
-small_if : (b : Bool) (x : ℕ) (xs : List ℕ) → Small x → Every Small xs → Every Small (cond b (x ∷ xs) xs)
-small_if true x xs p h = (p, h)
-small_if false x xs p h = h
-
-small_filter : (test : ℕ → Bool) (xs : List ℕ) → Every Small xs → Every Small (filter test xs)
-small_filter test [] h = tt
-small_filter test (x ∷ xs) h = small_if (test x) x (filter test xs) h.0 (small_filter test xs h.1)
-
-abbrev all_small : List ℕ → Bool
-all_small [] = true
-all_small (s ∷ ss) = nat_le s sites_max && all_small ss
-
-small_of : (s : ℕ) → nat_le s sites_max ≡ true → s ≤ sites_max
-small_of s h = grind (arith, nat_tests)
-
-each_small : (ss : List ℕ) → all_small ss ≡ true → Every Small ss
-each_small [] h = tt
-each_small (s ∷ ss) h = let k : (nat_le s sites_max ≡ true) × (all_small ss ≡ true) = both_true (nat_le s sites_max) (all_small ss) h in (small_of s k.0, each_small ss k.1)
-
 record FirstPlace (c : Config) (s : ℕ) (p : Place) : Type 0 where
   small : s ≤ sites_max
   view : (v : SiteView) → p ≡ Running v → ViewFact c [] s v
-
-first_places : (c : Config) (ss : List ℕ) → Every Small ss → (s : ℕ) (p : Place) → place_in (row place_site s (map (first_place c) ss)) ≡ Some p → FirstPlace c s p
-first_places c [] h s p e = absurd (none_place p e)
-first_places c (t ∷ ts) h s p e =
-    (elim (t == s) as (λ b. (t == s) ≡ b → place_in (elim b [ true ↦ Some (first_place c t) | false ↦ row place_site s (map (first_place c) ts) ]) ≡ Some p → FirstPlace c s p) [
-      | true ↦ λ q f. subst (FirstPlace c s) (some_same (Running (fresh 1 _)) p f) (record { small = subst Small (equal t s q) h.0; view = λ v g. subst (ViewFact c [] s) (running_view _ v g) (fresh_fact c [] s 1 _ (λ n k own. k)) })
-      | false ↦ λ q f. first_places c ts h.1 s p f
-    ]) refl e
 
 first_booked : (c : Config) → Booked c (first_world c)
 first_booked c = (
@@ -384,7 +348,7 @@ first_booked c = (
 )
   where
     first : (c : Config) (s : ℕ) (p : Place) → place_at (first_world c) s ≡ Some p → FirstPlace c s p
-    first c s p here = first_places c _ (small_filter (λ s. nat_lt s (c.sites + 1)) all_sites (each_small all_sites refl)) s p here
+    first c = first_places c (FirstPlace c) (λ s own. record { small = own.0.1; view = λ v g. subst (ViewFact c [] s) (running_view _ v g) (fresh_fact c [] s 1 _ (λ n k own. k)) })
 
 pub run_booked : (c : Config) (lines : List ScheduleLine) → Booked c (run_in c lines)
 run_booked c lines = (every_run c (Both c) (both_kept c) (first_good c, first_booked c) lines).1

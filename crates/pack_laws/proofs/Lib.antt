@@ -39,3 +39,4 @@ pub use Rattle.lock_laws.proofs as of_lock_laws
 pub use Rattle.lock_laws.proofs.of_law_walks as of_law_walks
 pub use Rattle.lock_laws.proofs.of_run_laws as of_run_laws
 pub use Rattle.lock_laws.proofs.of_vector_laws as of_vector_laws
+pub use Rattle.role_steps.proofs as of_role_steps

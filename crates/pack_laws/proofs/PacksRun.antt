@@ -1,7 +1,6 @@
 -- In every run the versions of a file are begun, made and adopted where packs are.
-use Rattle.std.proofs.Common.{◌≡◌, ℕ, ◌+◌, ◌==◌, nat_lt, Bool, true, false, ◌&&◌, ◌||◌, not, cond, List, [], ◌∷◌, ◌++◌, map, Option, Some, None, refl, sym, ◌∙◌, ap, subst, inl, inr, arith}
+use Rattle.std.proofs.Common.{◌≡◌, ℕ, ◌+◌, ◌==◌, nat_lt, Bool, true, false, ◌&&◌, ◌||◌, cond, List, [], ◌∷◌, ◌++◌, map, Option, Some, None, refl, sym, ◌∙◌, ap, subst, inl, inr, arith}
 use Rattle.std.proofs.lemmas.Bool.Decides.{nat_tests}
-use Rattle.role_steps.proofs.of_plain_facts.Numbers.{equal}
 use Rattle.role_steps.proofs.of_plain_facts.Options.{some_same}
 use Rattle.role_steps.proofs.of_plain_facts.Tests.{both_true, not_false, or_other}
 use Rattle.locus_ids.specs.Sites.{has}
@@ -20,12 +19,13 @@ use Rattle.role_steps.specs.declared.synchronizing.OpenRow.{OpenRow}
 use Rattle.role_steps.specs.declared.synchronizing.OpenStage.{OpenStage}
 use Rattle.role_steps.specs.declared.synchronizing.OpenStage.TheVariants as stage
 use Rattle.lock_laws.specs.of_the_run.Steps.{is_dropped, is_forming, is_framed}
-use Rattle.lock_laws.specs.of_the_run.Worlds.{World, Place, Running, Stopped, Numbered, number_of, links_of, place_at, place_in, place_site, script_of, happened, numbered_from, told_onto, disk_of, puts, arms, passed, stops_with, cause_of, acts, fresh, root_copy, formatted, first_place, first_world, loses}
+use Rattle.lock_laws.specs.of_the_run.Worlds.{World, Place, Running, Stopped, Numbered, number_of, links_of, place_at, script_of, happened, numbered_from, told_onto, disk_of, puts, arms, passed, stops_with, cause_of, acts, fresh, root_copy, formatted, first_world, loses}
 use Rattle.lock_laws.specs.of_the_run.Kept.{WasSent, IsOwn, Kept}
 use Rattle.lock_laws.proofs.of_the_run.Boots.{at_each, acts_cases, every_newest, every_numbered, every_weaker}
 use Rattle.lock_laws.specs.of_vector_laws.Held.{OnDisk, copies_on}
 use Rattle.lock_laws.specs.of_vector_laws.Written.{past_of, Begun, WasBegun, WasGranted, InstancesAgree}
 use Rattle.lock_laws.proofs.of_vector_laws.SiteDisks.{SiteDisk, step_disk}
+use Rattle.lock_laws.proofs.of_law_walks.FirstWorld.{first_places}
 use Rattle.pack_laws.proofs.InstanceAgree.{run_agrees}
 use Rattle.lock_laws.specs.Going.{WasBegunAt, BegunAt, WasShutAt, ShutAt, InstanceGoesOn, InstancesGoOn}
 use Rattle.lock_laws.specs.Facts.{BodyFact, RowFact, OpenFact, TableFact, InEpochFact, ViewFact, NumberedFact, WorldFact}
@@ -335,9 +335,6 @@ all_kept c = record {
 
 -- ---- the first world ----
 
-none_place : (p : Place) → ◌≡◌ {A = Option Place} None (Some p) → ⊥
-none_place p e = cc
-
 roots_packed : (c : Config) (s : ℕ) (gs : List ℕ) → Every (λ (g : ℕ). HasPack c g s) gs → Every (CopyPacked c s) (map (root_copy c) gs)
 roots_packed c s [] h = tt
 roots_packed c s (g ∷ gs) h = (record { here = h.0; all = λ t e. e }, roots_packed c s gs h.1)
@@ -345,19 +342,14 @@ roots_packed c s (g ∷ gs) h = (record { here = h.0; all = λ t e. e }, roots_p
 formatted_packed : (c : Config) (s : ℕ) → Every (CopyPacked c s) (formatted c s)
 formatted_packed c s = roots_packed c s _ (passing (λ (g : ℕ). HasPack c g s) (λ g. has (pack_sites c g) s) all_groups (λ g e. e))
 
-first_packed : (c : Config) (ss : List ℕ) (s : ℕ) (p : Place) → place_in (row place_site s (map (first_place c) ss)) ≡ Some p → PlacePacked c s p
-first_packed c [] s p e = absurd (none_place p e)
-first_packed c (t ∷ ts) s p e =
-    (elim (t == s) as (λ b. (t == s) ≡ b → place_in (elim b [ true ↦ Some (first_place c t) | false ↦ row place_site s (map (first_place c) ts) ]) ≡ Some p → PlacePacked c s p) [
-      | true ↦ λ q f. subst (λ (n : ℕ). PlacePacked c n p) (equal t s q) (subst (PlacePacked c t) (some_same (Running (fresh 1 (formatted c t))) p f) (running_packed c t (fresh 1 (formatted c t)) (fresh_packed c t 1 (formatted c t) (formatted_packed c t))))
-      | false ↦ λ q f. first_packed c ts s p f
-    ]) refl e
+first_packed : (c : Config) (s : ℕ) (p : Place) → place_at (first_world c) s ≡ Some p → PlacePacked c s p
+first_packed c = first_places c (PlacePacked c) (λ s own. running_packed c s (fresh 1 (formatted c s)) (fresh_packed c s 1 (formatted c s) (formatted_packed c s)))
 
 first_world_packed : (c : Config) → WorldPacked c (first_world c)
 first_world_packed c = record {
   told = tt;
-  disks = λ s p here. (first_packed c _ s p here).disk;
-  views = λ s v here. (first_packed c _ s (Running v) here).view v refl;
+  disks = λ s p here. (first_packed c s p here).disk;
+  views = λ s v here. (first_packed c s (Running v) here).view v refl;
   packets = tt;
   underway = tt;
 }

@@ -1,5 +1,5 @@
 -- In every run changes are asked of what was asked to write.
-use Rattle.std.proofs.Common.{◌≡◌, ℕ, ◌+◌, ◌==◌, true, false, List, [], ◌∷◌, map, Option, Some, None, refl, sym, ◌∙◌, ap, subst, inl, inr}
+use Rattle.std.proofs.Common.{◌≡◌, ℕ, ◌+◌, List, [], ◌∷◌, map, Some, None, refl, sym, ◌∙◌, ap, subst, inl, inr}
 use Rattle.role_steps.proofs.of_plain_facts.Options.{some_same}
 use Rattle.locus_ids.specs.declared.ids.FileId.{FileId}
 use Rattle.locus_ids.specs.declared.config.Config.{Config}
@@ -13,7 +13,6 @@ use Rattle.wire_messages.specs.declared.body.Body.{Body}
 use Rattle.wire_messages.specs.declared.body.Body.TheVariants as body
 use Rattle.wire_messages.specs.declared.body.Opening.{Opening}
 use Rattle.role_steps.specs.Own.{Every, IsOwn as IsSentBy, Sends}
-use Rattle.role_steps.specs.Tables.{row}
 use Rattle.role_steps.specs.Views.{SiteView, Told, Shown, Outcome, Receives}
 use Rattle.role_steps.specs.declared.copies.FileCopy.{FileCopy}
 use Rattle.role_steps.specs.declared.users.Asking.{Asking}
@@ -21,7 +20,7 @@ use Rattle.role_steps.specs.declared.users.Asking.TheVariants as asking
 use Rattle.role_steps.specs.declared.users.WaitingCall.{WaitingCall}
 use Rattle.lock_laws.specs.of_the_run.Disks.{Disk, Booted, Whole, CutOff, boots, cut_disk}
 use Rattle.lock_laws.specs.of_the_run.Steps.{step}
-use Rattle.lock_laws.specs.of_the_run.Worlds.{World, Place, Running, Stopped, Numbered, links_of, place_at, place_in, place_site, script_of as places_of, happened, cut_told, newest_onto, numbered_from, disk_of, puts, arms, passed, stops_with, cause_of, acts, fresh, formatted, first_place}
+use Rattle.lock_laws.specs.of_the_run.Worlds.{World, Place, Running, Stopped, Numbered, links_of, place_at, script_of as places_of, happened, cut_told, newest_onto, numbered_from, disk_of, puts, arms, passed, stops_with, cause_of, acts, fresh, formatted}
 use Rattle.lock_laws.specs.of_the_run.Runs.{boots_as, packet_record, run_in}
 use Rattle.lock_laws.specs.of_the_run.Kept.{Among, Kept}
 use Rattle.lock_laws.proofs.of_the_run.Boots.{at_each, acts_cases, every_newest, every_weaker}
@@ -29,6 +28,7 @@ use Rattle.lock_laws.proofs.of_the_run.Events.{happened_keeps, puts_other, puts_
 use Rattle.lock_laws.proofs.of_the_run.Runs.{every_run}
 use Rattle.lock_laws.proofs.of_the_run.StepSends.{step_sends}
 use Rattle.lock_laws.proofs.of_run_laws.Run.{found_among}
+use Rattle.lock_laws.proofs.of_law_walks.FirstWorld.{first_views}
 use Rattle.pack_laws.specs.InstanceLaws.{AsksOpen}
 use Rattle.pack_laws.proofs.InstanceAgree.{run_serials}
 use Rattle.pack_laws.specs.WriterAsking.{NotToRead, AsksToWrite, IsAskedToWrite, AsksChange, ChangesAreAskedToWrite, ReadersChangeNothing, Serials, AnswersFact, AskingFact, script_of, WaitingFact, DescriptorFact, NotedBody, Noted, BodyFact, PacketFact, ViewFact, Fine}
@@ -227,21 +227,10 @@ asks_kept c = record {
 
 -- ---- the first world ----
 
-none_place : (p : Place) → ◌≡◌ {A = Option Place} None (Some p) → ⊥
-none_place p e = cc
-
-first_fact : (c : Config) (ss : List ℕ) (s : ℕ) (v : SiteView) → place_in (row place_site s (map (first_place c) ss)) ≡ Some (Running v) → ViewFact c (asked_by [] s v.boot) v
-first_fact c [] s v e = absurd (none_place (Running v) e)
-first_fact c (t ∷ ts) s v e =
-    (elim (t == s) as (λ b. place_in (elim b [ true ↦ Some (first_place c t) | false ↦ row place_site s (map (first_place c) ts) ]) ≡ Some (Running v) → ViewFact c (asked_by [] s v.boot) v) [
-      | true ↦ λ f. subst (λ (u : SiteView). ViewFact c (asked_by [] s u.boot) u) (running_view (fresh 1 (formatted c t)) v (some_same (Running (fresh 1 (formatted c t))) (Running v) f)) (fresh_fact c (asked_by [] s 1) 1 (formatted c t))
-      | false ↦ λ f. first_fact c ts s v f
-    ]) e
-
 -- ---- the laws ----
 
 run_asks : (c : Config) (lines : List ScheduleLine) → WorldFact c (run_in c lines)
-run_asks c lines = every_run c (WorldFact c) (asks_kept c) (record { views = λ s v here. first_fact c _ s v here; packets = tt }) lines
+run_asks c lines = every_run c (WorldFact c) (asks_kept c) (record { views = first_views c (λ s v. ViewFact c (asked_by [] s v.boot) v) (λ s own. fresh_fact c (asked_by [] s 1) 1 (formatted c s)); packets = tt }) lines
 
 change_asked : (G : Serials) (b : Body) (serial : ℕ) → BodyFact G b → AsksChange serial b → G serial
 change_asked G (body.Op number n o seen) serial h k = subst G k.0 (h k.1)

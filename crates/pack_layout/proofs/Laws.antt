@@ -11,7 +11,7 @@ use Rattle.field_codec.specs.Lists.{read_times}
 use Rattle.field_codec.proofs.Laws.{Lawful, u8_laws, u16_laws, u32_laws, within_laws, pair_laws, made_laws, exactly_laws, zeros_laws, empty_laws}
 use Rattle.field_codec.proofs.Sums.{variant_laws, kind_laws, no_kind_laws, tagged_laws}
 use Rattle.field_codec.proofs.Lists.{list_laws}
-use Rattle.pack_layout.specs.Layout.{kind_number, open_gate}
+use Rattle.pack_layout.specs.Layout.{layout, kind_number, open_gate}
 use Rattle.pack_layout.specs.Fields.{repeated, kinds, sets, stamps, slot_of, parts_of, slots}
 
 -- so many items, with no tie between them
@@ -59,4 +59,4 @@ gate_is_byte (suc i) = omega arith
 pub slots_laws : Lawful slots
 slots_laws = made_laws slot_of parts_of (λ _. refl) (λ _. refl)
     (pair_laws (exactly_laws (open_gate ∷ []) gate_is_byte) (pair_laws (within_laws (from_to 0 2) u8 u8_laws) (pair_laws kinds_laws (pair_laws u16_laws (pair_laws sets_laws (pair_laws u32_laws (pair_laws stamps_laws
-    (pair_laws (repeated_laws sites_max u32_laws) (pair_laws (repeated_laws slot_pages u16_laws) (pair_laws (repeated_laws content_tables_max u16_laws) (zeros_laws 308)))))))))))
+    (pair_laws (repeated_laws sites_max u32_laws) (pair_laws (repeated_laws slot_pages u16_laws) (pair_laws (repeated_laws content_tables_max u16_laws) (zeros_laws layout.rest_length)))))))))))

@@ -1,4 +1,4 @@
--- A slot is its 512 bytes, both ways.
+-- A slot is its bytes, both ways.
 use Rattle.std.proofs.Common.{◌≡◌, ℕ, suc, ◌^◌, ◌<◌, ◌≤◌, ◌⊎◌, inl, inr, true, List, [], ◌∷◌, ◌++◌, length, get_or, min, replicate, Result, Ok, Err, Option, Some, refl, sym, ap, ◌∙◌, arith}
 use Rattle.std.specs.List.{flat_map}
 use Rattle.std.specs.Result.{IfOk}
@@ -15,7 +15,7 @@ use Rattle.field_codec.proofs.Loop.{spelled_alike}
 use Rattle.pack_layout.specs.declared.slot.Slot.{Slot}
 use Rattle.pack_layout.specs.declared.slot.BadSlot.{BadSlot}
 use Rattle.stored_versions.specs.of_file_content.Pages.{pages_of, tables_of}
-use Rattle.pack_layout.specs.Layout.{open_gate, kind_number, slot_bytes, IsSlot, NameApart}
+use Rattle.pack_layout.specs.Layout.{layout, open_gate, kind_number, slot_bytes, IsSlot, NameApart}
 use Rattle.pack_layout.specs.Fields.{repeated, kinds, slots}
 use Rattle.pack_layout.proofs.Laws.{slots_laws}
 
@@ -31,7 +31,7 @@ repeated_spelled n c xs =
 spelled : (s : Slot) → slots.spell s ≡ slot_bytes s
 spelled s =
     let body : List ℕ → List ℕ → List ℕ → List ℕ → List ℕ = λ kind vector pages tables.
-    open_gate ∷ s.turn ∷ (kind ++ (to_be_bytes w16 s.ino ++ (to_be_bytes w16 s.set.0 ++ (to_be_bytes w32 s.size ++ ((s.stamp.site ∷ to_be_bytes w32 s.stamp.n) ++ (vector ++ (pages ++ (tables ++ replicate 308 0)))))))) in
+    open_gate ∷ s.turn ∷ (kind ++ (to_be_bytes w16 s.ino ++ (to_be_bytes w16 s.set.0 ++ (to_be_bytes w32 s.size ++ ((s.stamp.site ∷ to_be_bytes w32 s.stamp.n) ++ (vector ++ (pages ++ (tables ++ replicate layout.rest_length 0)))))))) in
     let v : List ℕ = (repeated sites_max u32).spell s.vector in
     let p : List ℕ = (repeated slot_pages u16).spell s.pages in
     let t : List ℕ = (repeated content_tables_max u16).spell s.tables in

@@ -9,7 +9,7 @@ use Rattle.field_codec.specs.Codec.{Codec, u8, u16, u32, u8_in, pair, made, exac
 use Rattle.field_codec.specs.Sums.{variant, kind, no_kind, tagged}
 use Rattle.field_codec.specs.Lists.{list}
 use Rattle.pack_layout.specs.declared.slot.Slot.{Slot}
-use Rattle.pack_layout.specs.Layout.{kind_number, open_gate}
+use Rattle.pack_layout.specs.Layout.{layout, kind_number, open_gate}
 
 -- just n items
 abbrev pub repeated : {A : Type 0} → ℕ → Codec A → Codec (List A)
@@ -44,4 +44,4 @@ abbrev pub parts_of : Slot → Parts
 parts_of s = (tt, (s.turn, (s.kind, (s.ino, (s.set, (s.size, (s.stamp, (s.vector, (s.pages, (s.tables, tt))))))))))
 
 abbrev pub slots : Codec Slot
-slots = made slot_of parts_of (pair (exactly (open_gate ∷ [])) (pair (u8_in 0 2) (pair kinds (pair u16 (pair sets (pair u32 (pair stamps (pair (repeated sites_max u32) (pair (repeated slot_pages u16) (pair (repeated content_tables_max u16) (zeros 308)))))))))))
+slots = made slot_of parts_of (pair (exactly (open_gate ∷ [])) (pair (u8_in 0 2) (pair kinds (pair u16 (pair sets (pair u32 (pair stamps (pair (repeated sites_max u32) (pair (repeated slot_pages u16) (pair (repeated content_tables_max u16) (zeros layout.rest_length)))))))))))

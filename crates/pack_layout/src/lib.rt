@@ -4,6 +4,7 @@
 
 mod check;
 mod half;
+pub mod layout;
 mod places;
 mod read;
 mod slot;

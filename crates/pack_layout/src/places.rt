@@ -3,23 +3,11 @@ ghost use Rattle.locus_ids.specs.Sizes.{inodes_max, pack_pages, pack_tables};
 ghost use Rattle.pack_layout.specs.Layout.{area_at, area_length, page_at, slot_at, table_at};
 
 use crate::Half;
+use crate::layout::{
+    AREA_LENGTH, LABEL_LENGTH, PAGES_AT, SLOT_LENGTH, SLOTS_AT, TABLE_LENGTH, TABLES_AT,
+};
 use locus_ids::Ino;
-
-const LABEL_LENGTH: u32 = 1_024;
-
-const AREA_LENGTH: u32 = 5_309_440;
-
-const SLOTS_AT: u32 = 1_024;
-
-const SLOT_LENGTH: u32 = 512;
-
-const TABLES_AT: u32 = 2_098_176;
-
-const TABLE_LENGTH: u32 = 1_024;
-
-const PAGES_AT: u32 = 2_163_712;
-
-const PAGE_LENGTH: u32 = 1_024;
+use locus_ids::sizes::PAGE_BYTES;
 
 /// The length of a disk with so many packs, in bytes.
 pub fn disk_len(packs: u8) -> u32
@@ -53,10 +41,10 @@ pub fn slot_at(base: u32, ino: Ino, half: Half) -> u32
     requires { base + area_length < 2 ^ 32 }
     ensures { result ≡ slot_at base ino half }
 {
-    let first = base + SLOTS_AT + 2 * SLOT_LENGTH * (u32::from(ino.get()) - 1);
+    let first = base + SLOTS_AT + 2 * SLOT_LENGTH as u32 * (u32::from(ino.get()) - 1);
     match half {
         Half::First => first,
-        Half::Second => first + SLOT_LENGTH,
+        Half::Second => first + SLOT_LENGTH as u32,
     }
 }
 
@@ -66,7 +54,7 @@ pub fn table_at(base: u32, table: u16) -> u32
     requires table { table < pack_tables }
     ensures { result ≡ table_at base table }
 {
-    base + TABLES_AT + TABLE_LENGTH * table as u32
+    base + TABLES_AT + TABLE_LENGTH as u32 * table as u32
 }
 
 /// The place of a data page, in the area from `base`.
@@ -75,5 +63,5 @@ pub fn page_at(base: u32, page: u16) -> u32
     requires page { page < pack_pages }
     ensures { result ≡ page_at base page }
 {
-    base + PAGES_AT + PAGE_LENGTH * page as u32
+    base + PAGES_AT + PAGE_BYTES as u32 * page as u32
 }

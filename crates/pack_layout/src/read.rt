@@ -4,10 +4,11 @@ ghost use Rattle.field_codec.specs.Codec.{u16, u32, whole};
 ghost use Rattle.field_codec.specs.Lists.{read_times};
 ghost use Rattle.field_codec.specs.Reads.{Reads};
 ghost use Rattle.pack_layout.specs.declared.slot.Slot.{Slot};
-ghost use Rattle.pack_layout.specs.Layout.{slot_bytes, IsSlot, open_gate};
+ghost use Rattle.pack_layout.specs.Layout.{layout, slot_bytes, IsSlot, open_gate};
 ghost use Rattle.pack_layout.specs.Fields.{kinds, stamps, slots, repeated};
 
 use crate::check::is_slot;
+use crate::layout::{REST_LENGTH, SLOT_LENGTH};
 use crate::{BadSlot, Slot};
 use field_codec::{FieldFault, Fields};
 use locus_ids::sizes::{CONTENT_TABLES, SITES, SLOT_PAGES};
@@ -79,7 +80,7 @@ fn read_fields(fields: &mut Fields) -> Result<Slot, FieldFault>
     let vector = Vector::from_parts(read_counters(fields)?);
     let pages = read_pages(fields)?;
     let tables = read_tables(fields)?;
-    fields.zeros(308)?;
+    fields.zeros(REST_LENGTH)?;
     Ok(Slot {
         turn,
         kind,
@@ -94,7 +95,7 @@ fn read_fields(fields: &mut Fields) -> Result<Slot, FieldFault>
 }
 
 fn read_whole(bytes: &[u8]) -> Result<Slot, FieldFault>
-    requires { length bytes.now ≡ 512 }
+    requires { length bytes.now ≡ layout.slot_length }
     ensures exact { result ≡ whole slots bytes.now }
     ensures found { IfOk result (λ slot. bytes.now ≡ slot_bytes slot) }
 {
@@ -102,7 +103,7 @@ fn read_whole(bytes: &[u8]) -> Result<Slot, FieldFault>
 }
 
 fn read_all(bytes: &[u8]) -> Result<Slot, FieldFault>
-    requires { length bytes.now ≡ 512 }
+    requires { length bytes.now ≡ layout.slot_length }
     ensures { result ≡ whole slots bytes.now }
 {
     let mut fields = Fields::new(bytes);
@@ -113,7 +114,7 @@ fn read_all(bytes: &[u8]) -> Result<Slot, FieldFault>
 
 /// The slot of an inode that stands in these bytes: `None` exactly where its gate isn't open, `BadSlot` exactly where it
 /// is and the bytes are none of a slot of that inode.
-pub fn read_slot(bytes: &[u8; 512], ino: u16) -> Result<Option<Slot>, BadSlot>
+pub fn read_slot(bytes: &[u8; SLOT_LENGTH], ino: u16) -> Result<Option<Slot>, BadSlot>
     ensures closed { (result ≡ Ok None) ↔ (slice_index bytes.now 0 ≢ open_gate) }
     ensures slot { (s : Slot) → (result ≡ Ok (Some s)) ↔ ((bytes.now ≡ slot_bytes s) × IsSlot s × (s.ino ≡ ino)) }
     ensures bad { IsErr result ↔ ((slice_index bytes.now 0 ≡ open_gate) × ((s : Slot) → bytes.now ≡ slot_bytes s → IsSlot s → s.ino ≡ ino → ⊥)) }

@@ -5,7 +5,7 @@ use Rattle.disk_model.specs.Images.{Torn, overwritten}
 use Rattle.pack_layout.specs.of_file_content.Pages.{pages_of}
 use Rattle.pack_layout.specs.declared.half.Half.{Half}
 use Rattle.pack_layout.specs.declared.half.Half.TheVariants.{First}
-use Rattle.pack_layout.specs.Layout.{slot_at, IsSlot, NamePages, other_half}
+use Rattle.pack_layout.specs.Layout.{layout, slot_at, IsSlot, NamePages, other_half}
 use Rattle.inode_switch.specs.View.{SameView}
 use Rattle.pack_slots.specs.declared.inode_copy.InodeCopy.{InodeCopy}
 use Rattle.pack_slots.specs.Copies.{copy_of, numbers_in}
@@ -49,7 +49,7 @@ closed_if loses gate bytes = if loses then overwritten bytes gate (0 ∷ []) els
 -- a mount so far: only slots have changed, the view is as before, each copy still counts, each open slot has its tables as
 -- before, and gates were closed in order
 pub record KeepsCopies (base : ℕ) (copies : List (Option InodeCopy)) (old new : List ℕ) : Type 0 where
-  pub slots : Torn (base + 1024) 2097152 old new
+  pub slots : Torn (base + layout.slots_at) layout.slots_length old new
   pub view : SameView base old new
   pub found : (ino : ℕ) → 1 ≤ ino → ino ≤ inodes_max → (loses : Bool) × IsFound base ino new (copy_of copies ino) loses
   pub tables : KeepsTables base old new

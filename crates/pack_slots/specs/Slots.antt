@@ -6,7 +6,7 @@ use Rattle.pack_layout.specs.declared.slot.Slot.{Slot}
 use Rattle.pack_layout.specs.declared.slot.BadSlot.{BadSlot}
 use Rattle.pack_layout.specs.declared.half.Half.{Half}
 use Rattle.pack_layout.specs.declared.half.Half.TheVariants.{First, Second}
-use Rattle.pack_layout.specs.Layout.{slot_at, slot_bytes, numbers_of, NamePages, IsSlot, other_half}
+use Rattle.pack_layout.specs.Layout.{layout, slot_at, slot_bytes, numbers_of, NamePages, IsSlot, other_half}
 use Rattle.inode_switch.specs.View.{is_open, turn, newer, counting}
 use Rattle.inode_switch.specs.Replace.{IsNext}
 use Rattle.inode_switch.specs.Slots.{HoldsTables}
@@ -16,7 +16,7 @@ use Rattle.pack_slots.specs.Copies.{numbers_in, IsCopy, IsSlotOf, ShowsSlot, Sho
 -- a slot of this inode stands at this place
 pub record HasSlot (ino place : ℕ) (image : List ℕ) : Type 0 where
   pub slot : Slot
-  pub bytes : bytes_at image place 512 ≡ slot_bytes slot
+  pub bytes : bytes_at image place layout.slot_length ≡ slot_bytes slot
   pub is : IsSlot slot
   pub own : slot.ino ≡ ino
 
@@ -29,7 +29,7 @@ pub record HasMore (base : ℕ) (slot : Slot) (more image : List ℕ) : Type 0 w
 pub record HasNumbers (base place : ℕ) (image : List ℕ) : Type 0 where
   pub slot : Slot
   pub more : List ℕ
-  pub bytes : bytes_at image place 512 ≡ slot_bytes slot
+  pub bytes : bytes_at image place layout.slot_length ≡ slot_bytes slot
   pub is : IsSlot slot
   pub has : HasMore base slot more image
 
@@ -54,7 +54,7 @@ pub record IsGoodInode (base ino : ℕ) (image : List ℕ) : Type 0 where
 -- the copy is the slot that counts, at its place
 pub record IsCounting (base ino : ℕ) (image : List ℕ) (copy : InodeCopy) : Type 0 where
   pub place : counting_place base ino image ≡ Some (slot_at base ino copy.half)
-  pub bytes : bytes_at image (slot_at base ino copy.half) 512 ≡ slot_bytes copy.slot
+  pub bytes : bytes_at image (slot_at base ino copy.half) layout.slot_length ≡ slot_bytes copy.slot
   pub tables : HoldsTables image base copy.slot (numbers_in copy)
 
 abbrev pub IsRecovered : ℕ → ℕ → List ℕ → Option InodeCopy → Type 0
@@ -64,12 +64,12 @@ IsRecovered base ino image (Some copy) = IsCounting base ino image copy
 -- what was read at the place of a slot
 abbrev pub IsRead : ℕ → ℕ → List ℕ → Result (Option Slot) BadSlot → Type 0
 IsRead ino place image (Ok None) = is_open image place ≡ false
-IsRead ino place image (Ok (Some slot)) = (bytes_at image place 512 ≡ slot_bytes slot) × IsSlot slot × (slot.ino ≡ ino)
+IsRead ino place image (Ok (Some slot)) = (bytes_at image place layout.slot_length ≡ slot_bytes slot) × IsSlot slot × (slot.ino ≡ ino)
 IsRead ino place image (Err bad) = (is_open image place ≡ true) × (HasSlot ino place image → ⊥)
 
 -- both slots are open, and the turn of this copy follows that of the other
 pub record Wins (base ino : ℕ) (copy : InodeCopy) (image : List ℕ) : Type 0 where
-  pub bytes : bytes_at image (slot_at base ino copy.half) 512 ≡ slot_bytes copy.slot
+  pub bytes : bytes_at image (slot_at base ino copy.half) layout.slot_length ≡ slot_bytes copy.slot
   pub beside : is_open image (slot_at base ino (other_half copy.half)) ≡ true
   pub other : HasSlot ino (slot_at base ino (other_half copy.half)) image
   pub next : IsNext (turn image (slot_at base ino (other_half copy.half))) copy.slot.turn

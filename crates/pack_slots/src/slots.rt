@@ -10,6 +10,7 @@ ghost use Rattle.pack_slots.specs.Found.{copy_in, is_beside};
 use crate::InodeCopy;
 use disk_model::{Disk, DiskFault};
 use locus_ids::{Ino, ItemList};
+use pack_layout::layout::SLOT_LENGTH;
 use pack_layout::{BadSlot, Half, Slot, newer, read_slot, slot_at};
 use std::alloc::Global;
 
@@ -92,7 +93,7 @@ fn read_at<D: Disk>(
     ensures how { (D.moment disk.new).how ≡ (D.moment disk.old).how }
 {
     let _len = disk.len();
-    let mut bytes = [0; 512];
+    let mut bytes = [0; SLOT_LENGTH];
     disk.read(slot_at(base, ino, half), &mut bytes)?;
     Ok(read_slot(&bytes, ino.get()))
 }

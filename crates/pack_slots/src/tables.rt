@@ -12,6 +12,7 @@ use crate::{InodeCopy, MountFault};
 use disk_model::{Disk, DiskFault};
 use locus_ids::sizes::{CONTENT_PAGES, PACK_PAGES, PAGE_BYTES, SLOT_PAGES, TABLE_PAGES};
 use locus_ids::{ItemList, NoMemory};
+use pack_layout::layout::TABLE_LENGTH;
 use pack_layout::{are_apart, are_none, read_table, table_at};
 
 /// Reads the tables of all copies, each once, inodes ascending. `BadSlot` names the first inode whose tables don't name
@@ -97,7 +98,7 @@ fn read_numbers<D: Disk>(
 {
     let _len = disk.len();
     for k in 0..tables.len() {
-        let mut bytes = [0; PAGE_BYTES];
+        let mut bytes = [0; TABLE_LENGTH];
         disk.read(table_at(base, tables[k]), &mut bytes)?;
         let first = SLOT_PAGES + TABLE_PAGES * k;
         read_table(&bytes, &mut numbers[first..first + TABLE_PAGES]);

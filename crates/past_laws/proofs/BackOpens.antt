@@ -51,7 +51,7 @@ use Rattle.call_rules.specs.Scripts.{wants}
 use Rattle.tree_model.specs.Opening.{is_placed}
 use Rattle.past_laws.proofs.RowsStart.{all_of_filter, same_so}
 use Rattle.past_laws.proofs.RowsTrees.{Within, own_call, answered_as, open_request, site_of, refused_is}
-use Rattle.locus_ids.specs.Sizes.{site_inodes}
+use Rattle.locus_ids.specs.Sizes.{site_inodes, sites_max}
 use Rattle.locus_ids.specs.declared.ids.Mode.TheVariants as mode
 use Rattle.tree_model.specs.Opening as old
 use Rattle.tree_model.specs.State as state
@@ -243,7 +243,7 @@ placed_back c before p a e id k found m f stamp ss granted h = at m granted h
         (ap (λ o. same_version o stamp) (sym (a.trees.held e ss f)) ∙ parts.1))
     at mode.Make g h = makes h
 
-pub back_grant : (c : Config) (before : Trace) (p : Past) (e : EpochId) (id : CallId) (request : ℕ) (i : Serial) (m : Mode) (f : FileId) (stamp : Option Stamp) (ss : ℕ) → c.sites ≤ 16 → Agrees c before p → may_follow c p (says.Grant e id request i m f stamp ss) ≡ true → MayGrant c before e id request i m f stamp ss
+pub back_grant : (c : Config) (before : Trace) (p : Past) (e : EpochId) (id : CallId) (request : ℕ) (i : Serial) (m : Mode) (f : FileId) (stamp : Option Stamp) (ss : ℕ) → c.sites ≤ sites_max → Agrees c before p → may_follow c p (says.Grant e id request i m f stamp ss) ≡ true → MayGrant c before e id request i m f stamp ss
 back_grant c before p e id request i m f stamp ss few a h = record {
   opens = open_back c before p a e id request m f it.call it.found inside.0 asked.0 served.0;
   gives = both t.started (is_none (old.open_refusal (history c before) t m id f) && ((i.us == id.site) && (not (state.is_granted t i) && old.is_placed (history c before) t id m f stamp ss))) (sym (a.trees.started e f.group) ∙ started.0)
@@ -302,7 +302,7 @@ back_grant c before p e id request i m f stamp ss few a h = record {
     unrefused : is_none (old.open_refusal (history c before) t m id f) ≡ true
     unrefused = ap is_none (sym (refusal_is c before p a e m f id it.call it.found site.low site.high)) ∙ asked_placed.0
 
-pub back_refuse : (c : Config) (before : Trace) (p : Past) (e : EpochId) (id : CallId) (request : ℕ) (i : Serial) (m : Mode) (f : FileId) (why : Refusal) → c.sites ≤ 16 → Agrees c before p → may_follow c p (says.Refuse e id request i m f why) ≡ true → MayRefuse c before e id request m f why
+pub back_refuse : (c : Config) (before : Trace) (p : Past) (e : EpochId) (id : CallId) (request : ℕ) (i : Serial) (m : Mode) (f : FileId) (why : Refusal) → c.sites ≤ sites_max → Agrees c before p → may_follow c p (says.Refuse e id request i m f why) ≡ true → MayRefuse c before e id request m f why
 back_refuse c before p e id request i m f why few a h = record {
   opens = open_back c before p a e id request m f it.call it.found inside.0 asked.0 served.0;
   gives = both t.started (is_unnumbered m f && refuses (history c before) t id m f why (old.open_refusal (history c before) t m id f)) (sym (a.trees.started e f.group) ∙ started.0)

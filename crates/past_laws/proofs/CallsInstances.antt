@@ -8,7 +8,7 @@ use Rattle.locus_ids.specs.declared.ids.Serial.{Serial}
 use Rattle.trace_book.specs.declared.descriptor.Descriptor.{Descriptor}
 use Rattle.trace_book.specs.declared.record.Record.{Record}
 use Rattle.trace_book.specs.declared.record.Record.TheVariants as says
-use Rattle.file_effects.specs.declared.work.Work.{Work}
+use Rattle.tree_model.specs.of_file_effects.declared.work.Work.{Work}
 use Rattle.tree_model.specs.Folds.{Trace}
 use Rattle.promises.specs.of_lawful_trace.Lawful.{MayCome}
 use Rattle.promises.specs.of_lawful_trace.Tables.{descriptor, uses_of, use_number, close_of, has_named, is_call}

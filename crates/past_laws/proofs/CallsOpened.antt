@@ -14,8 +14,8 @@ use Rattle.trace_book.specs.Same.{same_epoch, same_serial}
 use Rattle.trace_book.specs.declared.descriptor.Descriptor.{Descriptor}
 use Rattle.trace_book.specs.declared.record.Record.{Record}
 use Rattle.trace_book.specs.declared.record.Record.TheVariants as says
-use Rattle.file_effects.specs.Works.{committed}
-use Rattle.file_effects.specs.declared.work.Work.{Work}
+use Rattle.tree_model.specs.of_file_effects.Works.{committed}
+use Rattle.tree_model.specs.of_file_effects.declared.work.Work.{Work}
 use Rattle.tree_model.specs.declared.instance.Granted.{Granted}
 use Rattle.tree_model.specs.Calls.{granted_to}
 use Rattle.tree_model.specs.Folds.{Trace}

@@ -16,7 +16,7 @@ use Rattle.call_rules.specs.Walks.{root_of}
 use Rattle.commit_graph.specs.Vectors.{numbers_from}
 use Rattle.tree_model.specs.Packs.{has_pack}
 use Rattle.trace_book.specs.declared.descriptor.Beginning.{Beginning}
-use Rattle.file_effects.specs.Works.{committed}
+use Rattle.tree_model.specs.of_file_effects.Works.{committed}
 use Rattle.commit_graph.specs.Grants.{is_read}
 use Rattle.tree_model.specs.declared.instance.Granted.{Granted}
 use Rattle.tree_model.specs.declared.instance.Instance.{Instance as TreeInstance}

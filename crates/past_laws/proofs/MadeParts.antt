@@ -7,9 +7,9 @@ use Rattle.locus_ids.specs.declared.ids.FileId.{FileId}
 use Rattle.trace_book.specs.declared.operation.Op.{Op}
 use Rattle.trace_book.specs.declared.operation.Op.TheVariants as op
 use Rattle.trace_book.specs.declared.operation.Outcome.{Outcome}
-use Rattle.file_effects.specs.Effects.{Effect, is_refusal}
-use Rattle.file_effects.specs.Works.{operated, counted, carried_out}
-use Rattle.file_effects.specs.declared.work.Work.{Work}
+use Rattle.tree_model.specs.of_file_effects.Effects.{Effect, is_refusal}
+use Rattle.tree_model.specs.of_file_effects.Works.{operated, counted, carried_out}
+use Rattle.tree_model.specs.of_file_effects.declared.work.Work.{Work}
 use Rattle.tree_model.specs.Working.{operated_by}
 use Rattle.promises.specs.Past.{CallSoFar, Copy, Epoch, Instance, Making, Past}
 use Rattle.promises.specs.After.{is_copy_below, is_id, with_known, with_all_known}

@@ -1,6 +1,7 @@
 -- Each record keeps where files are.
 use Rattle.std.proofs.Common.{◌≡◌, ℕ, ◌≤◌, ◌+◌, ◌==◌, ◌||◌, ◌&&◌, not, Bool, true, false, cond, List, [], ◌∷◌, ◌++◌, filter, fold, map, Option, Some, refl, sym, ap, subst, ◌∙◌}
 use Rattle.std.specs.List.{list_any, list_all}
+use Rattle.locus_ids.specs.Sizes.{sites_max}
 use Rattle.locus_ids.specs.Sites.{has}
 use Rattle.locus_ids.specs.declared.config.Config.{Config}
 use Rattle.locus_ids.specs.declared.sites.Members.{Members}
@@ -18,7 +19,7 @@ use Rattle.trace_book.specs.declared.record.Record.TheVariants as rec
 use Rattle.trace_book.specs.declared.reply.Reply.{Reply}
 use Rattle.call_rules.specs.Descriptors.{beginning}
 use Rattle.call_rules.specs.declared.answer.Answer.{Answer}
-use Rattle.file_effects.specs.Works.{committed}
+use Rattle.tree_model.specs.of_file_effects.Works.{committed}
 use Rattle.tree_model.specs.declared.instance.Granted.{Granted}
 use Rattle.tree_model.specs.declared.instance.Instance.{Instance as TreeInstance}
 use Rattle.tree_model.specs.Epochs.{is_in}
@@ -139,7 +140,7 @@ commits c before p f site stamp y a it m = epochs_again c (with_making c f site 
 
 -- An adoption.
 
-adopt_packed : (c : Config) (before : Trace) (p : Past) (f : FileId) (site : ℕ) (stamp : Stamp) → c.sites ≤ 16 → is_of c site ≡ true → MayAdopt c before f site stamp → Agrees c before p → has_pack c f.group site ≡ true
+adopt_packed : (c : Config) (before : Trace) (p : Past) (f : FileId) (site : ℕ) (stamp : Stamp) → c.sites ≤ sites_max → is_of c site ≡ true → MayAdopt c before f site stamp → Agrees c before p → has_pack c f.group site ≡ true
 adopt_packed c before p f site stamp few ours may a = over (any_finds (λ (m : Making). same_file m.file f) p.files made)
   where
     made : is_made p.files f ≡ true
@@ -158,7 +159,7 @@ adopt_packed c before p f site stamp few ours may a = over (any_finds (λ (m : M
 
 -- Each record.
 
-pub packed_step : (c : Config) (what : Record) (before : Trace) (p : Past) → c.sites ≤ 16 → MayCome c before what → speaks_of_sites c what ≡ true → Agrees c before p → ArePacked c (after c what p)
+pub packed_step : (c : Config) (what : Record) (before : Trace) (p : Past) → c.sites ≤ sites_max → MayCome c before what → speaks_of_sites c what ≡ true → Agrees c before p → ArePacked c (after c what p)
 packed_step c (rec.Up site boot) before p few may ours a = packed_as_said c (after c (rec.Up site boot) p) (sites_kept c p.files p.epochs p.calls p.sites (has_number site) _ (λ s. refl) (λ s. refl) (packed_of_past c p a.packed))
 packed_step c (rec.Stopped site why) before p few may ours a = packed_as_said c (after c (rec.Stopped site why) p)
     (sites_kept c p.files _ _ _ (has_number site) _ (λ s. refl) (λ s. refl) (calls_kept c p.files _ _ p.calls (λ k. k.id.site == site) _ (λ k. refl) (λ k. refl) (sites_kept c p.files _ p.calls p.sites (has_number site) _ (λ s. refl) (λ s. refl) (gone c p site a.packed))))

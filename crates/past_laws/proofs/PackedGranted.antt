@@ -2,6 +2,7 @@
 use Rattle.std.proofs.Common.{◌≡◌, ℕ, ◌≤◌, ◌==◌, ◌||◌, ◌&&◌, Bool, true, false, cond, List, [], ◌∷◌, Option, Some, None, refl, sym, ap, subst, ◌∙◌}
 use Rattle.std.specs.List.{find, list_any, list_all}
 use Rattle.std.specs.Option.{is_none, option_map, option_or}
+use Rattle.locus_ids.specs.Sizes.{sites_max}
 use Rattle.locus_ids.specs.Sites.{has}
 use Rattle.locus_ids.specs.declared.config.Config.{Config}
 use Rattle.locus_ids.specs.declared.sites.Members.{Members}
@@ -128,7 +129,7 @@ make_good c before p e id f h = ap (λ d. is_within (making_set t id) (packs_of 
 
 -- The storage site has a pack.
 
-pub granted_packed : (c : Config) (before : Trace) (p : Past) (e : EpochId) (id : CallId) (request : ℕ) (i : Serial) (m : Mode) (f : FileId) (stamp : Option Stamp) (ss : ℕ) → c.sites ≤ 16 → MayGrant c before e id request i m f stamp ss → Agrees c before p → has_pack c f.group ss ≡ true
+pub granted_packed : (c : Config) (before : Trace) (p : Past) (e : EpochId) (id : CallId) (request : ℕ) (i : Serial) (m : Mode) (f : FileId) (stamp : Option Stamp) (ss : ℕ) → c.sites ≤ sites_max → MayGrant c before e id request i m f stamp ss → Agrees c before p → has_pack c f.group ss ≡ true
 granted_packed c before p e id request i m f stamp ss few may a = over m (refusal_none c before p e id request i m f stamp ss may)
   where
     t : TreeState

@@ -2,6 +2,7 @@
 use Rattle.std.proofs.Common.{◌≡◌, ℕ, ◌≤◌, ◌==◌, ◌||◌, ◌&&◌, nat_le, not, Bool, true, false, cond, List, [], ◌∷◌, filter, refl, sym, ap, subst, ◌∙◌, arith}
 use Rattle.std.proofs.lemmas.Bool.Decides.{nat_tests}
 use Rattle.std.specs.List.{list_any, list_all}
+use Rattle.locus_ids.specs.Sizes.{sites_max}
 use Rattle.locus_ids.specs.Sites.{has}
 use Rattle.locus_ids.specs.declared.config.Config.{Config}
 use Rattle.locus_ids.specs.declared.sites.Sites.{Sites}
@@ -40,8 +41,8 @@ packed_as_said c p a = record { held = a.held; left = a.left; joined = a.joined;
 -- Sites of a set.
 
 -- a site of the one set is one of the other
-pub has_within : (a b : Sites) (site : ℕ) → is_within a b ≡ true → 1 ≤ site → site ≤ 16 → has a site ≡ true → has b site ≡ true
-has_within a b site h low high own = over (any_finds (λ m. m == site) all_sites (among_numbers site 1 16 low (omega (arith, high))))
+pub has_within : (a b : Sites) (site : ℕ) → is_within a b ≡ true → 1 ≤ site → site ≤ sites_max → has a site ≡ true → has b site ≡ true
+has_within a b site h low high own = over (any_finds (λ m. m == site) all_sites (among_numbers site 1 sites_max low (omega (arith, high))))
   where
     both_have : (x y : Bool) → (not x || y) ≡ true → x ≡ true → y ≡ true
     both_have true y k l = k
@@ -50,7 +51,7 @@ has_within a b site h low high own = over (any_finds (λ m. m == site) all_sites
     over : Finds (λ m. m == site) all_sites → has b site ≡ true
     over it = both_have (has a site) (has b site) (subst (λ n. (not (has a n) || has b n) ≡ true) (number_eq it.one site it.passes) (all_found (λ n. not (has a n) || has b n) (λ m. m == site) all_sites it.one it.found h)) own
 
-pub of_bounds : (c : Config) (site : ℕ) → c.sites ≤ 16 → is_of c site ≡ true → (1 ≤ site) × (site ≤ 16)
+pub of_bounds : (c : Config) (site : ℕ) → c.sites ≤ sites_max → is_of c site ≡ true → (1 ≤ site) × (site ≤ sites_max)
 of_bounds c site few h =
     let parts = both_parts (nat_le 1 site) (nat_le site c.sites) h in
     (least parts.0, most parts.1)
@@ -58,7 +59,7 @@ of_bounds c site few h =
     least : nat_le 1 site ≡ true → 1 ≤ site
     least e = grind (arith, nat_tests)
 
-    most : nat_le site c.sites ≡ true → site ≤ 16
+    most : nat_le site c.sites ≡ true → site ≤ sites_max
     most e = let k : site ≤ c.sites = grind (arith, nat_tests) in omega (arith, few, k)
 
 -- What a site has, now and in an epoch.

@@ -2,6 +2,7 @@
 use Rattle.std.proofs.Common.{◌≡◌, ℕ, zero, suc, ◌&&◌, ◌||◌, nat_lt, Bool, true, false, filter, replicate, take, Option, Some, None, refl, sym, ap, ◌∙◌}
 use Rattle.std.specs.List.{find, list_any}
 use Rattle.std.specs.Option.{option_map}
+use Rattle.locus_ids.specs.Sizes.{sites_max}
 use Rattle.locus_ids.specs.declared.config.Config.{Config}
 use Rattle.locus_ids.specs.declared.sites.Members.{Members}
 use Rattle.locus_ids.specs.declared.ids.EpochId.{EpochId}
@@ -25,7 +26,7 @@ none_boots (suc place) (suc many) = none_boots place many
 
 no_member : (e : EpochId) (site : ℕ) → is_member (unformed e).members site ≡ false
 no_member e zero = refl
-no_member e (suc place) = ap (λ n. nat_lt 0 n) (none_boots place 16)
+no_member e (suc place) = ap (λ n. nat_lt 0 n) (none_boots place sites_max)
 
 pub member_as : (c : Config) (before : Trace) (p : Past) (e : EpochId) (site : ℕ) → Agrees c before p → is_member (epoch_at p e).members site ≡ is_member_of (members_of before e) site
 member_as c before p e site a = over (find (is_epoch e) p.epochs) refl

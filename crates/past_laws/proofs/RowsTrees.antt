@@ -5,6 +5,7 @@ use Rattle.std.specs.Prelude.{nat_le}
 use Rattle.std.specs.List.{find, list_any}
 use Rattle.std.specs.Option.{option_map, is_none}
 use Rattle.std.proofs.lemmas.Bool.{leb-true}
+use Rattle.locus_ids.specs.Sizes.{sites_max}
 use Rattle.locus_ids.specs.declared.config.Config.{Config}
 use Rattle.locus_ids.specs.declared.ids.CallId.{CallId}
 use Rattle.locus_ids.specs.declared.ids.EpochId.{EpochId}
@@ -260,19 +261,19 @@ open_so c before p a e id request m f may passes h = found_then (is_id id) (λ (
     it : Accepted before p e id
     it = accepted c before p a e id may.step
 
--- the site of a call is one of the sixteen
+-- the site of a call is one of those that there may be
 pub record Within (site : ℕ) : Type 0 where
   pub low : 1 ≤ site
-  pub high : site ≤ 16
+  pub high : site ≤ sites_max
 
-pub site_of : (c : Config) (before : Trace) (p : Past) → c.sites ≤ 16 → Agrees c before p → (id : CallId) (k : CallSoFar) → find (is_id id) p.calls ≡ Some k → Within id.site
+pub site_of : (c : Config) (before : Trace) (p : Past) → c.sites ≤ sites_max → Agrees c before p → (id : CallId) (k : CallSoFar) → find (is_id id) p.calls ≡ Some k → Within id.site
 site_of c before p few a id k found = (let parts : (nat_le 1 k.id.site ≡ true) × (nat_le k.id.site c.sites ≡ true) = both_parts (nat_le 1 k.id.site) (nat_le k.id.site c.sites) (all_found (λ (x : CallSoFar). is_of_cluster c x.id.site) (is_id id) p.calls k a.trees.callers found)
     in subst (λ (d : CallId). Within d.site) (own_call p id k found) (record { low = leb-true 1 k.id.site parts.0; high = up k.id.site c.sites few (leb-true k.id.site c.sites parts.1) }))
   where
-    up : (x y : ℕ) → y ≤ 16 → x ≤ y → x ≤ 16
+    up : (x y : ℕ) → y ≤ sites_max → x ≤ y → x ≤ sites_max
     up x y h k = omega arith
 
-pub row_grant : (c : Config) (before : Trace) (p : Past) (e : EpochId) (id : CallId) (request : ℕ) (i : Serial) (m : Mode) (f : FileId) (stamp : Option Stamp) (ss : ℕ) → c.sites ≤ 16 → MayCome c before (says.Grant e id request i m f stamp ss) → Agrees c before p → may_follow c p (says.Grant e id request i m f stamp ss) ≡ true
+pub row_grant : (c : Config) (before : Trace) (p : Past) (e : EpochId) (id : CallId) (request : ℕ) (i : Serial) (m : Mode) (f : FileId) (stamp : Option Stamp) (ss : ℕ) → c.sites ≤ sites_max → MayCome c before (says.Grant e id request i m f stamp ss) → Agrees c before p → may_follow c p (says.Grant e id request i m f stamp ss) ≡ true
 row_grant c before p e id request i m f stamp ss few may a =
     both (is_number u.started f.group) (is_synced c u f.group && (is_number u.joined ss && ((i.us == id.site) && (fresh && stepped)))) (a.trees.started e f.group ∙ g1.0)
     (both (is_synced c u f.group) (is_number u.joined ss && ((i.us == id.site) && (fresh && stepped))) (sym (synced_as c before p e f.group a) ∙ may.opens.served)
@@ -330,7 +331,7 @@ refused_is c before p a e m f why id k found site = by_refusal (new.open_refusal
     by_refusal None h = rw (h, is_refused) (ap (λ b. state.is_make m && (b && list_any (new.lacks_numbers c p u f.group) (new.place_for c u f.group k))) (inode_is why) ∙ ap (λ b. state.is_make m && (is_no_inode why && b)) lacks)
     by_refusal (Some r) h = rw (h, is_refused) refl
 
-pub row_refuse : (c : Config) (before : Trace) (p : Past) (e : EpochId) (id : CallId) (request : ℕ) (i : Serial) (m : Mode) (f : FileId) (why : Refusal) → c.sites ≤ 16 → MayCome c before (says.Refuse e id request i m f why) → Agrees c before p → may_follow c p (says.Refuse e id request i m f why) ≡ true
+pub row_refuse : (c : Config) (before : Trace) (p : Past) (e : EpochId) (id : CallId) (request : ℕ) (i : Serial) (m : Mode) (f : FileId) (why : Refusal) → c.sites ≤ sites_max → MayCome c before (says.Refuse e id request i m f why) → Agrees c before p → may_follow c p (says.Refuse e id request i m f why) ≡ true
 row_refuse c before p e id request i m f why few may a =
     both (is_number u.started f.group) (is_synced c u f.group && (unnumbered && stepped)) (a.trees.started e f.group ∙ g1.0)
     (both (is_synced c u f.group) (unnumbered && stepped) (sym (synced_as c before p e f.group a) ∙ may.opens.served)

@@ -5,7 +5,7 @@ use Rattle.locus_ids.specs.declared.ids.EpochId.{EpochId}
 use Rattle.locus_ids.specs.declared.ids.FileId.{FileId}
 use Rattle.locus_ids.specs.declared.sites.Members.{Members}
 use Rattle.commit_graph.specs.declared.history.Version.{Version}
-use Rattle.file_effects.specs.Works.{committed}
+use Rattle.tree_model.specs.of_file_effects.Works.{committed}
 use Rattle.trace_book.specs.declared.record.Record.{Record}
 use Rattle.trace_book.specs.declared.record.Record.TheVariants as says
 use Rattle.call_rules.specs.Descriptors.{beginning}

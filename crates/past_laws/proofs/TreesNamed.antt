@@ -10,7 +10,7 @@ use Rattle.locus_ids.specs.declared.ids.FileId.{FileId}
 use Rattle.locus_ids.specs.declared.ids.Mode.{Mode}
 use Rattle.locus_ids.specs.declared.ids.Serial.{Serial}
 use Rattle.locus_ids.specs.declared.ids.Stamp.{Stamp}
-use Rattle.file_effects.specs.Works.{committed}
+use Rattle.tree_model.specs.of_file_effects.Works.{committed}
 use Rattle.trace_book.specs.Same.{same_epoch}
 use Rattle.trace_book.specs.declared.operation.Op.{Op}
 use Rattle.trace_book.specs.declared.operation.Outcome.{Outcome}

@@ -4,6 +4,7 @@ use Rattle.std.specs.Prelude.{nat_lt, suc, zero}
 use Rattle.std.specs.List.{find, list_any}
 use Rattle.std.specs.Option.{option_map, option_or, is_some}
 use Rattle.std.proofs.lemmas.Bool.{cases_lt}
+use Rattle.locus_ids.specs.Sizes.{sites_max}
 use Rattle.locus_ids.specs.Sites.{has}
 use Rattle.locus_ids.specs.declared.config.Config.{Config}
 use Rattle.locus_ids.specs.declared.sites.Sites.{Sites}
@@ -127,7 +128,7 @@ any_least q (x ∷ xs) = at (q x) (any_least q xs)
     at false h = h
 
 -- a make has a place where some member is in its set
-placed_some : (c : Config) (group : ℕ) (members : Option Members) (own : ℕ) (set : Sites) → 1 ≤ own → own ≤ 16 → is_some (making_site_in c group members own set) ≡ is_some (least_site (is_place members set))
+placed_some : (c : Config) (group : ℕ) (members : Option Members) (own : ℕ) (set : Sites) → 1 ≤ own → own ≤ sites_max → is_some (making_site_in c group members own set) ≡ is_some (least_site (is_place members set))
 placed_some c group members own set low high = by_own (q own) refl
   where
     q : ℕ → Bool
@@ -145,7 +146,7 @@ placed_some c group members own set low high = by_own (q own) refl
         pass false h = refl
 
     by_own : (b : Bool) → q own ≡ b → is_some (option_or (cond b (Some own) None) (option_or (that_passes q (sync_site c group members)) (least_site q))) ≡ is_some (least_site q)
-    by_own true h = sym (sym (any_least q all_sites) ∙ onto_has q 16 own [] low high h)
+    by_own true h = sym (sym (any_least q all_sites) ∙ onto_has q sites_max own [] low high h)
     by_own false h = by_sync (sync_site c group members) refl
 
 -- Refusals.
@@ -193,7 +194,7 @@ positive : {X : Type 0} (o : Option X) → nat_lt 0 (length (list_of o)) ≡ is_
 positive None = refl
 positive (Some x) = refl
 
-pub place_refusal_is : (c : Config) (before : Trace) (p : Past) → Agrees c before p → (e : EpochId) (m : Mode) (f : FileId) (id : CallId) (k : CallSoFar) → find (is_id id) p.calls ≡ Some k → 1 ≤ id.site → id.site ≤ 16 → new.place_refusal c p (epoch_at p e) k m f ≡ old.place_refusal (history c before) (tree_of c e f.group before) m id f
+pub place_refusal_is : (c : Config) (before : Trace) (p : Past) → Agrees c before p → (e : EpochId) (m : Mode) (f : FileId) (id : CallId) (k : CallSoFar) → find (is_id id) p.calls ≡ Some k → 1 ≤ id.site → id.site ≤ sites_max → new.place_refusal c p (epoch_at p e) k m f ≡ old.place_refusal (history c before) (tree_of c e f.group before) m id f
 place_refusal_is c before p a e mode.Resolve f id k found low high = ap (λ b. cond b None (Some NoStorage)) (ap (list_any (new.has_kept p (epoch_at p e) f)) (resolving_is c before p a e f.group id k found) ∙ at (old.resolving_site t id))
   where
     t : state.TreeState
@@ -227,7 +228,7 @@ place_refusal_is c before p a e mode.Make f id k found low high = ap (λ b. cond
     has_place = ap (λ s. is_some (making_site_in t.config t.group t.members id.site s)) (set_is c before p a e f.group id k found) ∙ (placed_some t.config t.group t.members id.site set low high ∙ ap (λ m. is_some (least_site (is_place m set))) (members_are c e f.group before))
 place_refusal_is c before p a e m f id k found low high = refl
 
-pub refusal_is : (c : Config) (before : Trace) (p : Past) → Agrees c before p → (e : EpochId) (m : Mode) (f : FileId) (id : CallId) (k : CallSoFar) → find (is_id id) p.calls ≡ Some k → 1 ≤ id.site → id.site ≤ 16 → new.open_refusal c p (epoch_at p e) k m f ≡ old.open_refusal (history c before) (tree_of c e f.group before) m id f
+pub refusal_is : (c : Config) (before : Trace) (p : Past) → Agrees c before p → (e : EpochId) (m : Mode) (f : FileId) (id : CallId) (k : CallSoFar) → find (is_id id) p.calls ≡ Some k → 1 ≤ id.site → id.site ≤ sites_max → new.open_refusal c p (epoch_at p e) k m f ≡ old.open_refusal (history c before) (tree_of c e f.group before) m id f
 refusal_is c before p a e mode.Make f id k found low high = place_refusal_is c before p a e mode.Make f id k found low high
 refusal_is c before p a e m f id k found low high = ap (λ os. option_or (grant_refusal m os (kept_in p (epoch_at p e) f)) (new.place_refusal c p (epoch_at p e) k m f)) (openers_are c before p a e f)
     ∙ (ap (λ ss. option_or (grant_refusal m (state.openers (tree_of c e f.group before) f) ss) (new.place_refusal c p (epoch_at p e) k m f)) (kept_as c before p a e f)

@@ -6,7 +6,7 @@ use Rattle.std.specs.Option.{option_map}
 use Rattle.locus_ids.specs.declared.config.Config.{Config}
 use Rattle.locus_ids.specs.declared.ids.EpochId.{EpochId}
 use Rattle.commit_graph.specs.Versions.{same_file, content_of}
-use Rattle.file_effects.specs.of_file_content.Pages.{pages_of}
+use Rattle.tree_model.specs.of_file_effects.of_file_content.Pages.{pages_of}
 use Rattle.tree_model.specs.declared.copy.HeldCopy.{HeldCopy}
 use Rattle.tree_model.specs.Folds.{Trace}
 use Rattle.tree_model.specs.Histories.{history, stamped_content}

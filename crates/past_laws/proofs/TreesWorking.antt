@@ -15,8 +15,8 @@ use Rattle.trace_book.specs.declared.operation.Op.TheVariants as op
 use Rattle.tree_model.specs.declared.instance.Instance.{Instance}
 use Rattle.tree_model.specs.State.{TreeState, kept_of, stamps_of, has_stamp}
 use Rattle.tree_model.specs.Working as old
-use Rattle.file_effects.specs.Effects.{Removes, Mends}
-use Rattle.file_effects.specs.Works.{commit_result, aborted}
+use Rattle.tree_model.specs.of_file_effects.Effects.{Removes, Mends}
+use Rattle.tree_model.specs.of_file_effects.Works.{commit_result, aborted}
 use Rattle.tree_model.specs.of_dir_reconcile.declared.kept.KeptVector.{KeptVector}
 use Rattle.tree_model.specs.of_dir_reconcile.Rescues.{rescued, rescue_wanted}
 use Rattle.tree_model.specs.of_dir_format.Contents.{entries_of}

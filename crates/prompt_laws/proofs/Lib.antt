@@ -30,3 +30,4 @@ pub mod MendsQuiet
 pub mod Heeding
 pub mod Whole
 pub use Rattle.whole_run_laws.proofs as of_whole_run_laws
+pub use Rattle.whole_run_laws.proofs.of_rest_laws as of_rest_laws

@@ -1,5 +1,5 @@
 -- In every run the boots that sites take for those of others were told, and are of sites of the cluster.
-use Rattle.std.proofs.Common.{◌≡◌, ℕ, ◌≤◌, ◌+◌, ◌==◌, nat_lt, arith, Bool, true, false, cond, List, [], ◌∷◌, length, map, filter, Option, None, Some, refl, sym, ◌∙◌, ap, subst, inl, inr}
+use Rattle.std.proofs.Common.{◌≡◌, ℕ, ◌≤◌, ◌+◌, ◌==◌, nat_lt, arith, Bool, true, false, cond, List, [], ◌∷◌, length, Option, None, Some, refl, sym, ◌∙◌, ap, subst, inl, inr}
 use Rattle.std.proofs.lemmas.Bool.Decides.{nat_tests}
 use Rattle.role_steps.proofs.of_plain_facts.Numbers.{equal}
 use Rattle.role_steps.proofs.of_plain_facts.Options.{none_some, some_same}
@@ -15,18 +15,17 @@ use Rattle.wire_messages.specs.declared.body.Body.{Body}
 use Rattle.wire_messages.specs.declared.body.Body.TheVariants as body
 use Rattle.wire_messages.specs.declared.packet.Packet.{Packet}
 use Rattle.role_steps.specs.Own.{Every}
-use Rattle.role_steps.specs.Views.{Calls, Event, GivesUp, Merges, Parts, Receives, Shown, SiteView, Ticks, Told, all_sites, boot_in}
+use Rattle.role_steps.specs.Views.{Calls, Event, GivesUp, Merges, Parts, Receives, Shown, SiteView, Ticks, Told, boot_in}
 use Rattle.role_steps.specs.declared.rounds.InEpoch.{InEpoch}
 use Rattle.role_steps.specs.declared.synchronizing.LastLook.{LastLook}
 use Rattle.role_steps.specs.declared.synchronizing.SyncTable.{SyncTable}
-use Rattle.role_steps.proofs.Counted.{every_site}
 use Rattle.role_steps.proofs.Sending.{every_append}
 use Rattle.the_run.specs.Disks.{Armed, Booted, CutOff, Disk, Whole, boots, cut_disk}
 use Rattle.role_steps.specs.Tables.{row}
-use Rattle.the_run.specs.Kept.{Among, IsOwn, WasSent}
+use Rattle.the_run.specs.Kept.{IsOwn, WasSent}
 use Rattle.the_run.specs.Runs.{boots_as, rearms}
 use Rattle.the_run.specs.Steps.{step}
-use Rattle.the_run.specs.Worlds.{Line, Numbered, Place, PlaceRow, place_in, place_site, first_place, Running, Stopped, World, acts, arms, cause_of, cut_told, disk_of, first_world, fresh, happened, is_cut, loses, link_of, links_of, number_of, numbered_from, passed, place_at, with_numbered, puts, script_of, stops_with, told_onto}
+use Rattle.the_run.specs.Worlds.{Line, Numbered, Place, Running, Stopped, World, acts, arms, cause_of, cut_told, disk_of, first_world, fresh, happened, is_cut, loses, link_of, links_of, number_of, numbered_from, passed, place_at, with_numbered, puts, script_of, stops_with, told_onto}
 use Rattle.the_run.specs.Worlds as worlds
 use Rattle.the_run.proofs.Boots.{acts_cases, at_each, every_newest, every_numbered}
 use Rattle.the_run.proofs.Events.{happened_keeps, puts_other, puts_same}
@@ -45,10 +44,10 @@ use Rattle.whole_run_laws.specs.of_one_tree_laws.Places.{SiteIn, WorldFact}
 use Rattle.whole_run_laws.specs.of_one_tree_laws.Rest.{IsRest, more}
 use Rattle.whole_run_laws.specs.of_one_tree_laws.Roles.{RolesDo}
 use Rattle.whole_run_laws.proofs.of_one_tree_laws.Composing.{rest_before}
-use Rattle.whole_run_laws.proofs.of_one_tree_laws.Rising.{row_key}
 use Rattle.whole_run_laws.proofs.of_one_tree_laws.Run.{kept}
 use Rattle.whole_run_laws.proofs.of_one_tree_laws.Staying.{stays}
 use Rattle.whole_run_laws.proofs.of_one_tree_laws.Worlds.{Holds}
+use Rattle.law_walks.proofs.FirstWorld.{first_places}
 use Rattle.prompt_laws.proofs.Members.{EventTold, OutTold, Says, SentTold, Told_boots, ViewTold, mapped, step_told}
 use Rattle.prompt_laws.proofs.Run.{told_of}
 
@@ -276,34 +275,13 @@ module _ (c : Config) where
 
 -- ---- the first world ----
 
-abbrev FirstRow : Config → PlaceRow → Type 0
-FirstRow c r = (is_site c.sites r.site ≡ true) × PlaceTold c [] r.place
-
-site_of : (n s : ℕ) → 1 ≤ s → s ≤ sites_max → nat_lt s (n + 1) ≡ true → is_site n s ≡ true
-site_of n s low high lt = grind (arith, nat_tests)
-
-first_rows : (c : Config) (ss : List ℕ) → Every (λ (s : ℕ). (1 ≤ s) × (s ≤ sites_max)) ss → Every (FirstRow c) (map (first_place c) (filter (λ (s : ℕ). nat_lt s (c.sites + 1)) ss))
-first_rows c [] h = tt
-first_rows c (s ∷ ss) h = over (nat_lt s (c.sites + 1)) refl (first_rows c ss h.1)
-  where
-    over : (b : Bool) → nat_lt s (c.sites + 1) ≡ b → Every (FirstRow c) (map (first_place c) (filter (λ (s : ℕ). nat_lt s (c.sites + 1)) ss)) → Every (FirstRow c) (map (first_place c) (cond b (s ∷ filter (λ (s : ℕ). nat_lt s (c.sites + 1)) ss) (filter (λ (s : ℕ). nat_lt s (c.sites + 1)) ss)))
-    over true e later = ((site_of c.sites s h.0.0 h.0.1 e, record { round = λ r q. absurd (none_some r q); epoch = λ i q. absurd (none_some i q); tables = tt }), later)
-    over false e later = later
-
-found : (c : Config) (xs : List PlaceRow) (s : ℕ) (p : Place) → Every (FirstRow c) xs → (o : Option PlaceRow) → row place_site s xs ≡ o → place_in o ≡ Some p → (is_site c.sites s ≡ true) × PlaceTold c [] p
-found c xs s p h None e k = absurd (none_some p k)
-found c xs s p h (Some r) e k =
-    let there : Among r xs × (r.site ≡ s) = row_key place_site s xs r e in
-    let own : FirstRow c r = every_among (FirstRow c) r xs h there.0 in
-    (subst (λ (t : ℕ). is_site c.sites t ≡ true) there.1 own.0, subst (PlaceTold c []) (some_same r.place p k) own.1)
-
-all_low : Every (λ (s : ℕ). (1 ≤ s) × (s ≤ sites_max)) all_sites
-all_low = every_site (λ (s : ℕ). (1 ≤ s) × (s ≤ sites_max)) (λ s low high. (low, high))
+site_of : (n s : ℕ) → 1 ≤ s → s ≤ sites_max → s ≤ n → is_site n s ≡ true
+site_of n s low high few = grind (arith, nat_tests)
 
 pub first_lists : (c : Config) → Lists c (first_world c)
 first_lists c r = record {
-  placed = λ s p e. (found c (first_world c).places s p (first_rows c all_sites all_low) (row place_site s (first_world c).places) refl e).0;
-  places = λ s p e. (found c (first_world c).places s p (first_rows c all_sites all_low) (row place_site s (first_world c).places) refl e).1;
+  placed = first_places c (λ s p. is_site c.sites s ≡ true) (λ s own. site_of c.sites s own.0.0 own.0.1 own.1);
+  places = first_places c (λ s. PlaceTold c []) (λ s own. record { round = λ r q. absurd (none_some r q); epoch = λ i q. absurd (none_some i q); tables = tt });
   sent = tt;
   underway = tt;
 }

@@ -54,7 +54,7 @@ use Rattle.role_steps.specs.Views.{all_groups, pack_sites}
 use Rattle.role_steps.specs.declared.synchronizing.SyncTable.{SyncTable}
 use Rattle.the_run.specs.Kept.{Among}
 use Rattle.tree_laws.proofs.Boots.{every_filter}
-use Rattle.lock_laws.proofs.GrantSites.{is_synced}
+use Rattle.row_laws.proofs.of_lock_laws.GrantSites.{is_synced}
 use Rattle.convergence_laws.proofs.of_pull_laws.of_bound_laws.EachView.{EachView, KeepsViews, views_first, views_kept}
 use Rattle.convergence_laws.proofs.DirectoriesMended.{MendsHaveStarted, step_mended}
 use Rattle.whole_run_laws.specs.of_rest_laws.of_row_laws.Voids.{LinesFit}

@@ -10,3 +10,4 @@ pub use Rattle.one_tree_laws.proofs.of_holding_laws as of_holding_laws
 pub use Rattle.one_tree_laws.proofs.of_make_laws as of_make_laws
 pub use Rattle.one_tree_laws.proofs.of_row_laws as of_row_laws
 pub use Rattle.one_tree_laws.proofs.of_sync_laws as of_sync_laws
+pub use Rattle.one_tree_laws.proofs.of_order_laws as of_order_laws

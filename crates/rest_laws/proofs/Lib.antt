@@ -91,3 +91,5 @@ pub use Rattle.one_tree_laws.proofs.of_store_laws as of_store_laws
 pub use Rattle.one_tree_laws.proofs.of_vector_laws as of_vector_laws
 pub use Rattle.tree_laws.proofs as of_tree_laws
 pub use Rattle.one_tree_laws.proofs.of_work_laws as of_work_laws
+pub use Rattle.one_tree_laws.proofs.of_kept_laws as of_kept_laws
+pub use Rattle.one_tree_laws.proofs.of_order_laws as of_order_laws

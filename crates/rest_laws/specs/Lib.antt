@@ -22,3 +22,4 @@ pub use Rattle.one_tree_laws.specs.of_store_laws as of_store_laws
 pub use Rattle.one_tree_laws.specs.of_vector_laws as of_vector_laws
 pub use Rattle.tree_laws.specs as of_tree_laws
 pub use Rattle.one_tree_laws.specs.of_work_laws as of_work_laws
+pub use Rattle.one_tree_laws.specs.of_kept_laws as of_kept_laws

@@ -1,31 +1,26 @@
 -- In every run each record is placed, and the lines have asked for it.
-use Rattle.std.proofs.Common.{◌≡◌, ◌≤◌, ℕ, zero, suc, ◌+◌, ◌==◌, nat_le, Bool, true, false, cond, ◌||◌, ◌&&◌, not, nat_lt, List, [], ◌∷◌, length, map, filter, Option, Some, None, refl, sym, ◌∙◌, ap, subst, inl, inr, arith}
-use Rattle.std.proofs.lemmas.Bool.Decides.{nat_tests}
+use Rattle.std.proofs.Common.{◌≡◌, ◌≤◌, ℕ, zero, suc, ◌+◌, ◌==◌, nat_le, Bool, true, false, cond, ◌||◌, ◌&&◌, not, List, [], ◌∷◌, length, map, filter, Option, Some, None, refl, sym, ◌∙◌, ap, subst, inl, inr, arith}
 use Rattle.std.specs.List.{list_any}
 use Rattle.std.proofs.lemmas.Bool.{and_from, le-leb}
 use Rattle.role_steps.proofs.of_plain_facts.Numbers.{equal, equal_self, equal_test}
-use Rattle.role_steps.proofs.of_plain_facts.Options.{some_same}
 use Rattle.role_steps.proofs.of_plain_facts.Tests.{and_true, true_false}
 use Rattle.locus_ids.specs.declared.ids.EpochId.{EpochId}
 use Rattle.locus_ids.specs.declared.sites.Members.{Members}
 use Rattle.locus_ids.specs.declared.config.Config.{Config}
-use Rattle.locus_ids.specs.Sizes.{sites_max}
 use Rattle.schedule_lines.specs.declared.line.Line.{Line as LineWords}
 use Rattle.schedule_lines.specs.declared.line.Line.TheVariants as line
 use Rattle.schedule_lines.specs.declared.line.ScheduleLine.{ScheduleLine}
 use Rattle.schedule_lines.specs.declared.line.ScheduleLine.TheVariants.{Event as EventLine}
 use Rattle.trace_book.specs.declared.record.Record.{Record}
 use Rattle.trace_book.specs.declared.record.Record.TheVariants as says
-use Rattle.role_steps.specs.Own.{Every}
 use Rattle.role_steps.specs.Tables.{row}
-use Rattle.role_steps.specs.Views.{Told, Shown, Promises, Event, Calls, Receives, Ticks, Parts, Merges, GivesUp, all_sites}
-use Rattle.role_steps.proofs.Counted.{CountsFrom, sites_count}
+use Rattle.role_steps.specs.Views.{Told, Shown, Promises, Event, Calls, Receives, Ticks, Parts, Merges, GivesUp}
 use Rattle.lawful_trace.specs.of_tree_model.Folds.{Trace, last_line, before_line}
 use Rattle.lawful_trace.specs.of_tree_model.Epochs.{boot_of}
 use Rattle.lock_laws.specs.of_the_run.Joins.{IsJoinRecord, IsJoin, Joined}
 use Rattle.lock_laws.specs.of_the_run.Kept.{IsOwn, Kept}
 use Rattle.lock_laws.specs.of_the_run.Steps.{step}
-use Rattle.lock_laws.specs.of_the_run.Worlds.{World, Place, Running, Numbered, Line, CutCircuit, is_between, is_cut, number_of, links_of, place_in, place_site, passed, fresh, first_place, formatted, first_world}
+use Rattle.lock_laws.specs.of_the_run.Worlds.{World, Running, Numbered, Line, CutCircuit, is_between, is_cut, number_of, links_of, passed, first_world}
 use Rattle.lock_laws.specs.of_the_run.Runs.{packet_record, cuts_circuit, mends_circuit, run_in}
 use Rattle.lock_laws.proofs.of_the_run.InsideSync.{every_without}
 use Rattle.lock_laws.specs.of_run_laws.Standing.{Standing, nowhere, after_record, after_told, standing, GoesOn, EpochsGoOn}
@@ -34,11 +29,12 @@ use Rattle.lock_laws.proofs.of_run_laws.Run.{good_kept, first_good}
 use Rattle.lawful_trace.specs.Places.{initiator}
 use Rattle.lawful_trace.specs.SiteRows.{is_site, starts_in, is_asked_for}
 use Rattle.lawful_trace.specs.LineRows.{settles}
+use Rattle.lock_laws.proofs.of_law_walks.FirstWorld.{first_places}
 use Rattle.row_laws.specs.Shown.{with_told, shown, trace_of, EachRecord}
 use Rattle.row_laws.specs.Events.{IsShort, FormingPacket, causes_of}
 use Rattle.row_laws.specs.ByLine.{IsLine, Gives, KeptIn}
 use Rattle.row_laws.specs.Rows.{IsPlaced, AskedRecord, IsAskedFor, MemberRecord, IsMemberRow, ShortRecord, IsShortRow}
-use Rattle.row_laws.specs.Course.{Started, AskedHere, ToldRow, EachTold, Ascends, IsOfSite, StandsAs, InCourse}
+use Rattle.row_laws.specs.Course.{Started, AskedHere, ToldRow, EachTold, Ascends, StandsAs, InCourse}
 use Rattle.row_laws.specs.Voids.{CutsNoSelf}
 use Rattle.row_laws.proofs.StepForms.{step_forms}
 use Rattle.row_laws.proofs.Tracing.{any_number, promise_started, ascends_later}
@@ -155,33 +151,10 @@ courses_kept c lines = record {
 
 -- ---- the first world ----
 
-none_place : (p : Place) → ◌≡◌ {A = Option Place} None (Some p) → ⊥
-none_place p e = cc
-
-counted_sites : (n : ℕ) (xs : List ℕ) → CountsFrom n xs → 1 ≤ n → n + length xs ≤ sites_max + 1 → Every IsOfSite xs
-counted_sites n [] h one top = tt
-counted_sites n (x ∷ xs) h one top =
-    let e : x ≡ n = h.0 in
-    let low : 1 ≤ x = omega (arith, e, one) in
-    let high : x ≤ sites_max = omega (arith, e, top) in
-    ((low, high), counted_sites (n + 1) xs h.1 (omega arith) (omega (arith, top)))
-
-every_passed : (P : ℕ → Type 0) (test : ℕ → Bool) (xs : List ℕ) → Every P xs → Every P (filter test xs)
-every_passed P test [] h = tt
-every_passed P test (x ∷ xs) h = elim (test x) as (λ b. Every P (cond b (x ∷ filter test xs) (filter test xs))) [ true ↦ (h.0, every_passed P test xs h.1) | false ↦ every_passed P test xs h.1 ]
-
-first_places : (c : Config) (ss : List ℕ) → Every IsOfSite ss → (s : ℕ) (p : Place) → place_in (row place_site s (map (first_place c) ss)) ≡ Some p → StandsAs [] s p
-first_places c [] h s p e = absurd (none_place p e)
-first_places c (t ∷ ts) h s p e =
-    (elim (t == s) as (λ b. (t == s) ≡ b → place_in (elim b [ true ↦ Some (first_place c t) | false ↦ row place_site s (map (first_place c) ts) ]) ≡ Some p → StandsAs [] s p) [
-      | true ↦ λ same f. subst (StandsAs [] s) (some_same (Running (fresh 1 (formatted c t))) p f) (refl, refl, record { round = tt; tables = tt; epoch = tt }, subst IsOfSite (equal t s same) h.0)
-      | false ↦ λ same f. first_places c ts h.1 s p f
-    ]) refl e
-
 pub first_courses : (c : Config) (lines : List ScheduleLine) → Courses lines 0 (first_world c)
 first_courses c lines = record {
   good = first_good c;
-  course = record { ascends = tt; rows = tt; places = λ s p e. first_places c (filter (λ t. nat_lt t (c.sites + 1)) all_sites) (every_passed IsOfSite (λ t. nat_lt t (c.sites + 1)) all_sites (counted_sites 1 all_sites sites_count (omega arith) (omega arith))) s p e; circuits = λ none s. refl; polls = tt; underway = tt };
+  course = record { ascends = tt; rows = tt; places = first_places c (StandsAs []) (λ s own. (refl, refl, record { round = tt; tables = tt; epoch = tt }, own.0)); circuits = λ none s. refl; polls = tt; underway = tt };
 }
 
 pub run_courses : (c : Config) (lines : List ScheduleLine) → Courses lines (length lines) (run_in c lines)

@@ -1,50 +1,28 @@
 -- In every run each site of the cluster has its place.
-use Rattle.std.proofs.Common.{◌≡◌, ◌≤◌, ℕ, ◌+◌, ◌==◌, nat_lt, Bool, true, false, cond, ◌||◌, List, [], ◌∷◌, filter, map, Some, None, refl, sym, ◌∙◌, ap, subst, arith}
+use Rattle.std.proofs.Common.{◌≡◌, ◌≤◌, ℕ, true, List, [], Some, None, ◌∙◌, subst, arith}
 use Rattle.std.proofs.lemmas.Bool.Decides.{nat_tests}
-use Rattle.std.specs.List.{list_any}
-use Rattle.role_steps.proofs.of_plain_facts.Numbers.{equal, equal_self}
-use Rattle.role_steps.proofs.of_plain_facts.Tests.{false_true}
 use Rattle.locus_ids.specs.declared.config.Config.{Config}
 use Rattle.locus_ids.specs.Sizes.{sites_max}
 use Rattle.schedule_lines.specs.Ranges.{is_site}
 use Rattle.wire_messages.specs.declared.packet.Packet.{Packet}
-use Rattle.role_steps.specs.Tables.{row}
-use Rattle.role_steps.specs.Views.{SiteView, Told, Outcome, Receives, all_sites}
+use Rattle.role_steps.specs.Views.{SiteView, Told, Outcome, Receives}
 use Rattle.lock_laws.specs.of_the_run.Disks.{Booted, Whole, CutOff}
 use Rattle.lock_laws.specs.of_the_run.Steps.{step}
-use Rattle.lock_laws.specs.of_the_run.Worlds.{World, Place, links_of, passed, place_at, place_in, place_site, happened, puts, arms, stops_with, acts, first_place, first_world}
+use Rattle.lock_laws.specs.of_the_run.Worlds.{World, Place, links_of, passed, place_at, happened, puts, arms, stops_with, acts, first_world}
 use Rattle.lock_laws.specs.of_the_run.Runs.{boots_as}
 use Rattle.lock_laws.specs.of_the_run.Kept.{Kept}
 use Rattle.lock_laws.proofs.of_the_run.Boots.{at_each}
 use Rattle.lock_laws.proofs.of_the_run.Events.{happened_keeps, acts_keeps, puts_other, puts_same}
+use Rattle.lock_laws.proofs.of_law_walks.FirstWorld.{first_there}
 use Rattle.row_laws.specs.Voids.{HasPlaces}
-use Rattle.row_laws.proofs.Tracing.{any_number}
 
 -- ---- the first world ----
 
-abbrev FoundIn : Config → ℕ → List ℕ → Type 0
-FoundIn c s xs = (p : Place) × (place_in (row place_site s (map (first_place c) xs)) ≡ Some p)
-
-found_later : (c : Config) (s x : ℕ) (xs : List ℕ) (k : Bool) → (x == s) ≡ false → FoundIn c s xs → FoundIn c s (cond k (x ∷ xs) xs)
-found_later c s x xs true e f = (f.0, ap (λ (b : Bool). place_in (elim b [ true ↦ Some (first_place c x) | false ↦ row place_site s (map (first_place c) xs) ])) e ∙ f.1)
-found_later c s x xs false e f = f
-
-found_step : (c : Config) (test : ℕ → Bool) (s x : ℕ) (xs : List ℕ) → ((x == s) ≡ true → test x ≡ true) → ((x == s) ≡ false → FoundIn c s xs) → FoundIn c s (cond (test x) (x ∷ xs) xs)
-found_step c test s x xs here later =
-    (elim (x == s) as (λ b. (x == s) ≡ b → FoundIn c s (cond (test x) (x ∷ xs) xs)) [
-      | true ↦ λ e. ((first_place c x).place, ap (λ (k : Bool). place_in (row place_site s (map (first_place c) (cond k (x ∷ xs) xs)))) (here e) ∙ ap (λ (b : Bool). place_in (elim b [ true ↦ Some (first_place c x) | false ↦ row place_site s (map (first_place c) xs) ])) e)
-      | false ↦ λ e. found_later c s x xs (test x) e (later e)
-    ]) refl
-
-found_first : (c : Config) (test : ℕ → Bool) (s : ℕ) (xs : List ℕ) → list_any (λ t. t == s) xs ≡ true → test s ≡ true → FoundIn c s (filter test xs)
-found_first c test s [] h g = absurd (false_true h)
-found_first c test s (x ∷ xs) h g = found_step c test s x (filter test xs) (λ e. ap test (equal x s e) ∙ g) (λ e. found_first c test s xs (ap (λ (b : Bool). b || list_any (λ t. t == s) xs) (sym e) ∙ h) g)
-
-in_range : (n s : ℕ) → is_site n s ≡ true → (1 ≤ s) × (s ≤ sites_max) × (nat_lt s (n + 1) ≡ true)
-in_range n s h = (grind (arith, nat_tests), grind (arith, nat_tests), grind (arith, nat_tests))
+in_range : (n s : ℕ) → is_site n s ≡ true → ((1 ≤ s) × (s ≤ sites_max)) × (s ≤ n)
+in_range n s h = ((grind (arith, nat_tests), grind (arith, nat_tests)), grind (arith, nat_tests))
 
 pub first_has : (c : Config) → HasPlaces c (first_world c)
-first_has c s h = let r : (1 ≤ s) × (s ≤ sites_max) × (nat_lt s (c.sites + 1) ≡ true) = in_range c.sites s h in found_first c (λ t. nat_lt t (c.sites + 1)) s all_sites (any_number (λ t. t == s) s sites_max (equal_self s) r.0 r.1) r.2
+first_has c s h = (_, first_there c s (in_range c.sites s h))
 
 -- ---- every event and change ----
 

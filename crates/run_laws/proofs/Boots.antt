@@ -1,5 +1,5 @@
 -- Each boot prints a record, and the text has room for so many: so no boot number is great.
-use Rattle.std.proofs.Common.{◌≡◌, ◌≤◌, ℕ, zero, suc, ◌+◌, ◌==◌, nat_lt, Bool, true, false, cond, List, [], ◌∷◌, ◌++◌, length, map, filter, Option, Some, None, refl, ap, subst, arith, codes}
+use Rattle.std.proofs.Common.{◌≡◌, ◌≤◌, ℕ, zero, suc, ◌+◌, Bool, true, false, cond, List, [], ◌∷◌, ◌++◌, length, map, Option, Some, None, refl, ap, subst, arith, codes}
 use Rattle.std.proofs.lemmas.Bool.Decides.{nat_tests}
 use Rattle.locus_ids.specs.declared.config.Config.{Config}
 use Rattle.locus_ids.specs.declared.ids.FileId.{FileId}
@@ -8,18 +8,19 @@ use Rattle.trace_book.specs.declared.record.Record.{Record}
 use Rattle.trace_book.specs.Text.{entry_text, record_text, number, gap}
 use Rattle.law_walks.specs.of_wire_messages.declared.packet.Packet.{Packet}
 use Rattle.law_walks.specs.of_role_steps.Own.{Sends}
-use Rattle.law_walks.specs.of_role_steps.Tables.{row, total}
-use Rattle.law_walks.specs.of_role_steps.Views.{SiteView, Told, Shown, Outcome, Receives, all_sites}
+use Rattle.law_walks.specs.of_role_steps.Tables.{total}
+use Rattle.law_walks.specs.of_role_steps.Views.{SiteView, Told, Shown, Outcome, Receives}
 use Rattle.law_walks.specs.of_the_run.Disks.{Disk, Armed, Cut, BootWrite, ClosesLosing, WritesBody, OpensHalf, ClosesOther, ClosesGate, boot_writes, written, is_left_written, Booted, Whole, CutOff, boots, boots_armed, boots_freely, cut_disk}
 use Rattle.law_walks.specs.of_the_run.Laws.{boot_on, boot_number}
 use Rattle.law_walks.specs.of_the_run.Steps.{step}
-use Rattle.law_walks.specs.of_the_run.Worlds.{World, Place, PlaceRow, Running, Stopped, Limit, links_of, place_at, place_in, place_site, script_of, happened, happened_of, unless_over, limit_passed, told_size, packet_size, disk_of, puts, arms, passed, stops_with, cut_told, acts, first_place, first_world}
+use Rattle.law_walks.specs.of_the_run.Worlds.{World, Place, Running, Stopped, Limit, links_of, place_at, script_of, happened, happened_of, unless_over, limit_passed, told_size, packet_size, disk_of, puts, arms, passed, stops_with, cut_told, acts, first_world}
 use Rattle.law_walks.specs.of_the_run.Runs.{boots_as, run_in}
 use Rattle.law_walks.specs.of_the_run.Kept.{Kept}
 use Rattle.law_walks.proofs.of_the_run.Boots.{at_each, acts_cases}
 use Rattle.law_walks.proofs.of_the_run.Events.{puts_other, puts_same}
 use Rattle.law_walks.proofs.of_the_run.Runs.{every_run}
 use Rattle.law_walks.proofs.of_the_run.StepSends.{step_sends}
+use Rattle.law_walks.proofs.FirstWorld.{first_places}
 use Rattle.run_laws.specs.Boots.{BootsAreLow, booted_number, NextBootsAreLow}
 
 -- ---- a boot raises the number by one at most ----
@@ -168,16 +169,12 @@ low_kept c = record {
 
 -- ---- the first world ----
 
-first_boots : (c : Config) (ss : List ℕ) (s : ℕ) → boot_on (place_in (row place_site s (map (first_place c) ss))) ≤ 1
-first_boots c [] s = omega arith
-first_boots c (t ∷ ss) s =
-    elim (t == s) as (λ (b : Bool). boot_on (place_in (elim b as (λ (x : Bool). Option PlaceRow) [ true ↦ Some (first_place c t) | false ↦ row place_site s (map (first_place c) ss) ])) ≤ 1) [
-      | true ↦ omega arith
-      | false ↦ first_boots c ss s
-    ]
+first_boots : (c : Config) (s : ℕ) (o : Option Place) → place_at (first_world c) s ≡ o → boot_on o ≤ 1
+first_boots c s None e = omega arith
+first_boots c s (Some p) e = first_places c (λ t q. boot_on (Some q) ≤ 1) (λ t own. omega arith) s p e
 
 pub first_low : (c : Config) → Low (first_world c)
-first_low c = record { boots = λ s. (let k : boot_number (first_world c) s ≤ 1 = first_boots c (filter (λ (t : ℕ). nat_lt t (c.sites + 1)) all_sites) s in omega (arith, k)); room = omega arith }
+first_low c = record { boots = λ s. (let k : boot_number (first_world c) s ≤ 1 = first_boots c s (place_at (first_world c) s) refl in omega (arith, k)); room = omega arith }
 
 pub run_low : (c : Config) (lines : List ScheduleLine) → Low (run_in c lines)
 run_low c lines = every_run c Low (low_kept c) (first_low c) lines

@@ -10,7 +10,6 @@ use Rattle.trace_book.specs.declared.record.Record.TheVariants as says
 use Rattle.trace_book.specs.declared.record.StopCause.TheVariants as cause
 use Rattle.law_walks.specs.of_wire_messages.declared.packet.Packet.{Packet}
 use Rattle.law_walks.specs.of_role_steps.Own.{Every, IsOwn as IsOwnPacket}
-use Rattle.law_walks.specs.of_role_steps.Tables.{row}
 use Rattle.law_walks.specs.of_role_steps.Views.{SiteView, Told, Shown, Promises, DiskWrite, Outcome, Event, Calls, Receives, Ticks, Parts, Merges, GivesUp}
 use Rattle.law_walks.specs.of_role_steps.declared.rounds.InEpoch.{InEpoch}
 use Rattle.law_walks.specs.of_role_steps.declared.rounds.Round.{Round}
@@ -19,7 +18,7 @@ use Rattle.law_walks.proofs.of_role_steps.Sending.{every_append}
 use Rattle.law_walks.specs.of_the_run.Disks.{Disk, Booted, Whole, CutOff, boots, is_on_disk}
 use Rattle.law_walks.specs.of_the_run.Joins.{TableOk}
 use Rattle.law_walks.specs.of_the_run.Steps.{step}
-use Rattle.law_walks.specs.of_the_run.Worlds.{World, Place, Running, Stopped, Numbered, Line, number_of, links_of, place_at, place_in, place_site, script_of, happened, numbered_from, told_onto, disk_of, puts, arms, passed, stops_with, cut_told, cause_of, acts, fresh, first_place, formatted, first_world}
+use Rattle.law_walks.specs.of_the_run.Worlds.{World, Place, Running, Stopped, Numbered, Line, number_of, links_of, place_at, script_of, happened, numbered_from, told_onto, disk_of, puts, arms, passed, stops_with, cut_told, cause_of, acts, fresh, formatted, first_world}
 use Rattle.law_walks.specs.of_the_run.Runs.{boots_as, packet_record, run_in}
 use Rattle.law_walks.specs.of_the_run.Kept.{Among, WasSent, IsOwn, Kept}
 use Rattle.law_walks.proofs.of_the_run.Boots.{at_each, acts_cases, every_newest, every_numbered, every_weaker}
@@ -27,6 +26,7 @@ use Rattle.law_walks.proofs.of_the_run.Events.{happened_keeps, puts_other, puts_
 use Rattle.law_walks.proofs.of_the_run.InsideSync.{every_without}
 use Rattle.law_walks.proofs.of_the_run.StepSends.{step_sends}
 use Rattle.law_walks.proofs.of_the_run.Runs.{every_run}
+use Rattle.law_walks.proofs.FirstWorld.{first_views}
 use Rattle.run_laws.specs.Words.{InsideRecord, InsideWrite}
 use Rattle.run_laws.specs.Standing.{Standing, nowhere, after_record, after_told, standing, GoesOn, RecordGoesOn, EpochsGoOn, standing_of, moves, OwnRecord, OwnMove, OwnMoves}
 use Rattle.run_laws.specs.Naming.{Deeds, Names, Now, DeedsOf, NamesItsEpoch, PacketNames, ViewOk, Fine, Good}
@@ -118,9 +118,6 @@ running_view v u e = cc
 
 stopped_never : (d : Disk) (v : SiteView) → Stopped d ≡ Running v → ⊥
 stopped_never d v e = cc
-
-none_never : (v : SiteView) → ◌≡◌ {A = Option Place} None (Some (Running v)) → ⊥
-none_never v e = cc
 
 -- one place changed, and its site told this: how each running site stands, and its view
 places_good : (s n : ℕ) (new : Place) (told : List Told) (w : World) → Good w → OwnMoves s (standing s w.trace) told →
@@ -266,25 +263,15 @@ good_kept c = record {
 
 -- ---- the first world ----
 
-abbrev first_view : Config → ℕ → SiteView
-first_view c t = fresh 1 (formatted c t)
-
-abbrev FirstStands : Config → ℕ → SiteView → Type 0
-FirstStands c s v = (nowhere ≡ standing_of v) × ViewOk (DeedsOf [] s) v
-
-first_places : (c : Config) (ss : List ℕ) (s : ℕ) (v : SiteView) → place_in (row place_site s (map (first_place c) ss)) ≡ Some (Running v) → FirstStands c s v
-first_places c [] s v e = absurd (none_never v e)
-first_places c (t ∷ ts) s v e =
-    (elim (t == s) as (λ b. place_in (elim b [ true ↦ Some (first_place c t) | false ↦ row place_site s (map (first_place c) ts) ]) ≡ Some (Running v) → FirstStands c s v) [
-      | true ↦ λ f. subst (FirstStands c s) (running_view (first_view c t) v (some_same (Running (first_view c t)) (Running v) f)) (refl, fresh_ok _ (first_view c t) refl refl refl refl)
-      | false ↦ λ f. first_places c ts s v f
-    ]) e
+-- each site stands nowhere, and has done nothing
+first_stands : (c : Config) (s : ℕ) (v : SiteView) → place_at (first_world c) s ≡ Some (Running v) → (nowhere ≡ standing_of v) × ViewOk (DeedsOf [] s) v
+first_stands c = first_views c (λ s v. (nowhere ≡ standing_of v) × ViewOk (DeedsOf [] s) v) (λ s own. (refl, fresh_ok _ (fresh 1 (formatted c s)) refl refl refl refl))
 
 pub first_good : (c : Config) → Good (first_world c)
 first_good c = record {
   law = tt;
-  stands = λ s v e. (first_places c _ s v e).0;
-  views = λ s v e. (first_places c _ s v e).1;
+  stands = λ s v e. (first_stands c s v e).0;
+  views = λ s v e. (first_stands c s v e).1;
   packets = tt;
   underway = tt;
 }

@@ -8,6 +8,7 @@ ghost use Rattle.site_packs.specs.Packs.{Stand, groups_of, groups_at};
 ghost use Rattle.disk_model.specs.Moments.{LeavesOnly};
 ghost use Rattle.site_packs.specs.Mounting.{AreSound, KeepsCopies, new_copies, mount_calls};
 ghost use Rattle.site_label.specs.Label.{HasBoot};
+ghost use Rattle.pack_slots.specs.Format.{format_calls};
 ghost use Rattle.site_disk.specs.Image.{disk_length, label_on, one_half};
 ghost use Rattle.site_disk.specs.Formats.{disk_answer, TellsFormat};
 
@@ -39,9 +40,9 @@ impl SiteDisk {
         ensures outside { OnOk result (Torn 0 (disk_length config.now site) (D.moment disk.old).seen (D.moment disk.new).seen) }
         ensures crash { Goes (Torn 0 (disk_length config.now site)) (D.moment disk.old) (D.moment disk.new) }
 
-        // The label takes a write and a sync, each pack 131 of them.
+        // The label takes a write and a sync, each pack so many as its format.
         ensures cause { HasCause (D.moment disk.old).faults (D.moment disk.new).faults (disk_answer result) }
-        ensures tells { TellsFormat (2 + 131 * length (groups_at config.now site)) (D.moment disk.old).passing (D.moment disk.new).passing result }
+        ensures tells { TellsFormat (2 + format_calls * length (groups_at config.now site)) (D.moment disk.old).passing (D.moment disk.new).passing result }
     {
         Label::format(disk, site)?;
         SitePacks::format(config, site, disk)?;

@@ -23,7 +23,8 @@ use Rattle.site_parts.specs.of_using_site.Steps.{Gives}
 use Rattle.stored_versions.specs.declared.new_version.NewVersion.{NewVersion}
 use Rattle.site_packs.specs.of_inode_pack.of_new_contents.declared.laid_pages.LaidPages.{LaidPages}
 use Rattle.site_packs.specs.Committing.{IsWholeFit, room}
-use Rattle.site_packs.specs.Laying.{AreLaid, ArePagesOf, AreRising, IsLaidFit}
+use Rattle.site_packs.specs.of_page_marks.Laying.{AreLaid, ArePagesOf, AreRising}
+use Rattle.site_packs.specs.Laying.{IsLaidFit}
 use Rattle.site_packs.specs.Packs.{copy_at, groups_of}
 use Rattle.site_node.specs.Adopting.{choice_at, fits_own_in}
 use Rattle.role_steps.specs.Adoption.{is_ready}

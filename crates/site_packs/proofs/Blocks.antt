@@ -22,8 +22,10 @@ use Rattle.role_steps.specs.Storage.{content_of, reported}
 use Rattle.role_steps.specs.declared.copies.FileCopy.{FileCopy}
 use Rattle.site_packs.specs.Packs.{PacksState, ArePacks, AreShown, pack_in, copy_at}
 use Rattle.site_packs.specs.Committing.{blocks_over}
-use Rattle.site_packs.specs.Laying.{AreLaid, content_over}
-use Rattle.site_packs.specs.Marking.{AreMarks, AreMarked, blocks_at}
+use Rattle.page_marks.specs.Laying.{AreLaid}
+use Rattle.site_packs.specs.Laying.{content_over}
+use Rattle.page_marks.specs.Marking.{AreMarks, AreMarked}
+use Rattle.site_packs.specs.Marking.{blocks_at}
 use Rattle.site_packs.specs.declared.admitting.Admitted.{Admitted}
 use Rattle.site_packs.specs.Planning.{IsAdmitted}
 use Rattle.site_packs.proofs.Behind.{some_at}
@@ -31,7 +33,8 @@ use Rattle.site_packs.proofs.Reports.{found_pack}
 use Rattle.site_packs.proofs.Contents.{content_at}
 use Rattle.site_packs.proofs.Fills.{size_by}
 use Rattle.site_packs.proofs.Laid.{laid_long}
-use Rattle.site_packs.proofs.WrittenTables.{tables_same, tables_ascending, are_marked, has_marked, has_laid, needed_laid}
+use Rattle.page_marks.proofs.WrittenTables.{tables_same, tables_ascending, are_marked}
+use Rattle.site_packs.proofs.WrittenTables.{has_marked, has_laid, needed_laid}
 
 blocks_by : (p : PacksState) (image : List ℕ) (file : FileId) (new changed : List ℕ) (w : Working) (o : Option PackState) → ArePacks 0 0 p.site p.packs → AreShown p.packs image → pack_in file.group p.packs ≡ o → is_some o ≡ true → 1 ≤ file.ino → file.ino ≤ inodes_max
     → w.size ≡ length new → needed w ≡ length changed → ((i : ℕ) → has_page (changed_below w (pages_of w.size)) i ≡ has_page changed i) → blocks_at o file.ino w ≡ blocks_over (copy_at p image file) new changed
@@ -82,14 +85,6 @@ blocks_ascending held content changed =
 pub some_reported : (held : Option FileCopy) → is_some (option_map reported held) ≡ is_some held
 some_reported None = refl
 some_reported (Some x) = refl
-
-pub size_reported : (copy : ReportedCopy) (held : Option FileCopy) → Some copy ≡ option_map reported held → copy.size ≡ length (content_of held)
-size_reported copy None is = absurd (let e : Some copy ≡ None = is in cc)
-size_reported copy (Some x) is = ap (λ (r : ReportedCopy). r.size) (let e : copy ≡ reported x = (let f : Some copy ≡ Some (reported x) = is in cc) in e)
-
-pub none_reported : (held : Option FileCopy) → None ≡ option_map reported held → content_of held ≡ []
-none_reported None is = refl
-none_reported (Some x) is = absurd (let e : None ≡ Some (reported x) = is in cc)
 
 -- what is told of a write that was cut off
 pub written_size : (held : Option FileCopy) (content changed : List ℕ) (before tables : ℕ) (head : Option ReportedCopy) → head ≡ option_map reported held → before ≡ pages_of (length (content_of held)) → tables ≡ length (tables_written before (pages_of (length content)) changed)

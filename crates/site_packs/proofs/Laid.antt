@@ -23,7 +23,8 @@ use Rattle.pack_layout.specs.of_stored_versions.declared.new_version.NewVersion.
 use Rattle.role_steps.specs.Pulling.{bytes_in}
 use Rattle.role_steps.specs.Adoption.{place_from as place_at, page_laid_at, page_laid, content_laid}
 use Rattle.role_steps.specs.Storage.{content_of}
-use Rattle.site_packs.specs.Laying.{IsLaidFit, ArePagesOf, content_over}
+use Rattle.page_marks.specs.Laying.{ArePagesOf}
+use Rattle.site_packs.specs.Laying.{IsLaidFit, content_over}
 use Rattle.site_packs.specs.Marking.{FillsAt}
 use Rattle.site_packs.specs.Packs.{PacksState, ArePacks, AreShown, pack_in, copy_at}
 use Rattle.site_packs.proofs.Behind.{some_at}

@@ -1,6 +1,6 @@
 pub mod Areas
 pub mod Laid
-pub mod Rising
+pub mod AllCame
 pub mod Live
 pub mod Fields
 pub mod Rows
@@ -14,7 +14,6 @@ pub mod Noted
 pub mod Stored
 pub mod WrittenTables
 pub mod Blocks
-pub mod Marks
 pub mod Fills
 pub mod Mounts
 pub mod Cutting

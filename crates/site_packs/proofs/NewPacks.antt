@@ -12,6 +12,7 @@ use Rattle.disk_model.specs.Images.{Torn}
 use Rattle.pack_layout.specs.declared.half.Half.{Half}
 use Rattle.pack_layout.specs.declared.half.Half.TheVariants.{First, Second}
 use Rattle.pack_layout.specs.Layout.{area_length, area_at, slot_at, IsSlot, other_half}
+use Rattle.pack_layout.specs.SlotFields.{fields_of}
 use Rattle.pack_slots.specs.of_inode_switch.View.{is_open, Version, version, version_in, view}
 use Rattle.pack_slots.proofs.of_inode_switch.SlotBytes.{says}
 use Rattle.pack_slots.proofs.of_inode_switch.TableBytes.{page_named}
@@ -80,7 +81,7 @@ root_there base group set image area slot shows =
     let v = version image base place in
     let named = page_named image base place (root_slot set) (numbers_in (root set)) slot s here.1 names (first_numbers (root set) slot) in
     let empty = no_bytes v.content (content_length image base place (root_slot set) (numbers_in (root set)) slot s names named area) in
-    let made = copy_of_fields group 1 (root_slot set) v slot.sites (omega arith) slot.vector s.fields in
+    let made = copy_of_fields group 1 (fields_of (root_slot set)) v s.fields in
     (v, ap (λ (o : Option ℕ). version_in image base o) counts.place, made ∙ ap (λ (l : List ℕ). record { file = record { group = group; ino = 1 }; kind = kind.Dir; set = set; stamp = record { site = 0; n = 0 }; vector = nothing_seen; content = l }) empty)
 
 new_copies_in : (base group : ℕ) (set : Sites) (image : List ℕ) → base + area_length ≤ length image → IsSlot (root_slot set) → ShowsCopies base image (new_copy set) → copies_in base group image ≡ root_in group set ∷ []

@@ -5,7 +5,7 @@ use Rattle.std.specs.Option.{option_map}
 use Rattle.locus_ids.specs.Sizes.{inodes_max}
 use Rattle.pack_layout.specs.declared.slot.Slot.{Slot}
 use Rattle.pack_layout.specs.Layout.{slot_at}
-use Rattle.pack_slots.specs.of_inode_switch.Slots.{field_bytes}
+use Rattle.pack_layout.specs.SlotFields.{fields_of}
 use Rattle.pack_slots.specs.of_inode_switch.View.{Version, version, version_in, view}
 use Rattle.pack_slots.proofs.of_inode_switch.SlotBytes.{says}
 use Rattle.pack_slots.proofs.of_inode_switch.TableBytes.{page_named}
@@ -20,13 +20,13 @@ use Rattle.role_steps.specs.Storage.{reported}
 use Rattle.role_steps.specs.declared.copies.FileCopy.{FileCopy}
 use Rattle.site_packs.specs.Copies.{copy_in}
 use Rattle.site_packs.specs.Packs.{slot_reported, slot_in}
-use Rattle.site_packs.proofs.Fields.{copy_of_fields, stamp_fits}
+use Rattle.site_packs.proofs.Fields.{copy_of_fields}
 
 -- the version that the view has of an inode with this copy
 pub record Held (base ino : ℕ) (slot : Slot) (image : List ℕ) : Type 0 where
   pub version : Version
   pub seen : view image base ino ≡ Some version
-  pub fields : version.fields ≡ field_bytes slot
+  pub fields : version.fields ≡ fields_of slot
   pub size : length version.content ≡ slot.size
 
 shown : (pack : PackState) (ino : ℕ) (image : List ℕ) (o : Option InodeCopy) → AreCopies pack.copies → Shows pack image → 1 ≤ ino → ino ≤ inodes_max → copy_of pack.copies ino ≡ o → IsFound pack.base ino image o false
@@ -57,8 +57,7 @@ reported_some : (pack : PackState) (group ino : ℕ) (image : List ℕ) (copy : 
     → option_map reported (option_map (copy_in group ino) (view image pack.base ino)) ≡ Some (slot_reported ino copy.slot)
 reported_some pack group ino image copy are shows low high is =
     let held = held_some pack ino image copy are shows low high is in
-    let own = subst (λ (p : Option InodeCopy). IfSome p (λ one. IsCopy ino one)) is (are.own ino) in
-    let made = copy_of_fields group ino copy.slot held.version own.slot.sites (stamp_fits copy.slot own.slot.stamp) own.slot.vector held.fields in
+    let made = copy_of_fields group ino (fields_of copy.slot) held.version held.fields in
     let size = held.size in
     ap (λ (o : Option Version). option_map reported (option_map (copy_in group ino) o)) held.seen
     ∙ ap (λ (x : FileCopy). Some (reported x)) made

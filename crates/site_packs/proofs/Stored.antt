@@ -5,7 +5,6 @@ use Rattle.std.specs.Option.{option_map}
 use Rattle.locus_ids.specs.Sizes.{inodes_max, pack_pages, inode_span, set_span}
 use Rattle.locus_ids.specs.declared.ids.FileId.{FileId}
 use Rattle.disk_model.specs.Images.{Torn}
-use Rattle.pack_layout.specs.declared.slot.Slot.{Slot}
 use Rattle.pack_layout.specs.Layout.{area_length, area_at, slot_at}
 use Rattle.gate_switch.proofs.Tearing.{torn_widens, torn_stays}
 use Rattle.pack_slots.specs.Mounting.{IsSound}
@@ -21,7 +20,7 @@ use Rattle.inode_pack.specs.declared.pack_fault.PackFault.{PackFault}
 use Rattle.inode_pack.specs.declared.pack_fault.PackFault.TheVariants as pack_says
 use Rattle.inode_pack.specs.Pack.{PackState, Stands}
 use Rattle.pack_slots.specs.Copies.{AreCopies, copy_of, named_pages}
-use Rattle.inode_pack.specs.Committing.{Commits, new_version, content_of, commit_calls, commit_answer as pack_answer, MayBeLeft as MayBeLeftIn}
+use Rattle.inode_pack.specs.Committing.{Commits, new_version, commit_calls, commit_answer as pack_answer, MayBeLeft as MayBeLeftIn}
 use Rattle.pack_layout.specs.of_stored_versions.Versions.{IsVersion}
 use Rattle.role_steps.specs.Tables.{with_row}
 use Rattle.role_steps.specs.Storage.{copy_key}
@@ -35,8 +34,8 @@ use Rattle.gate_switch.specs.Gates.{new_gate}
 use Rattle.pack_slots.specs.of_inode_switch.Cutting.{IsViewBy}
 use Rattle.inode_pack.specs.Cutting.{IsCutCommit, are_both_open}
 use Rattle.site_packs.specs.Cutting.{IsCut, both_open_on, file_in}
+use Rattle.site_packs.proofs.Fields.{copy_of_fields}
 use Rattle.site_packs.proofs.Cutting.{both_but, none_shown}
-use Rattle.site_packs.proofs.Fields.{spelled, stamp_fits}
 use Rattle.site_packs.proofs.Mounts.{one_keeps}
 use Rattle.site_packs.proofs.Behind.{PackHere, pack_here, set_packs, all_same_but, behind_same, behind_replaced, sound_but}
 use Rattle.site_packs.proofs.Reports.{PackFound, found_pack, pages_total, pages_named}
@@ -64,14 +63,10 @@ module _ (p : PacksState) (old : List ℕ) (at : ℕ) (file : FileId) (pack : Pa
   abbrev copy : FileCopy
   copy = copy_made file given bytes
 
-  abbrev slot : Slot
-  slot = record { turn = 0; kind = given.kind; ino = file.ino; set = given.set; size = w.size; stamp = given.stamp; vector = given.vector; pages = []; tables = [] }
-
   made_is : copy_in pack.group file.ino version_made ≡ copy
   made_is =
-      let all = spelled pack.group file.ino slot (content (content_of (view old pack.base file.ino)) w) fits (stamp_fits slot version.named) version.agrees in
       let own = found.own in
-      all ∙ (λ i. record { file = record { group = own i; ino = file.ino }; kind = given.kind; set = given.set; stamp = given.stamp; vector = given.vector; content = fills.is i })
+      copy_of_fields pack.group file.ino version_made.fields version_made refl ∙ (λ i. record { file = record { group = own i; ino = file.ino }; kind = given.kind; set = given.set; stamp = given.stamp; vector = given.vector; content = fills.is i })
 
   copy_key_is : copy_key copy ≡ pack.group * inode_span + file.ino
   copy_key_is = let own = found.own in omega arith

@@ -6,7 +6,7 @@ use Rattle.disk_model.specs.declared.disk.DiskFault.{DiskFault}
 use Rattle.disk_model.specs.declared.disk.DiskFault.TheVariants.{Failed}
 use Rattle.disk_model.specs.Images.{Torn}
 use Rattle.file_content.specs.Pages.{pages_of, has_page, tables_written}
-use Rattle.pack_layout.specs.Layout.{area_length}
+use Rattle.pack_layout.specs.Layout.{layout, area_length}
 use Rattle.pack_layout.specs.of_stored_versions.declared.new_version.NewVersion.{NewVersion}
 use Rattle.pack_layout.specs.of_stored_versions.Changes.{ArePages, IsKept}
 use Rattle.pack_layout.specs.of_stored_versions.Versions.{IsVersion}
@@ -51,7 +51,7 @@ pub record MayBeLeft (p : PacksState) (made : FileCopy) (old new : List ℕ) : T
   pub copies : (copies_on (groups_of p) new ≡ copies_on (groups_of p) old) ⊎ (copies_on (groups_of p) new ≡ with_row copy_key made (copies_on (groups_of p) old))
   pub sound : AreSound p.site (groups_of p) new
   pub tables : AreTablesKept old new
-  pub outside : Torn 1024 (area_length * length (groups_of p)) old new
+  pub outside : Torn layout.label_length (area_length * length (groups_of p)) old new
 
 -- the pages and the tables that are written of a version with this content, of which these pages are, over the copy so far
 abbrev pub blocks_over : Option FileCopy → List ℕ → List ℕ → ℕ

@@ -1,40 +1,20 @@
 -- The copies of files that an image of a disk holds: what each inode of each pack of the site has there.
-use Rattle.std.specs.Prelude.{ℕ, zero, suc, ◌+◌, ◌*◌, ◌==◌, cond, List, [], ◌∷◌, ◌++◌, drop, slice_index, Option, None, Some}
-use Rattle.locus_ids.specs.Sizes.{sites_max, inodes_max}
-use Rattle.locus_ids.specs.declared.ids.Kind.{Kind}
-use Rattle.locus_ids.specs.declared.ids.Kind.TheVariants as kind
+use Rattle.std.specs.Prelude.{ℕ, zero, suc, ◌+◌, List, [], ◌∷◌, ◌++◌, Option, None, Some}
+use Rattle.locus_ids.specs.Sizes.{inodes_max}
 use Rattle.pack_layout.specs.Layout.{area_at}
 use Rattle.pack_slots.specs.of_inode_switch.View.{Version, view}
 use Rattle.role_steps.specs.declared.copies.FileCopy.{FileCopy}
 
--- ---- the fields of a version, as a slot spells them ----
-
-abbrev pub number16 : List ℕ → ℕ → ℕ
-number16 bytes k = slice_index bytes k * 256 + slice_index bytes (k + 1)
-
-abbrev pub number32 : List ℕ → ℕ → ℕ
-number32 bytes k = (number16 bytes k * 256 + slice_index bytes (k + 2)) * 256 + slice_index bytes (k + 3)
-
-abbrev pub kind_in : ℕ → Kind
-kind_in number = cond (number == 2) kind.Dir kind.File
-
--- so many counters of four bytes each
-abbrev pub counters_in : ℕ → List ℕ → List ℕ
-counters_in zero bytes = []
-counters_in (suc n) bytes = number32 bytes 0 ∷ counters_in n (drop 4 bytes)
-
--- the copy that a version of an inode is: its kind stands first, then the inode, the set, the size, the stamp, the vector
+-- the copy that a version of an inode is
 unfoldable pub copy_in : ℕ → ℕ → Version → FileCopy
 copy_in group ino v = record {
   file = record { group = group; ino = ino };
-  kind = kind_in (slice_index v.fields 0);
-  set = record { 0 = number16 v.fields 3 };
-  stamp = record { site = slice_index v.fields 9; n = number32 v.fields 10 };
-  vector = counters_in sites_max (drop 14 v.fields);
+  kind = v.fields.kind;
+  set = v.fields.set;
+  stamp = v.fields.stamp;
+  vector = v.fields.vector;
   content = v.content;
 }
-
--- ---- all copies ----
 
 abbrev pub with_version : ℕ → ℕ → Option Version → List FileCopy → List FileCopy
 with_version group ino None copies = copies

@@ -4,7 +4,7 @@ use Rattle.locus_ids.specs.declared.ids.FileId.{FileId}
 use Rattle.disk_model.specs.Cut.{Cut}
 use Rattle.disk_model.specs.Images.{Torn}
 use Rattle.gate_switch.specs.Gates.{new_gate}
-use Rattle.pack_layout.specs.Layout.{area_at, area_length}
+use Rattle.pack_layout.specs.Layout.{layout, area_at, area_length}
 use Rattle.pack_slots.specs.Cutting.{losing_inodes, closings_left}
 use Rattle.inode_pack.specs.Cutting.{are_both_open}
 use Rattle.role_steps.specs.Tables.{with_row}
@@ -51,5 +51,5 @@ pub record IsCutBehind (nth : ℕ) (groups : List ℕ) (how : Cut) (passed : ℕ
 
 pub record IsCutMount (site : ℕ) (groups : List ℕ) (how : Cut) (passed : ℕ) (old new : List ℕ) : Type 0 where
   pub kept : AreSound site groups old → KeepsCopies site groups old new
-  pub outside : Torn 1024 (area_length * length groups) old new
+  pub outside : Torn layout.label_length (area_length * length groups) old new
   pub both : both_open_on groups new ≡ closings_left how passed (both_open_on groups old)

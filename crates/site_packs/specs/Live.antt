@@ -21,7 +21,7 @@ pub record IsBehindLive (bytes after : List ℕ) : Type 0 where
 
 -- the place of a file among the marks: each group has one for each inode
 abbrev pub mark_place : FileId → ℕ
-mark_place file = file.group * 1025 + file.ino
+mark_place file = file.group * (inodes_max + 1) + file.ino
 
 -- the copy of the file is known to have no removed entry
 abbrev pub is_marked : List Bool → FileId → Bool

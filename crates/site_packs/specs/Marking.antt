@@ -1,23 +1,13 @@
--- Which pages of a content are marked as new.
-use Rattle.std.specs.Prelude.{◌≡◌, ℕ, ◌<◌, Bool, false, ◌&&◌, nat_lt, List, length, Option, None, Some}
-use Rattle.file_content.specs.Pages.{pages_of, has_page}
-use Rattle.inode_pack.specs.of_shadow_pages.Working.{Working, content, count_below}
+-- What the marked pages of a content make of the one before it.
+use Rattle.std.specs.Prelude.{◌≡◌, ℕ, ◌<◌, Bool, false, List, length, Option, None, Some}
+use Rattle.file_content.specs.Pages.{pages_of}
+use Rattle.inode_pack.specs.of_shadow_pages.Working.{Working, content}
 use Rattle.pack_slots.specs.of_inode_switch.View.{view}
 use Rattle.inode_pack.specs.of_new_contents.Marked.{is_marked}
 use Rattle.inode_pack.specs.Pack.{PackState}
 use Rattle.pack_slots.specs.Copies.{copy_of}
 use Rattle.inode_pack.specs.Committing.{RestsOn, blocks_over, size_of, content_of}
-use Rattle.pack_layout.specs.of_stored_versions.Changes.{ArePages, IsKept}
-
--- the marks are those of the changed pages
-pub record AreMarks (count : ℕ) (changed : List ℕ) (marks : List Bool) : Type 0 where
-  pub pages : ArePages count changed
-  pub each : (i : ℕ) → is_marked marks i ≡ has_page changed i
-  pub number : count_below (is_marked marks) count ≡ length changed
-
--- these are the marked ones of the first pages
-abbrev pub AreMarked : ℕ → List ℕ → List Bool → Type 0
-AreMarked count pages marks = (i : ℕ) → has_page pages i ≡ (nat_lt i count && is_marked marks i)
+use Rattle.pack_layout.specs.of_stored_versions.Changes.{IsKept}
 
 -- with the new pages in the place of the inode's, its content is this one
 pub record Fills (pack : PackState) (ino : ℕ) (new : List ℕ) (w : Working) (image : List ℕ) : Type 0 where

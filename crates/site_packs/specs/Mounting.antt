@@ -9,7 +9,7 @@ use Rattle.disk_model.specs.Disk.{Moment, IsSettled, Passing}
 use Rattle.disk_model.specs.Images.{Torn}
 use Rattle.disk_model.specs.Moments.{TellsMany}
 use Rattle.role_steps.specs.of_dir_format.Entries.{nothing_seen}
-use Rattle.pack_layout.specs.Layout.{area_length, area_at}
+use Rattle.pack_layout.specs.Layout.{layout, area_length, area_at}
 use Rattle.pack_slots.specs.declared.mount_fault.MountFault.{MountFault}
 use Rattle.pack_slots.specs.declared.mount_fault.MountFault.TheVariants.{Disk, NotAPack, BadSlot, SharedTable, SharedPage, NoMemory}
 use Rattle.pack_slots.specs.Mounting.{IsSound, IsCause as IsCauseOfPack, IsPassing, KeepsTables, losing_gates}
@@ -76,7 +76,7 @@ pub record KeepsCopies (site : ℕ) (groups old new : List ℕ) : Type 0 where
   pub copies : copies_on groups new ≡ copies_on groups old
   pub sound : AreSound site groups old → AreSound site groups new
   pub tables : AreTablesKept old new
-  pub outside : Torn 1024 (area_length * length groups) old new
+  pub outside : Torn layout.label_length (area_length * length groups) old new
 
 -- the writes and syncs of a mount: two for each inode of which both slots are open
 abbrev pub gates_behind : ℕ → List ℕ → List ℕ → ℕ

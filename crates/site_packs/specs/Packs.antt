@@ -6,7 +6,7 @@ use Rattle.locus_ids.specs.Sites.{has}
 use Rattle.locus_ids.specs.declared.config.Config.{Config}
 use Rattle.locus_ids.specs.declared.ids.FileId.{FileId}
 use Rattle.disk_model.specs.Disk.{Moment, IsSettled}
-use Rattle.pack_layout.specs.Layout.{area_length, area_at}
+use Rattle.pack_layout.specs.Layout.{layout, area_length, area_at}
 use Rattle.pack_layout.specs.declared.slot.Slot.{Slot}
 use Rattle.pack_slots.specs.declared.inode_copy.InodeCopy.{InodeCopy}
 use Rattle.inode_pack.specs.Pack.{PackState, Shows}
@@ -86,7 +86,7 @@ has_group groups group = list_any (λ one. one == group) groups
 
 -- where the area of the pack behind that of so many ends
 abbrev pub areas_end : ℕ → ℕ
-areas_end count = 1024 + area_length * count
+areas_end count = layout.label_length + area_length * count
 
 -- the nth pack of the site, of a group that isn't below this one
 pub record IsPackAt (nth least home : ℕ) (pack : PackState) : Type 0 where

@@ -8,7 +8,8 @@ use Rattle.site_packs.specs.declared.admitting.Admitted.{Admitted}
 use Rattle.site_packs.specs.Packs.{PacksState, pack_in, copy_at}
 use Rattle.role_steps.specs.Storage.{content_of}
 use Rattle.site_packs.specs.Committing.{IsWholeFit, IsFit, room}
-use Rattle.site_packs.specs.Marking.{AreMarks, KeepsRest}
+use Rattle.page_marks.specs.Marking.{AreMarks}
+use Rattle.site_packs.specs.Marking.{KeepsRest}
 
 -- the site may keep the version, in the pack at this place
 pub record IsPlan (p : PacksState) (file : FileId) (given : NewVersion) (bytes : ℕ) (plan : Plan) : Type 0 where

@@ -8,12 +8,12 @@ ghost use Rattle.site_packs.specs.Committing.{IsFit, room, commit_answer};
 ghost use Rattle.site_packs.specs.Cutting.{HasSize};
 ghost use Rattle.site_packs.specs.Planning.{IsAdmitted};
 
-use crate::marking::marks_of;
 use crate::planning::Plan;
 use crate::{CommitFault, NewVersion, SitePacks};
 use disk_model::Disk;
 use locus_ids::FileId;
 use locus_ids::sizes::{CONTENT_PAGES, PAGE_BYTES};
+use page_marks::marks_of;
 
 /// Where a version is to be stored, and which of its pages are written.
 #[derive(Drop)]

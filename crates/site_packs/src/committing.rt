@@ -13,12 +13,11 @@ ghost use Rattle.site_packs.specs.Committing.{IsFit, MayBeLeft, copy_made, room,
 ghost use Rattle.site_packs.specs.Laying.{IsLaidFit, content_over, copy_laid};
 ghost use Rattle.site_packs.specs.Cutting.{both_open_on, IsCut, HasSize};
 
-use crate::laying::laid_marks;
-use crate::tables::{pages_before, size_of, tables_written};
 use crate::{CommitFault, NewVersion, SitePacks, WriteSize};
 use disk_model::Disk;
 use inode_pack::{LaidPages, PackFault};
 use locus_ids::FileId;
+use page_marks::{laid_marks, pages_before, size_of, tables_written};
 
 impl SitePacks {
     /// Commits a version of a file. The pages of its content that were changed are written, `changed` having the number of each;

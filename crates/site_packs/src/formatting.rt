@@ -4,8 +4,8 @@ ghost use Rattle.locus_ids.specs.Sites.{has};
 ghost use Rattle.disk_model.specs.Disk.{Goes, IsSettled, HasCause};
 ghost use Rattle.disk_model.specs.Images.{Torn};
 ghost use Rattle.disk_model.specs.Moments.{TellsMany};
-ghost use Rattle.pack_layout.specs.Layout.{area_length, area_at};
-ghost use Rattle.pack_slots.specs.Format.{IsNew};
+ghost use Rattle.pack_layout.specs.Layout.{layout, area_length, area_at};
+ghost use Rattle.pack_slots.specs.Format.{format_calls, IsNew};
 ghost use Rattle.site_packs.specs.Copies.{copies_on};
 ghost use Rattle.site_packs.specs.Packs.{groups_at, areas_end};
 ghost use Rattle.site_packs.specs.Mounting.{AreSound, new_copies, mount_calls};
@@ -24,11 +24,11 @@ impl SitePacks {
         ensures copies { OnOk result (copies_on (groups_at config.now site) (D.moment disk.new).seen ≡ new_copies config.now site) }
         ensures sound { OnOk result (AreSound site (groups_at config.now site) (D.moment disk.new).seen) }
         ensures shut { OnOk result (mount_calls (groups_at config.now site) (D.moment disk.new).seen ≡ 0) }
-        ensures outside { OnOk result (Torn 1024 (area_length * length (groups_at config.now site)) (D.moment disk.old).seen (D.moment disk.new).seen) }
+        ensures outside { OnOk result (Torn layout.label_length (area_length * length (groups_at config.now site)) (D.moment disk.old).seen (D.moment disk.new).seen) }
         ensures durable { OnOk result (IsSettled (D.moment disk.old) → IsSettled (D.moment disk.new)) }
-        ensures crash { Goes (Torn 1024 (area_length * length (groups_at config.now site))) (D.moment disk.old) (D.moment disk.new) }
+        ensures crash { Goes (Torn layout.label_length (area_length * length (groups_at config.now site))) (D.moment disk.old) (D.moment disk.new) }
         ensures cause { HasCause (D.moment disk.old).faults (D.moment disk.new).faults result }
-        ensures tells { TellsMany (131 * length (groups_at config.now site)) (D.moment disk.old).passing (D.moment disk.new).passing result }
+        ensures tells { TellsMany (format_calls * length (groups_at config.now site)) (D.moment disk.old).passing (D.moment disk.new).passing result }
     {
         format_behind(config, site, disk, 0, &[0, 1, 2, 3])
     }
@@ -50,7 +50,7 @@ fn format_behind<D: Disk>(
     ensures durable { OnOk result (IsSettled (D.moment disk.old) → IsSettled (D.moment disk.new)) }
     ensures crash { Goes (Torn (area_at nth) (area_length * length (stored_among config.now site groups.now))) (D.moment disk.old) (D.moment disk.new) }
     ensures cause { HasCause (D.moment disk.old).faults (D.moment disk.new).faults result }
-    ensures tells { TellsMany (131 * length (stored_among config.now site groups.now)) (D.moment disk.old).passing (D.moment disk.new).passing result }
+    ensures tells { TellsMany (format_calls * length (stored_among config.now site groups.now)) (D.moment disk.old).passing (D.moment disk.new).passing result }
 {
     if groups.is_empty() {
         return Ok(());
@@ -78,7 +78,7 @@ fn format_pack<D: Disk>(
     ensures durable { OnOk result (IsSettled (D.moment disk.new)) }
     ensures crash { Goes (Torn base area_length) (D.moment disk.old) (D.moment disk.new) }
     ensures cause { HasCause (D.moment disk.old).faults (D.moment disk.new).faults result }
-    ensures tells { TellsMany 131 (D.moment disk.old).passing (D.moment disk.new).passing result }
+    ensures tells { TellsMany format_calls (D.moment disk.old).passing (D.moment disk.new).passing result }
 {
     pack_slots::format(disk, base, group, site, set)?;
     Ok(())

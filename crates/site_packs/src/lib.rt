@@ -10,9 +10,7 @@ mod formatting;
 mod groups;
 mod heads;
 mod keeping;
-mod laying;
 mod live_marks;
-mod marking;
 mod mounting;
 mod noting;
 mod numbers;
@@ -23,7 +21,6 @@ mod reading;
 mod scanning;
 mod shut_gates;
 mod storing;
-mod tables;
 
 pub use faults::{CommitFault, ReadFault, WriteSize};
 pub use inode_pack::{LaidPages, NewVersion};

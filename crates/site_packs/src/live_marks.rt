@@ -59,5 +59,5 @@ impl LiveMarks {
 fn place_of(file: FileId) -> usize
     ensures { result ≡ mark_place file }
 {
-    usize::from(file.group) * 1_025 + usize::from(file.ino)
+    usize::from(file.group) * (INODES as usize + 1) + usize::from(file.ino)
 }

@@ -2,7 +2,7 @@
 ghost use Rattle.std.specs.Prelude.{◌≡◌, ℕ, List, true};
 ghost use Rattle.file_content.specs.Pages.{pages_of};
 ghost use Rattle.role_steps.specs.Adoption.{content_laid};
-ghost use Rattle.site_packs.specs.Laying.{ArePagesOf, AreRising};
+ghost use Rattle.page_marks.specs.Laying.{ArePagesOf, AreRising};
 ghost use Rattle.locus_ids.specs.declared.ids.FileId.{FileId};
 ghost use Rattle.site_packs.specs.Live.{is_marked, IsNoted};
 ghost use Rattle.site_packs.specs.Packs.{PacksState};

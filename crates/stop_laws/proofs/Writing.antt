@@ -63,7 +63,7 @@ use Rattle.whole_run_laws.proofs.of_rest_laws.of_store_laws.Places.{instance_gra
 use Rattle.whole_run_laws.proofs.of_rest_laws.of_store_laws.Tabled.{row_among}
 use Rattle.whole_run_laws.proofs.of_rest_laws.of_one_tree_laws.ToldVectorTelling.{vectors_tell_newer}
 use Rattle.whole_run_laws.proofs.of_rest_laws.of_one_tree_laws.WantsAdopted.{ascends_left}
-use Rattle.order_laws.proofs.Standing.{same_file_eq}
+use Rattle.whole_run_laws.proofs.of_order_laws.Standing.{same_file_eq}
 use Rattle.whole_run_laws.proofs.of_rest_laws.AdoptionShut.{shut_here}
 use Rattle.whole_run_laws.proofs.of_rest_laws.StoreStepNamed.{named_low}
 use Rattle.whole_run_laws.proofs.of_rest_laws.StoreStepResting.{op_rests, store_rests}

@@ -22,7 +22,7 @@ use Rattle.past_laws.specs.Agreement.{Agrees, is_of_cluster, past, speaks_of_sit
 use Rattle.past_laws.proofs.Agreeing.{past_reversed}
 use Rattle.past_laws.proofs.Names.{both, false_true, number_own}
 use Rattle.past_laws.proofs.Sites.{of_cluster_there}
-use Rattle.row_laws.specs.Shown.{EachRecord}
+use Rattle.stop_laws.specs.of_row_laws.Shown.{EachRecord}
 use Rattle.stop_laws.specs.Stops.{CutOf, CutRecord, CutWhileUp, IsCutAfter, IsCutBefore, IsCutBooting, IsCutRow}
 use Rattle.stop_laws.proofs.Armed.{cut_armed}
 use Rattle.stop_promise_laws.specs.Alike.{EachAgreed, armed_as, disk_as, leaves_of}

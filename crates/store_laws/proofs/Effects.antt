@@ -36,9 +36,9 @@ use Rattle.tree_model.specs.Mending.{join_of_kept, joined_all, joined_content, k
 use Rattle.tree_model.specs.Same.{same_kind, same_outcome, same_refusal}
 use Rattle.tree_model.specs.State.{TreeState, kept_of}
 use Rattle.tree_model.specs.Working.{are_several, effect_on, free_pages, in_room, operated_by, result_on, work_after}
-use Rattle.dir_reconcile.specs.declared.kept.KeptVector.{KeptVector}
-use Rattle.dir_reconcile.specs.Joins.{joined_dirs}
-use Rattle.dir_reconcile.specs.Rescues.{rescued}
+use Rattle.tree_model.specs.of_dir_reconcile.declared.kept.KeptVector.{KeptVector}
+use Rattle.tree_model.specs.of_dir_reconcile.Joins.{joined_dirs}
+use Rattle.tree_model.specs.of_dir_reconcile.Rescues.{rescued}
 use Rattle.tree_laws.proofs.Names.{same_epoch_own}
 
 -- ---- outcomes are the same as themselves ----

@@ -28,7 +28,7 @@ use Rattle.lawful_trace.specs.Tables.{call_of_act}
 use Rattle.lawful_trace.specs.TreeRows.{IsCallIn}
 use Rattle.tree_laws.specs.Calls.{Asks}
 use Rattle.dir_format.specs.Grammar.{dir_bytes}
-use Rattle.dir_reconcile.specs.Rescues.{rescue_is_spent, rescued}
+use Rattle.tree_model.specs.of_dir_reconcile.Rescues.{rescue_is_spent, rescued}
 use Rattle.file_effects.specs.Effects.{As, Deed, Effect, Removes, effect, mends}
 use Rattle.file_effects.specs.Works.{aborted, commit_result, committed, counted, operated, result_in}
 use Rattle.file_effects.specs.declared.work.Work.{Work}

@@ -13,3 +13,4 @@ pub use Rattle.role_steps.specs.of_call_rules as of_call_rules
 pub use Rattle.role_steps.specs.of_commit_graph as of_commit_graph
 pub use Rattle.role_steps.specs.of_file_effects as of_file_effects
 pub use Rattle.role_steps.specs.of_wire_messages as of_wire_messages
+pub use Rattle.role_steps.specs.of_trace_book as of_trace_book

@@ -32,8 +32,8 @@ use Rattle.tree_laws.specs.of_the_run.Worlds.{Line}
 use Rattle.tree_model.specs.Calls.{accepted_as, call_named, waiting}
 use Rattle.tree_model.specs.Epochs.{calls_accepted, epoch_of}
 use Rattle.tree_model.specs.declared.accepted.Waiting.{Waiting}
-use Rattle.lawful_trace.specs.CallRows.{CallRow, is_this}
-use Rattle.lawful_trace.specs.Tables.{begins_now, begun, close_of, closed_by, descriptor}
+use Rattle.tree_laws.specs.of_lawful_trace.CallRows.{CallRow, is_this}
+use Rattle.tree_laws.specs.of_lawful_trace.Tables.{begins_now, begun, close_of, closed_by, descriptor}
 use Rattle.tree_laws.specs.Printed.{entries}
 use Rattle.tree_laws.specs.Calls.{tries}
 use Rattle.tree_laws.specs.Doing.{FrameFact, UsersFine, UsersInside}

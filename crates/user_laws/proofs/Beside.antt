@@ -18,8 +18,8 @@ use Rattle.role_steps.specs.declared.users.WaitingCall.{WaitingCall}
 use Rattle.tree_laws.specs.of_the_run.Worlds.{Line}
 use Rattle.tree_model.specs.Calls.{waiting}
 use Rattle.tree_model.specs.declared.accepted.Waiting.{Waiting}
-use Rattle.lawful_trace.specs.CallRows.{is_this}
-use Rattle.lawful_trace.specs.TreeRows.{IsCallIn}
+use Rattle.tree_laws.specs.of_lawful_trace.CallRows.{is_this}
+use Rattle.tree_laws.specs.of_lawful_trace.TreeRows.{IsCallIn}
 use Rattle.tree_laws.specs.Printed.{entries}
 use Rattle.tree_laws.specs.Calls.{script}
 use Rattle.tree_laws.specs.Following.{IsFollowed, MayTell}

@@ -20,9 +20,9 @@ use Rattle.tree_model.specs.declared.accepted.Waiting.{Waiting}
 use Rattle.tree_model.specs.Calls.{opening_of, waiting}
 use Rattle.tree_model.specs.Epochs.{boot_of, calls_accepted, epoch_of, is_up}
 use Rattle.tree_model.specs.Folds.{Trace}
-use Rattle.lawful_trace.specs.CallRows.{CallRow, is_this}
-use Rattle.lawful_trace.specs.Lawful.{MayCome}
-use Rattle.lawful_trace.specs.Tables.{closed_by, opened_by, descriptor}
+use Rattle.tree_laws.specs.of_lawful_trace.CallRows.{CallRow, is_this}
+use Rattle.tree_laws.specs.of_lawful_trace.Lawful.{MayCome}
+use Rattle.tree_laws.specs.of_lawful_trace.Tables.{closed_by, opened_by, descriptor}
 use Rattle.tree_laws.specs.Printed.{entries, onto_entries}
 use Rattle.tree_laws.specs.Following.{MayTell, IsFollowed}
 use Rattle.tree_laws.specs.Frames.{IsFresh}

@@ -25,7 +25,7 @@ use Rattle.role_steps.specs.declared.users.WaitingCall.{WaitingCall}
 use Rattle.tree_laws.specs.of_the_run.Worlds.{Line}
 use Rattle.tree_model.specs.declared.accepted.Waiting.{Waiting}
 use Rattle.tree_model.specs.Calls.{call_named, opening_of, version_of}
-use Rattle.lawful_trace.specs.Tables.{begun, descriptor, held_again, kept_by}
+use Rattle.tree_laws.specs.of_lawful_trace.Tables.{begun, descriptor, held_again, kept_by}
 use Rattle.tree_laws.specs.Printed.{entries}
 use Rattle.tree_laws.specs.Calls.{is_request, log}
 use Rattle.tree_laws.specs.Doing.{FrameFact, UsersFine}

@@ -17,7 +17,7 @@ use Rattle.tree_laws.specs.of_the_run.Kept.{Among}
 use Rattle.tree_laws.specs.of_the_run.Worlds.{Line, told_onto}
 use Rattle.tree_model.specs.declared.accepted.Waiting.{Waiting}
 use Rattle.tree_model.specs.Calls.{waiting}
-use Rattle.lawful_trace.specs.CallRows.{is_this}
+use Rattle.tree_laws.specs.of_lawful_trace.CallRows.{is_this}
 use Rattle.tree_laws.specs.Printed.{entries}
 use Rattle.tree_laws.specs.Users.{own_call, had, InsideUsers}
 use Rattle.tree_laws.proofs.Boots.{every_both}

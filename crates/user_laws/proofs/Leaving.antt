@@ -20,9 +20,9 @@ use Rattle.tree_laws.specs.of_the_run.Worlds.{Line, told_onto}
 use Rattle.tree_model.specs.declared.accepted.Waiting.{Waiting}
 use Rattle.tree_model.specs.Calls.{call_named, waiting}
 use Rattle.tree_model.specs.Epochs.{epoch_of, is_in}
-use Rattle.lawful_trace.specs.CallRows.{is_this}
-use Rattle.lawful_trace.specs.Progress.{now_wants, left_epoch, left_since, unless_left, wants_next}
-use Rattle.lawful_trace.specs.Tables.{descriptor}
+use Rattle.tree_laws.specs.of_lawful_trace.CallRows.{is_this}
+use Rattle.tree_laws.specs.of_lawful_trace.Progress.{now_wants, left_epoch, left_since, unless_left, wants_next}
+use Rattle.tree_laws.specs.of_lawful_trace.Tables.{descriptor}
 use Rattle.tree_laws.specs.Printed.{entries}
 use Rattle.tree_laws.specs.Doing.{AllTold, IsOfUsers, UsersInside}
 use Rattle.tree_laws.specs.Following.{MayTell}

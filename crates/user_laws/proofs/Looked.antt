@@ -17,7 +17,7 @@ use Rattle.role_steps.specs.Views.{Told, Shown}
 use Rattle.tree_laws.specs.of_the_run.Worlds.{Line}
 use Rattle.tree_model.specs.Files.{kind_of_file}
 use Rattle.tree_model.specs.Histories.{history}
-use Rattle.lawful_trace.specs.Progress.{found_in, look_answer}
+use Rattle.tree_laws.specs.of_lawful_trace.Progress.{found_in, look_answer}
 use Rattle.tree_laws.specs.Printed.{entries}
 use Rattle.tree_laws.specs.Calls.{Waits, heard, log, request_number, script, tries}
 use Rattle.tree_laws.specs.Following.{IsFollowed, MayTell}

@@ -35,8 +35,8 @@ use Rattle.tree_laws.specs.of_the_run.Worlds.{Line}
 use Rattle.tree_model.specs.Calls.{call_named}
 use Rattle.tree_model.specs.Histories.{history}
 use Rattle.tree_model.specs.declared.accepted.Waiting.{Waiting}
-use Rattle.lawful_trace.specs.Progress.{is_packed_in}
-use Rattle.lawful_trace.specs.Tables.{begun}
+use Rattle.tree_laws.specs.of_lawful_trace.Progress.{is_packed_in}
+use Rattle.tree_laws.specs.of_lawful_trace.Tables.{begun}
 use Rattle.tree_laws.specs.Printed.{entries}
 use Rattle.tree_laws.specs.Calls.{Waits, script, script_as}
 use Rattle.tree_laws.specs.Doing.{FrameFact, UsersFine, UsersInside}

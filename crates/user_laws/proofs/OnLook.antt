@@ -37,7 +37,7 @@ use Rattle.tree_laws.specs.of_the_run.Worlds.{Line}
 use Rattle.tree_model.specs.Files.{kind_of_file}
 use Rattle.tree_model.specs.Histories.{history}
 use Rattle.tree_model.specs.declared.accepted.Waiting.{Waiting}
-use Rattle.lawful_trace.specs.Progress.{entered, found_in, look_answer}
+use Rattle.tree_laws.specs.of_lawful_trace.Progress.{entered, found_in, look_answer}
 use Rattle.tree_laws.specs.Printed.{entries}
 use Rattle.tree_laws.specs.Calls.{Waits, log, script, tries}
 use Rattle.tree_laws.specs.Doing.{FrameFact, UsersFine, UsersInside}

@@ -40,7 +40,7 @@ use Rattle.tree_model.specs.Packs.{sync_site}
 use Rattle.tree_model.specs.Epochs.{members_of}
 use Rattle.tree_model.specs.State.{has_number}
 use Rattle.tree_model.specs.declared.accepted.Waiting.{Waiting}
-use Rattle.lawful_trace.specs.TreeRows.{IsCallIn, is_open_of}
+use Rattle.tree_laws.specs.of_lawful_trace.TreeRows.{IsCallIn, is_open_of}
 use Rattle.tree_laws.specs.Printed.{entries}
 use Rattle.tree_laws.specs.Calls.{Waits, request_number, script}
 use Rattle.tree_laws.specs.Doing.{FrameFact, UsersFine, UsersInside}

@@ -28,8 +28,8 @@ use Rattle.role_steps.specs.Using.{asked_answer}
 use Rattle.role_steps.specs.Views.{Frame, Told, Shown, Takes, LooksAgain}
 use Rattle.role_steps.specs.declared.users.Asking.TheVariants as asking
 use Rattle.tree_laws.specs.of_the_run.Worlds.{Line}
-use Rattle.lawful_trace.specs.Progress.{granted_answer}
-use Rattle.lawful_trace.specs.TreeRows.{is_open_of}
+use Rattle.tree_laws.specs.of_lawful_trace.Progress.{granted_answer}
+use Rattle.tree_laws.specs.of_lawful_trace.TreeRows.{is_open_of}
 use Rattle.tree_laws.specs.Printed.{entries}
 use Rattle.tree_laws.specs.Calls.{is_request, log, request_number, tries}
 use Rattle.tree_laws.specs.Following.{IsFollowed, MayTell}

@@ -37,9 +37,9 @@ use Rattle.tree_model.specs.Opening.{is_only, is_placed, open_refusal}
 use Rattle.tree_model.specs.State.{TreeState, is_granted, kept_of}
 use Rattle.tree_model.specs.Tree.{tree_of}
 use Rattle.commit_graph.specs.declared.history.Version.{Version}
-use Rattle.lawful_trace.specs.Progress.{Answers, answers, is_packed_in, wants_as}
-use Rattle.lawful_trace.specs.Tables.{begun, descriptor}
-use Rattle.lawful_trace.specs.TreeRows.{is_open_of}
+use Rattle.tree_laws.specs.of_lawful_trace.Progress.{Answers, answers, is_packed_in, wants_as}
+use Rattle.tree_laws.specs.of_lawful_trace.Tables.{begun, descriptor}
+use Rattle.tree_laws.specs.of_lawful_trace.TreeRows.{is_open_of}
 use Rattle.tree_laws.specs.Printed.{entries}
 use Rattle.tree_laws.specs.Following.{IsFollowed, MayTell}
 use Rattle.tree_laws.specs.Instances.{IsStarted}

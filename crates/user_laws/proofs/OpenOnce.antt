@@ -12,8 +12,8 @@ use Rattle.trace_book.specs.declared.record.Record.TheVariants as says
 use Rattle.role_steps.specs.Views.{Told, Shown, Takes}
 use Rattle.tree_laws.specs.of_the_run.Worlds.{Line}
 use Rattle.tree_model.specs.Epochs.{boot_of}
-use Rattle.lawful_trace.specs.Progress.{Answers}
-use Rattle.lawful_trace.specs.TreeRows.{IsCallIn}
+use Rattle.tree_laws.specs.of_lawful_trace.Progress.{Answers}
+use Rattle.tree_laws.specs.of_lawful_trace.TreeRows.{IsCallIn}
 use Rattle.tree_laws.specs.Printed.{entries}
 use Rattle.tree_laws.specs.Calls.{log, request_number}
 use Rattle.tree_laws.specs.Following.{IsFollowed, MayTell, OpensInTime}

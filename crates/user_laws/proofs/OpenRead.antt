@@ -22,7 +22,7 @@ use Rattle.role_steps.specs.Using.{version_read}
 use Rattle.role_steps.specs.declared.users.Asking.TheVariants as asking
 use Rattle.tree_laws.specs.of_the_run.Worlds.{Line}
 use Rattle.tree_model.specs.Histories.{history}
-use Rattle.lawful_trace.specs.TreeRows.{is_open_of}
+use Rattle.tree_laws.specs.of_lawful_trace.TreeRows.{is_open_of}
 use Rattle.tree_laws.specs.Instances.{IsOpening, Stands}
 use Rattle.tree_laws.specs.Packets.{HasSize}
 use Rattle.tree_laws.specs.Printed.{entries}

@@ -40,8 +40,8 @@ use Rattle.tree_model.specs.Calls.{call_named, opening_of, waiting}
 use Rattle.tree_model.specs.Epochs.{is_in, members_of}
 use Rattle.tree_model.specs.Packs.{sync_site}
 use Rattle.tree_model.specs.declared.accepted.Waiting.{Waiting}
-use Rattle.lawful_trace.specs.CallRows.{ends_mending, has_lost_mend, is_lost_mend, is_mend_of, is_this}
-use Rattle.lawful_trace.specs.Tables.{descriptor, held_again, is_read_of, opened_as, opened_by, reads_by}
+use Rattle.tree_laws.specs.of_lawful_trace.CallRows.{ends_mending, has_lost_mend, is_lost_mend, is_mend_of, is_this}
+use Rattle.tree_laws.specs.of_lawful_trace.Tables.{descriptor, held_again, is_read_of, opened_as, opened_by, reads_by}
 use Rattle.tree_laws.specs.Printed.{entries}
 use Rattle.tree_laws.specs.Doing.{FrameFact, UsersInside}
 use Rattle.tree_laws.specs.Following.{IsFollowed, MayTell}

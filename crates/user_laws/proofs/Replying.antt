@@ -23,9 +23,9 @@ use Rattle.tree_laws.specs.of_the_run.Worlds.{Line}
 use Rattle.tree_model.specs.Calls.{call_named, opening_of, waiting}
 use Rattle.tree_model.specs.Epochs.{is_in}
 use Rattle.tree_model.specs.declared.accepted.Waiting.{Waiting}
-use Rattle.lawful_trace.specs.CallRows.{MayAnswer, is_this}
-use Rattle.lawful_trace.specs.Progress.{Answers, answers, left_epoch, unless_left, wants_as, wants_next}
-use Rattle.lawful_trace.specs.Tables.{begun, descriptor}
+use Rattle.tree_laws.specs.of_lawful_trace.CallRows.{MayAnswer, is_this}
+use Rattle.tree_laws.specs.of_lawful_trace.Progress.{Answers, answers, left_epoch, unless_left, wants_as, wants_next}
+use Rattle.tree_laws.specs.of_lawful_trace.Tables.{begun, descriptor}
 use Rattle.tree_laws.specs.Printed.{entries}
 use Rattle.tree_laws.specs.Calls.{is_request, log, script, script_as}
 use Rattle.tree_laws.specs.Doing.{FrameFact}

@@ -36,8 +36,8 @@ use Rattle.tree_model.specs.Calls.{granted_to}
 use Rattle.tree_model.specs.Epochs.{boot_of, epoch_of}
 use Rattle.tree_model.specs.declared.accepted.Waiting.{Waiting}
 use Rattle.tree_model.specs.declared.instance.Instance.{Instance}
-use Rattle.lawful_trace.specs.Tables.{call_of_act}
-use Rattle.lawful_trace.specs.TreeRows.{IsCallIn}
+use Rattle.tree_laws.specs.of_lawful_trace.Tables.{call_of_act}
+use Rattle.tree_laws.specs.of_lawful_trace.TreeRows.{IsCallIn}
 use Rattle.tree_laws.specs.Printed.{entries}
 use Rattle.tree_laws.specs.Calls.{Asks, is_request, script, request_number}
 use Rattle.tree_laws.specs.Doing.{FrameFact, UsersFine}

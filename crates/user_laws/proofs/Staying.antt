@@ -18,8 +18,8 @@ use Rattle.tree_model.specs.declared.accepted.Waiting.{Waiting}
 use Rattle.tree_model.specs.Calls.{call_named, accepted_as, waiting, opening_of}
 use Rattle.tree_model.specs.Folds.{Trace}
 use Rattle.tree_model.specs.Epochs.{boot_of, calls_accepted}
-use Rattle.lawful_trace.specs.CallRows.{is_this}
-use Rattle.lawful_trace.specs.Tables.{descriptor, closed_by, opened_by}
+use Rattle.tree_laws.specs.of_lawful_trace.CallRows.{is_this}
+use Rattle.tree_laws.specs.of_lawful_trace.Tables.{descriptor, closed_by, opened_by}
 use Rattle.tree_laws.specs.Printed.{entries, onto_entries}
 use Rattle.tree_laws.specs.Calls.{log, tries}
 use Rattle.tree_laws.specs.Doing.{IsOfUsers, IsOfSite}

@@ -19,7 +19,7 @@ use Rattle.tree_laws.specs.of_the_run.Worlds.{Line}
 use Rattle.tree_model.specs.Calls.{waiting}
 use Rattle.tree_model.specs.State.{has_number}
 use Rattle.tree_model.specs.declared.accepted.Waiting.{Waiting}
-use Rattle.lawful_trace.specs.CallRows.{is_this}
+use Rattle.tree_laws.specs.of_lawful_trace.CallRows.{is_this}
 use Rattle.tree_laws.specs.Printed.{entries}
 use Rattle.tree_laws.specs.Calls.{Waits, log, tries}
 use Rattle.tree_laws.specs.Doing.{FrameFact, UsersInside, UsersFine}

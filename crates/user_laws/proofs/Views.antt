@@ -37,7 +37,7 @@ use Rattle.tree_model.specs.Epochs.{is_in, members_of}
 use Rattle.tree_model.specs.Histories.{history}
 use Rattle.tree_model.specs.Packs.{sync_site}
 use Rattle.tree_model.specs.State.{has_number}
-use Rattle.lawful_trace.specs.CallRows.{ends_mending, has_lost_mend, is_lost_mend, is_mend_of, is_this}
+use Rattle.tree_laws.specs.of_lawful_trace.CallRows.{ends_mending, has_lost_mend, is_lost_mend, is_mend_of, is_this}
 use Rattle.tree_laws.specs.Printed.{entries, onto_entries}
 use Rattle.tree_laws.specs.Calls.{log}
 use Rattle.tree_laws.specs.Doing.{FrameFact, IsOfUsers, IsOfSite, UsersInside}

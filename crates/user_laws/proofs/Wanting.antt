@@ -36,8 +36,8 @@ use Rattle.tree_model.specs.Calls.{call_named}
 use Rattle.tree_model.specs.Folds.{Trace}
 use Rattle.tree_model.specs.Packs.{sync_site}
 use Rattle.tree_model.specs.declared.accepted.Waiting.{Waiting}
-use Rattle.lawful_trace.specs.Progress.{Answers, is_packed_in}
-use Rattle.lawful_trace.specs.Tables.{begun}
+use Rattle.tree_laws.specs.of_lawful_trace.Progress.{Answers, is_packed_in}
+use Rattle.tree_laws.specs.of_lawful_trace.Tables.{begun}
 use Rattle.tree_laws.specs.Printed.{entries}
 use Rattle.tree_laws.specs.Calls.{is_request, script, script_as}
 use Rattle.tree_laws.specs.Doing.{FrameFact}

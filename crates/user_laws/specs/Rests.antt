@@ -40,9 +40,9 @@ use Rattle.tree_model.specs.Histories.{history}
 use Rattle.tree_model.specs.Packs.{sync_site}
 use Rattle.tree_model.specs.Tree.{kept_in}
 use Rattle.tree_model.specs.declared.accepted.Waiting.{Waiting}
-use Rattle.lawful_trace.specs.CallRows.{is_this}
-use Rattle.lawful_trace.specs.Tables.{begun, call_of_act, descriptor}
-use Rattle.lawful_trace.specs.TreeRows.{IsCallIn}
+use Rattle.tree_laws.specs.of_lawful_trace.CallRows.{is_this}
+use Rattle.tree_laws.specs.of_lawful_trace.Tables.{begun, call_of_act, descriptor}
+use Rattle.tree_laws.specs.of_lawful_trace.TreeRows.{IsCallIn}
 use Rattle.tree_laws.specs.Printed.{entries}
 use Rattle.tree_laws.specs.Calls.{Asks, heard, log, request_number, script, Waits}
 use Rattle.tree_laws.specs.Following.{IsFollowed, MayTell, TookFor}

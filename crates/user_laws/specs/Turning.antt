@@ -25,8 +25,8 @@ use Rattle.tree_model.specs.Calls.{call_named, waiting}
 use Rattle.tree_model.specs.Epochs.{boot_of, calls_accepted, members_of}
 use Rattle.tree_model.specs.Packs.{sync_site}
 use Rattle.tree_model.specs.State.{has_number}
-use Rattle.lawful_trace.specs.CallRows.{has_lost_mend, is_this}
-use Rattle.lawful_trace.specs.Tables.{begun, descriptor}
+use Rattle.tree_laws.specs.of_lawful_trace.CallRows.{has_lost_mend, is_this}
+use Rattle.tree_laws.specs.of_lawful_trace.Tables.{begun, descriptor}
 use Rattle.tree_laws.specs.Printed.{entries}
 use Rattle.tree_laws.specs.Calls.{log, tries, heard}
 use Rattle.tree_laws.specs.Packets.{SeesVersion, serial_of}

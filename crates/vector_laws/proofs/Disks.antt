@@ -2,12 +2,12 @@
 use Rattle.std.proofs.Common.{◌≡◌, ℕ, List, ◌∷◌, ◌++◌, Option, Some, None, refl, sym, ◌∙◌, ap, subst, append_assoc, inl, inr}
 use Rattle.trace_book.specs.declared.record.Record.{Record}
 use Rattle.trace_book.specs.declared.record.Record.TheVariants as says
-use Rattle.run_laws.specs.of_role_steps.Own.{Every}
-use Rattle.run_laws.specs.of_role_steps.Views.{Told, Shown, Promises, DiskWrite, first_written}
-use Rattle.run_laws.specs.of_role_steps.declared.copies.FileCopy.{FileCopy}
-use Rattle.run_laws.proofs.of_role_steps.Sending.{every_append}
-use Rattle.run_laws.proofs.of_the_run.Boots.{every_weaker}
-use Rattle.run_laws.specs.Words.{TalkRecord, Talk}
+use Rattle.fact_walks.specs.of_role_steps.Own.{Every}
+use Rattle.fact_walks.specs.of_role_steps.Views.{Told, Shown, Promises, DiskWrite, first_written}
+use Rattle.fact_walks.specs.of_role_steps.declared.copies.FileCopy.{FileCopy}
+use Rattle.fact_walks.proofs.of_role_steps.Sending.{every_append}
+use Rattle.fact_walks.proofs.of_the_run.Boots.{every_weaker}
+use Rattle.fact_walks.specs.of_run_laws.Words.{TalkRecord, Talk}
 use Rattle.vector_laws.specs.Held.{StillRecord, Still, Untouched, Writes, OnDisk}
 
 still_record : (r : Record) → TalkRecord r → StillRecord r

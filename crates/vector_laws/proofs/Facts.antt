@@ -1,5 +1,5 @@
 -- Facts stay when more is told.
-use Rattle.std.proofs.Common.{◌≡◌, ℕ, List, [], ◌∷◌, ◌++◌, Option, Some, None, refl, sym, subst, inl, inr}
+use Rattle.std.proofs.Common.{◌≡◌, ℕ, List, [], ◌∷◌, Option, Some, None, inl, inr}
 use Rattle.locus_ids.specs.declared.ids.EpochId.{EpochId}
 use Rattle.locus_ids.specs.declared.ids.FileId.{FileId}
 use Rattle.locus_ids.specs.declared.ids.Stamp.{Stamp}
@@ -7,28 +7,31 @@ use Rattle.locus_ids.specs.declared.ids.Mode.{Mode}
 use Rattle.locus_ids.specs.declared.ids.Mode.TheVariants as mode
 use Rattle.trace_book.specs.declared.record.Record.{Record}
 use Rattle.trace_book.specs.declared.record.Record.TheVariants as says
-use Rattle.run_laws.specs.of_wire_messages.declared.packet.Packet.{Packet}
-use Rattle.run_laws.specs.of_wire_messages.declared.body.Body.{Body}
-use Rattle.run_laws.specs.of_wire_messages.declared.body.Body.TheVariants as body
-use Rattle.run_laws.specs.of_wire_messages.declared.body.MadeVersion.{MadeVersion}
-use Rattle.run_laws.specs.of_role_steps.Own.{Every}
-use Rattle.run_laws.specs.of_role_steps.Views.{Store, SiteView, Told, Shown, DiskWrite, Outcome, joined_to, first_written, serial_key}
-use Rattle.run_laws.specs.of_role_steps.declared.copies.FileCopy.{FileCopy}
-use Rattle.run_laws.specs.of_role_steps.declared.instances.Instance.{Instance}
-use Rattle.run_laws.specs.of_role_steps.declared.instances.Stage.{Stage}
-use Rattle.run_laws.specs.of_role_steps.declared.instances.Stage.TheVariants as stage
-use Rattle.run_laws.specs.of_role_steps.declared.pulls.Pull.{Pull}
-use Rattle.run_laws.specs.of_role_steps.declared.rounds.InEpoch.{InEpoch}
-use Rattle.run_laws.specs.of_role_steps.declared.synchronizing.SyncTable.{SyncTable}
-use Rattle.run_laws.specs.of_role_steps.declared.synchronizing.FileRow.{FileRow}
-use Rattle.run_laws.specs.of_role_steps.declared.synchronizing.VersionRow.{VersionRow}
-use Rattle.run_laws.specs.of_role_steps.declared.synchronizing.OpenRow.{OpenRow}
-use Rattle.run_laws.specs.of_role_steps.declared.synchronizing.OpenStage.{OpenStage}
-use Rattle.run_laws.specs.of_role_steps.declared.synchronizing.OpenStage.TheVariants as opening
-use Rattle.run_laws.proofs.of_role_steps.Sending.{every_append}
-use Rattle.run_laws.proofs.of_the_run.Boots.{every_weaker}
+use Rattle.fact_walks.specs.of_wire_messages.declared.packet.Packet.{Packet}
+use Rattle.fact_walks.specs.of_wire_messages.declared.body.Body.{Body}
+use Rattle.fact_walks.specs.of_wire_messages.declared.body.Body.TheVariants as body
+use Rattle.fact_walks.specs.of_wire_messages.declared.body.MadeVersion.{MadeVersion}
+use Rattle.fact_walks.specs.of_role_steps.Own.{Every}
+use Rattle.fact_walks.specs.of_role_steps.Views.{Store, SiteView, Told, Shown, Outcome, joined_to, serial_key}
+use Rattle.fact_walks.specs.of_role_steps.declared.copies.FileCopy.{FileCopy}
+use Rattle.fact_walks.specs.of_role_steps.declared.instances.Instance.{Instance}
+use Rattle.fact_walks.specs.of_role_steps.declared.instances.Stage.{Stage}
+use Rattle.fact_walks.specs.of_role_steps.declared.instances.Stage.TheVariants as stage
+use Rattle.fact_walks.specs.of_role_steps.declared.pulls.Pull.{Pull}
+use Rattle.fact_walks.specs.of_role_steps.declared.rounds.InEpoch.{InEpoch}
+use Rattle.fact_walks.specs.of_role_steps.declared.synchronizing.SyncTable.{SyncTable}
+use Rattle.fact_walks.specs.of_role_steps.declared.synchronizing.FileRow.{FileRow}
+use Rattle.fact_walks.specs.of_role_steps.declared.synchronizing.VersionRow.{VersionRow}
+use Rattle.fact_walks.specs.of_role_steps.declared.synchronizing.OpenRow.{OpenRow}
+use Rattle.fact_walks.specs.of_role_steps.declared.synchronizing.OpenStage.{OpenStage}
+use Rattle.fact_walks.specs.of_role_steps.declared.synchronizing.OpenStage.TheVariants as opening
+use Rattle.fact_walks.proofs.of_the_run.Boots.{every_weaker}
+use Rattle.fact_walks.specs.Facts.{Fine as Owes}
+use Rattle.fact_walks.specs.Keeping.{Growing}
+use Rattle.fact_walks.proofs.Outcomes.{told_each, then_fine as then_owes}
 use Rattle.vector_laws.specs.Written.{NumberedRecord, NumberedTold, JoinsAll, WrittenAs, WasBegun, WasGranted, InstancesAgree}
-use Rattle.vector_laws.specs.Facts.{NotCommitRecord, NotCommit, NumberedAll, DiskFact, Fine, ReportedFact, BaseFact, MaybeMade, BodyFact, PacketFact, NoFact, Factless, CopyFact, PullFact, ClosingFact, StageFact, LastMade, InstanceFact, StoreFact, VersionFact, RowFact, GrantFact, OpenFact, TableFact, InEpochFact, ViewFact, onto, file_in}
+use Rattle.vector_laws.specs.Facts.{NotCommitRecord, NotCommit, NumberedAll, Fine, ReportedFact, BaseFact, MaybeMade, BodyFact, PacketFact, NoFact, Factless, CopyFact, PullFact, ClosingFact, StageFact, LastMade, InstanceFact, StoreFact, VersionFact, RowFact, GrantFact, OpenFact, TableFact, InEpochFact, ViewFact, versions, onto, file_in}
+pub use Rattle.fact_walks.proofs.Outcomes.{onto_append}
 
 -- whatever was told before is told later
 pub record Later (past now : List Told) : Type 0 where
@@ -48,10 +51,6 @@ one_later x past = record { written = λ f s v h. inl h; begun = λ e k f h. inr
 pub onto_later : (told past : List Told) → Later past (onto told past)
 onto_later [] past = same_later past
 onto_later (x ∷ xs) past = then_later past (x ∷ past) (onto xs (x ∷ past)) (one_later x past) (onto_later xs (x ∷ past))
-
-pub onto_append : (a b past : List Told) → onto (a ++ b) past ≡ onto b (onto a past)
-onto_append [] b past = refl
-onto_append (x ∷ xs) b past = onto_append xs b (x ∷ past)
 
 pub agree_before : (past now : List Told) → Later past now → InstancesAgree now → InstancesAgree past
 agree_before past now h g e key f k a b = g e key f k (h.begun e key f a) (h.granted e key k b)
@@ -186,23 +185,22 @@ numbered_told past _ h = tt
 
 -- what tells of no commit is numbered
 pub numbered_none : (past : List Told) (xs : List Told) → Every NotCommit xs → NumberedAll past xs
-numbered_none past [] h = tt
-numbered_none past (x ∷ xs) h = (numbered_told past x h.0, numbered_none (x ∷ past) xs h.1)
+numbered_none past xs h = told_each versions NotCommit numbered_told past xs h
 
-pub numbered_append : (past a b : List Told) → NumberedAll past a → NumberedAll (onto a past) b → NumberedAll past (a ++ b)
-numbered_append past [] b h g = g
-numbered_append past (x ∷ xs) b h g = (h.0, numbered_append (x ∷ past) xs b h.1 g)
+pub growing : Growing versions
+growing = record {
+  carries = λ past x from to e b. body_later past (x ∷ past) (one_later x past) e b;
+  view = λ past x me v. view_later past (x ∷ past) (one_later x past) v;
+  disk = λ past x copies. copies_later past (x ∷ past) (one_later x past) copies;
+}
 
-disk_then : (past : List Told) (a b : Option DiskWrite) → DiskFact past a → b ≡ None → DiskFact past (first_written a b)
-disk_then past None b h e = subst (DiskFact past) (sym e) tt
-disk_then past (Some d) b h e = h
+-- an outcome owes what the walk of facts asks
+pub fine_in : {V : Type 0} (F : List Told → V → Type 0) (past : List Told) (o : Outcome V) → Fine F past o → Owes versions F past o
+fine_in F past o h = record { view = h.view; sent = h.sent; told = h.numbered; written = h.disk }
+
+pub fine_of : {V : Type 0} (F : List Told → V → Type 0) (past : List Told) (o : Outcome V) → Owes versions F past o → Fine F past o
+fine_of F past o h = record { view = h.view; sent = h.sent; numbered = h.told; disk = h.written }
 
 -- one thing, and then another that writes nothing
 pub then_fine : {V W : Type 0} (F : List Told → V → Type 0) (G : List Told → W → Type 0) (past : List Told) (o : Outcome V) (p : Outcome W) → Fine F past o → Fine G (onto o.told past) p → p.written ≡ None → Fine G past (joined_to o p)
-then_fine F G past o p h g e = record {
-  view = subst (λ (now : List Told). G now p.view) (sym (onto_append o.told p.told past)) g.view;
-  sent = subst (λ (now : List Told). Every (PacketFact now) (o.sent ++ p.sent)) (sym (onto_append o.told p.told past))
-      (every_append (PacketFact (onto p.told (onto o.told past))) o.sent p.sent (packets_later (onto o.told past) (onto p.told (onto o.told past)) (onto_later p.told (onto o.told past)) o.sent h.sent) g.sent);
-  numbered = numbered_append past o.told p.told h.numbered g.numbered;
-  disk = disk_then past o.written p.written h.disk e;
-}
+then_fine F G past o p h g e = fine_of G past (joined_to o p) (then_owes versions growing F G past o p (fine_in F past o h) (fine_in G (onto o.told past) p g) e)

@@ -1,30 +1,31 @@
 -- In every run each disk holds of each file the version that its site committed or adopted last.
-use Rattle.std.proofs.Common.{◌≡◌, ◌≢◌, ℕ, zero, suc, ◌==◌, Bool, true, false, cond, List, [], ◌∷◌, ◌++◌, map, Option, Some, None, refl, sym, ◌∙◌, ap, subst, inl, inr, arith}
-use Rattle.std.proofs.lemmas.Bool.Decides.{nat_tests}
-use Rattle.run_laws.proofs.of_role_steps.of_plain_facts.Numbers.{apart_test, equal, equal_self}
-use Rattle.run_laws.proofs.of_role_steps.of_plain_facts.Options.{some_same}
+use Rattle.std.proofs.Common.{◌≡◌, ◌≢◌, ℕ, ◌==◌, Bool, true, false, cond, List, [], ◌∷◌, ◌++◌, map, Option, Some, None, refl, sym, ◌∙◌, ap, subst, inl, inr}
+use Rattle.fact_walks.proofs.of_role_steps.of_plain_facts.Numbers.{apart_test, equal, equal_self}
+use Rattle.fact_walks.proofs.of_role_steps.of_plain_facts.Options.{some_same}
 use Rattle.locus_ids.specs.declared.ids.FileId.{FileId}
 use Rattle.locus_ids.specs.declared.config.Config.{Config}
-use Rattle.run_laws.specs.of_schedule_lines.declared.line.ScheduleLine.{ScheduleLine}
+use Rattle.fact_walks.specs.of_schedule_lines.declared.line.ScheduleLine.{ScheduleLine}
 use Rattle.trace_book.specs.declared.record.Record.{Record}
 use Rattle.trace_book.specs.declared.record.Record.TheVariants as says
 use Rattle.trace_book.specs.declared.record.StopCause.TheVariants as cause
-use Rattle.run_laws.specs.of_wire_messages.declared.packet.Packet.{Packet}
-use Rattle.run_laws.specs.of_role_steps.Own.{Every}
-use Rattle.run_laws.specs.of_role_steps.Tables.{row, with_row}
-use Rattle.run_laws.specs.of_role_steps.Views.{SiteView, Told, Shown, DiskWrite, Outcome, Receives, file_key}
-use Rattle.run_laws.specs.of_role_steps.Storage.{copy_key}
-use Rattle.run_laws.specs.of_role_steps.declared.copies.FileCopy.{FileCopy}
-use Rattle.run_laws.proofs.of_role_steps.Rows.{row_other, row_same}
-use Rattle.run_laws.proofs.of_role_steps.Sending.{every_map}
-use Rattle.run_laws.specs.of_the_run.Disks.{Disk, Armed, BootWrite, ClosesLosing, WritesBody, OpensHalf, ClosesOther, ClosesGate, boot_writes, written, is_left_written, Booted, Whole, CutOff, boots, boots_armed, boots_freely, cut_disk, is_on_disk}
-use Rattle.run_laws.specs.of_the_run.Steps.{step}
-use Rattle.run_laws.specs.of_the_run.Worlds.{World, Place, Running, Stopped, Numbered, Line, links_of, place_at, place_in, place_site, script_of, happened, told_onto, disk_of, puts, arms, passed, stops_with, cause_of, acts, fresh, first_place, first_world, formatted}
-use Rattle.run_laws.specs.of_the_run.Runs.{boots_as, packet_record, run_in}
-use Rattle.run_laws.specs.of_the_run.Kept.{Kept}
-use Rattle.run_laws.proofs.of_the_run.Boots.{at_each, acts_cases}
-use Rattle.run_laws.proofs.of_the_run.Events.{happened_keeps, puts_other, puts_same}
-use Rattle.run_laws.proofs.of_the_run.Runs.{every_run}
+use Rattle.fact_walks.specs.of_wire_messages.declared.packet.Packet.{Packet}
+use Rattle.fact_walks.specs.of_role_steps.Own.{Every}
+use Rattle.fact_walks.specs.of_role_steps.Tables.{row, with_row}
+use Rattle.fact_walks.specs.of_role_steps.Views.{SiteView, Told, Shown, DiskWrite, Outcome, Receives, file_key}
+use Rattle.fact_walks.specs.of_role_steps.Storage.{copy_key}
+use Rattle.fact_walks.specs.of_role_steps.declared.copies.FileCopy.{FileCopy}
+use Rattle.fact_walks.proofs.of_role_steps.Rows.{row_other, row_same}
+use Rattle.fact_walks.proofs.of_role_steps.Sending.{every_map}
+use Rattle.fact_walks.specs.of_the_run.Disks.{Disk, Booted, Whole, CutOff, boots, cut_disk, is_on_disk}
+use Rattle.fact_walks.specs.of_the_run.Steps.{step}
+use Rattle.fact_walks.specs.of_the_run.Worlds.{World, Place, Running, Stopped, Numbered, Line, links_of, place_at, script_of, happened, told_onto, disk_of, puts, arms, passed, stops_with, cause_of, acts, fresh, first_world, formatted}
+use Rattle.fact_walks.specs.of_the_run.Runs.{boots_as, packet_record, run_in}
+use Rattle.fact_walks.specs.of_the_run.Kept.{Kept}
+use Rattle.fact_walks.proofs.of_the_run.Boots.{at_each, acts_cases}
+use Rattle.fact_walks.proofs.of_the_run.Events.{happened_keeps, puts_other, puts_same}
+use Rattle.fact_walks.proofs.of_the_run.Runs.{every_run}
+pub use Rattle.fact_walks.proofs.Boots.{KeepsCopies, boots_copies}
+use Rattle.fact_walks.proofs.of_law_walks.FirstWorld.{first_places}
 use Rattle.vector_laws.specs.Held.{after_record, after_told, last_write, IsOf, IsHeld, copies_on, CopiesAreTold, StillRecord, Still}
 use Rattle.vector_laws.proofs.SiteDisks.{SiteDisk, step_disk}
 
@@ -171,35 +172,6 @@ acts_told c n s v o w here h g =
 
 -- ---- a boot leaves the copies as they are ----
 
-written_copies : (x : BootWrite) (d : Disk) → (written x d).copies ≡ d.copies
-written_copies ClosesLosing d = refl
-written_copies WritesBody d = refl
-written_copies OpensHalf d = refl
-written_copies ClosesOther d = refl
-written_copies (ClosesGate file) d = refl
-
-freely_copies : (xs : List BootWrite) (d : Disk) → (boots_freely xs d).copies ≡ d.copies
-freely_copies [] d = refl
-freely_copies (x ∷ xs) d = freely_copies xs (written x d) ∙ written_copies x d
-
-abbrev pub KeepsCopies : List FileCopy → Booted → Type 0
-KeepsCopies copies (Whole d a) = d.copies ≡ copies
-KeepsCopies copies (CutOff d how) = d.copies ≡ copies
-
-cut_off_copies : (b : Bool) (x : BootWrite) (d : Disk) → (cond b (written x d) d).copies ≡ d.copies
-cut_off_copies true x d = written_copies x d
-cut_off_copies false x d = refl
-
-armed_copies : (a : Armed) (left : ℕ) (xs : List BootWrite) (d : Disk) (copies : List FileCopy) → d.copies ≡ copies → KeepsCopies copies (boots_armed a left xs d)
-armed_copies a left [] d copies e = e
-armed_copies a zero (x ∷ xs) d copies e = cut_off_copies (is_left_written a.how true x) x d ∙ e
-armed_copies a (suc zero) (x ∷ xs) d copies e = cut_off_copies (is_left_written a.how false x) x d ∙ e
-armed_copies a (suc (suc left)) (x ∷ xs) d copies e = armed_copies a left xs (written x d) copies (written_copies x d ∙ e)
-
-pub boots_copies : (o : Option Armed) (d : Disk) → KeepsCopies d.copies (boots o d)
-boots_copies None d = freely_copies (boot_writes d) d
-boots_copies (Some a) d = armed_copies a a.left (boot_writes d) d d.copies refl
-
 as_told : (c : Config) (n s : ℕ) (d : Disk) (b : Booted) (w : World) → place_at w s ≡ Some (Stopped d) → KeepsCopies d.copies b → CopiesAreTold c w → CopiesAreTold c (boots_as n s b w)
 as_told c n s d (Whole x None) w here e g = still_event c n s (Stopped d) (Running (fresh x.label.boot x.copies)) (Shown (says.Up s x.label.boot) ∷ []) [] _ w here e (λ t. refl) (tt, tt) g
 as_told c n s d (Whole x (Some a)) w here e g = still_event c n s (Stopped d) (Running (fresh x.label.boot x.copies)) (Shown (says.Up s x.label.boot) ∷ []) [] _ w here e (λ t. refl) (tt, tt) g
@@ -227,19 +199,8 @@ told_kept c = record {
 
 -- ---- the first world ----
 
-none_place : (p : Place) → ◌≡◌ {A = Option Place} None (Some p) → ⊥
-none_place p e = cc
-
-first_copies : (c : Config) (ss : List ℕ) (s key : ℕ) (p : Place) → place_in (row place_site s (map (first_place c) ss)) ≡ Some p → row copy_key key (copies_on p) ≡ row copy_key key (formatted c s)
-first_copies c [] s key p e = absurd (none_place p e)
-first_copies c (t ∷ ts) s key p e =
-    (elim (t == s) as (λ b. (t == s) ≡ b → place_in (elim b [ true ↦ Some (first_place c t) | false ↦ row place_site s (map (first_place c) ts) ]) ≡ Some p → row copy_key key (copies_on p) ≡ row copy_key key (formatted c s)) [
-      | true ↦ λ q f. subst (λ (x : Place). row copy_key key (copies_on x) ≡ row copy_key key (formatted c s)) (some_same (Running (fresh 1 (formatted c t))) p f) (ap (λ (u : ℕ). row copy_key key (formatted c u)) (equal t s q))
-      | false ↦ λ q f. first_copies c ts s key p f
-    ]) refl e
-
 pub first_told : (c : Config) → CopiesAreTold c (first_world c)
-first_told c s key p here = first_copies c _ s key p here
+first_told c s key p here = first_places c (λ t q. row copy_key key (copies_on q) ≡ row copy_key key (formatted c t)) (λ t own. refl) s p here
 
 pub run_copies : (c : Config) (lines : List ScheduleLine) → CopiesAreTold c (run_in c lines)
 run_copies c lines = every_run c (CopiesAreTold c) (told_kept c) (first_told c) lines

@@ -1,14 +1,13 @@
 -- In every run what a site holds counts its own commits, where no stamp is given twice.
-use Rattle.std.proofs.Common.{◌≡◌, ◌≢◌, ℕ, ◌+◌, ◌-◌, ◌==◌, ◌≤◌, ◌<◌, Bool, true, false, cond, not, ◌&&◌, List, [], ◌∷◌, ◌++◌, map, Option, Some, None, refl, sym, ◌∙◌, ap, subst, inl, inr, arith, ⊎_elim}
-use Rattle.std.proofs.lemmas.Bool.Decides.{nat_tests}
-use Rattle.run_laws.proofs.of_role_steps.of_plain_facts.Numbers.{equal}
-use Rattle.run_laws.proofs.of_role_steps.of_plain_facts.Options.{some_same}
-use Rattle.run_laws.proofs.of_role_steps.of_plain_facts.Tests.{both_true}
+use Rattle.std.proofs.Common.{◌≡◌, ◌≢◌, ℕ, ◌+◌, ◌-◌, ◌==◌, ◌≤◌, ◌<◌, Bool, true, false, cond, not, List, [], ◌∷◌, ◌++◌, map, Option, Some, None, refl, sym, ◌∙◌, ap, subst, inl, inr, arith, ⊎_elim}
+use Rattle.fact_walks.proofs.of_role_steps.of_plain_facts.Numbers.{equal}
+use Rattle.fact_walks.proofs.of_role_steps.of_plain_facts.Options.{some_same}
+use Rattle.fact_walks.proofs.of_role_steps.of_plain_facts.Tests.{both_true}
 use Rattle.locus_ids.specs.declared.ids.FileId.{FileId}
 use Rattle.locus_ids.specs.declared.ids.Stamp.{Stamp}
 use Rattle.locus_ids.specs.declared.config.Config.{Config}
 use Rattle.locus_ids.specs.Sizes.{inode_span}
-use Rattle.run_laws.specs.of_schedule_lines.declared.line.ScheduleLine.{ScheduleLine}
+use Rattle.fact_walks.specs.of_schedule_lines.declared.line.ScheduleLine.{ScheduleLine}
 use Rattle.version_vector.specs.Counters.{part, all_le, AllLe}
 use Rattle.version_vector.proofs.Counting.{AllLe-from_test}
 use Rattle.commit_graph.specs.declared.history.Version.{Version}
@@ -23,24 +22,25 @@ use Rattle.trace_book.specs.declared.record.Record.{Record}
 use Rattle.trace_book.specs.declared.record.Record.TheVariants as says
 use Rattle.trace_book.specs.declared.record.StopCause.{StopCause}
 use Rattle.trace_book.specs.declared.record.StopCause.TheVariants as cause
-use Rattle.run_laws.specs.of_wire_messages.declared.packet.Packet.{Packet}
-use Rattle.run_laws.specs.of_role_steps.Own.{Every}
-use Rattle.run_laws.specs.of_role_steps.Tables.{row, with_row}
-use Rattle.run_laws.specs.of_role_steps.Views.{SiteView, Told, Shown, DiskWrite, Outcome, Receives, file_key}
-use Rattle.run_laws.specs.of_role_steps.Storage.{copy_key}
-use Rattle.run_laws.specs.of_role_steps.declared.copies.FileCopy.{FileCopy}
-use Rattle.run_laws.proofs.of_role_steps.Rows.{row_other, row_same}
-use Rattle.run_laws.proofs.of_role_steps.Sending.{every_map}
-use Rattle.run_laws.specs.of_the_run.Disks.{Disk, Booted, Whole, CutOff, boots, cut_disk, is_on_disk}
-use Rattle.run_laws.specs.of_the_run.Steps.{step}
-use Rattle.run_laws.specs.of_the_run.Worlds.{World, Place, Running, Stopped, links_of, place_at, place_in, place_site, script_of, happened, disk_of, puts, arms, passed, stops_with, cause_of, acts, fresh, root_copy, formatted, first_place, first_world}
-use Rattle.run_laws.specs.of_the_run.Runs.{boots_as, packet_record, run_in}
-use Rattle.run_laws.specs.of_the_run.Kept.{Kept}
-use Rattle.run_laws.proofs.of_the_run.InsideSync.{Found, row_found}
-use Rattle.run_laws.proofs.of_the_run.Boots.{at_each, acts_cases}
-use Rattle.run_laws.proofs.of_the_run.Events.{happened_keeps, puts_other, puts_same}
-use Rattle.run_laws.proofs.of_the_run.Runs.{every_run}
+use Rattle.fact_walks.specs.of_wire_messages.declared.packet.Packet.{Packet}
+use Rattle.fact_walks.specs.of_role_steps.Own.{Every}
+use Rattle.fact_walks.specs.of_role_steps.Tables.{row, with_row}
+use Rattle.fact_walks.specs.of_role_steps.Views.{SiteView, Told, Shown, DiskWrite, Outcome, Receives, file_key}
+use Rattle.fact_walks.specs.of_role_steps.Storage.{copy_key}
+use Rattle.fact_walks.specs.of_role_steps.declared.copies.FileCopy.{FileCopy}
+use Rattle.fact_walks.proofs.of_role_steps.Rows.{row_other, row_same}
+use Rattle.fact_walks.proofs.of_role_steps.Sending.{every_map}
+use Rattle.fact_walks.specs.of_the_run.Disks.{Disk, Booted, Whole, CutOff, boots, cut_disk, is_on_disk}
+use Rattle.fact_walks.specs.of_the_run.Steps.{step}
+use Rattle.fact_walks.specs.of_the_run.Worlds.{World, Place, Running, Stopped, links_of, place_at, script_of, happened, disk_of, puts, arms, passed, stops_with, cause_of, acts, fresh, root_copy, formatted, first_world}
+use Rattle.fact_walks.specs.of_the_run.Runs.{boots_as, packet_record, run_in}
+use Rattle.fact_walks.specs.of_the_run.Kept.{Kept}
+use Rattle.fact_walks.proofs.of_the_run.InsideSync.{Found, row_found}
+use Rattle.fact_walks.proofs.of_the_run.Boots.{at_each, acts_cases}
+use Rattle.fact_walks.proofs.of_the_run.Events.{happened_keeps, puts_other, puts_same}
+use Rattle.fact_walks.proofs.of_the_run.Runs.{every_run}
 use Rattle.vector_laws.specs.Held.{IsOf, StillRecord, Still, Replaces, copies_on}
+use Rattle.fact_walks.proofs.of_law_walks.FirstWorld.{first_places}
 use Rattle.vector_laws.specs.Written.{past_of, InstancesAgree}
 use Rattle.vector_laws.specs.Facts.{onto}
 use Rattle.vector_laws.proofs.Facts.{onto_append}
@@ -303,9 +303,6 @@ counts_kept c = record {
 
 -- ---- the first world ----
 
-none_place : (p : Place) → ◌≡◌ {A = Option Place} None (Some p) → ⊥
-none_place p e = cc
-
 abbrev IsRoot : FileCopy → Type 0
 IsRoot x = x.file.ino ≡ 1
 
@@ -313,16 +310,11 @@ none_counts : (s : ℕ) (file : FileId) (o : Option FileCopy) → file.ino < ino
 none_counts s file None small h = λ a there site. false_true refl there
 none_counts s file (Some x) small h = (key_file x.file file (let r : x.file.ino ≡ 1 = h.1 in omega (arith, r)) small h.0, λ a there site. absurd (false_true refl there))
 
-first_counts : (c : Config) (ss : List ℕ) (s : ℕ) (p : Place) → place_in (row place_site s (map (first_place c) ss)) ≡ Some p → AllCounted [] s (copies_on p)
-first_counts c [] s p e = absurd (none_place p e)
-first_counts c (t ∷ ts) s p e =
-    (elim (t == s) as (λ b. place_in (elim b [ true ↦ Some (first_place c t) | false ↦ row place_site s (map (first_place c) ts) ]) ≡ Some p → AllCounted [] s (copies_on p)) [
-      | true ↦ λ f. subst (λ (x : Place). AllCounted [] s (copies_on x)) (some_same (Running (fresh 1 (formatted c t))) p f) (λ file small. none_counts s file (row copy_key (file_key file) (formatted c t)) small (row_at IsRoot copy_key (file_key file) (formatted c t) (every_map IsRoot (root_copy c) _ (λ g. refl))))
-      | false ↦ λ f. first_counts c ts s p f
-    ]) e
+first_counts : (c : Config) (s t : ℕ) → AllCounted [] s (formatted c t)
+first_counts c s t file small = none_counts s file (row copy_key (file_key file) (formatted c t)) small (row_at IsRoot copy_key (file_key file) (formatted c t) (every_map IsRoot (root_copy c) _ (λ g. refl)))
 
 pub first_counted : (c : Config) → WhereLawful (first_world c)
-first_counted c h s p here = first_counts c _ s p here
+first_counted c h s p here = first_places c (λ t q. AllCounted [] t (copies_on q)) (λ t own. first_counts c t t) s p here
 
 run_counts : (c : Config) (lines : List ScheduleLine) → WhereLawful (run_in c lines)
 run_counts c lines = every_run c WhereLawful (counts_kept c) (first_counted c) lines

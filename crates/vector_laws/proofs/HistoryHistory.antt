@@ -17,7 +17,7 @@ use Rattle.conflict_flags.proofs.Numbers.{counts_ancestors}
 use Rattle.conflict_flags.proofs.Vectors.{IsOwn, vector-written, alike_le}
 use Rattle.trace_book.specs.declared.record.Record.{Record}
 use Rattle.trace_book.specs.declared.record.Record.TheVariants as says
-use Rattle.run_laws.specs.of_role_steps.Views.{Told, Shown}
+use Rattle.fact_walks.specs.of_role_steps.Views.{Told, Shown}
 use Rattle.vector_laws.specs.Written.{CountsNone, JoinsAll, WrittenAs, IsRaised, IsNumbered, NumberedTold, CommitsAreNumbered}
 use Rattle.vector_laws.specs.HistoryCommits.{real_parents, with_record, with_told, commits_of, IsSite, SitedTold, CommitsAreSited, IsFormatStamp, VectorsTell}
 use Rattle.vector_laws.proofs.HistoryNumbers.{Counting, counting}

@@ -1,32 +1,28 @@
 -- In every run each commit is of one of the sixteen sites; and so vectors tell ancestors, where no stamp is given twice.
-use Rattle.std.proofs.Common.{◌≡◌, ℕ, ◌+◌, ◌==◌, ◌≤◌, ◌&&◌, nat_le, nat_lt, Bool, true, false, cond, List, [], ◌∷◌, filter, map, Option, Some, None, refl, sym, ◌∙◌, subst, inl, inr, arith}
-use Rattle.std.proofs.lemmas.Bool.Decides.{nat_tests}
-use Rattle.run_laws.proofs.of_role_steps.of_plain_facts.Numbers.{equal}
-use Rattle.run_laws.proofs.of_role_steps.of_plain_facts.Options.{some_same}
-use Rattle.run_laws.proofs.of_role_steps.of_plain_facts.Tests.{both_true}
+use Rattle.std.proofs.Common.{◌≡◌, ℕ, Bool, true, false, cond, List, [], ◌∷◌, map, Option, Some, None, sym, ◌∙◌, subst, inl, inr}
+use Rattle.fact_walks.proofs.of_role_steps.of_plain_facts.Options.{some_same}
 use Rattle.locus_ids.specs.declared.ids.FileId.{FileId}
 use Rattle.locus_ids.specs.declared.config.Config.{Config}
-use Rattle.locus_ids.specs.Sizes.{sites_max}
-use Rattle.run_laws.specs.of_schedule_lines.declared.line.ScheduleLine.{ScheduleLine}
+use Rattle.fact_walks.specs.of_schedule_lines.declared.line.ScheduleLine.{ScheduleLine}
 use Rattle.conflict_flags.proofs.Vectors.{vector-written}
 use Rattle.trace_book.specs.declared.record.Record.{Record}
 use Rattle.trace_book.specs.declared.record.Record.TheVariants as says
 use Rattle.trace_book.specs.declared.record.StopCause.{StopCause}
 use Rattle.trace_book.specs.declared.record.StopCause.TheVariants as cause
-use Rattle.run_laws.specs.of_wire_messages.declared.packet.Packet.{Packet}
-use Rattle.run_laws.specs.of_role_steps.Own.{Every}
-use Rattle.run_laws.specs.of_role_steps.Tables.{row}
-use Rattle.run_laws.specs.of_role_steps.Views.{SiteView, Told, Shown, DiskWrite, Outcome, Receives, all_sites}
-use Rattle.run_laws.specs.of_role_steps.declared.copies.FileCopy.{FileCopy}
-use Rattle.run_laws.proofs.of_role_steps.Sending.{every_append, every_map}
-use Rattle.run_laws.specs.of_the_run.Disks.{Disk, Booted, Whole, CutOff, boots, cut_disk, is_on_disk}
-use Rattle.run_laws.specs.of_the_run.Steps.{step}
-use Rattle.run_laws.specs.of_the_run.Worlds.{World, Place, Running, Stopped, links_of, place_at, place_in, place_site, script_of, happened, disk_of, puts, arms, passed, stops_with, cut_told, cause_of, acts, fresh, first_place, first_world}
-use Rattle.run_laws.specs.of_the_run.Runs.{boots_as, packet_record, run_in}
-use Rattle.run_laws.specs.of_the_run.Kept.{Kept}
-use Rattle.run_laws.proofs.of_the_run.Boots.{at_each, acts_cases, every_weaker}
-use Rattle.run_laws.proofs.of_the_run.Events.{happened_keeps, puts_other}
-use Rattle.run_laws.proofs.of_the_run.Runs.{every_run}
+use Rattle.fact_walks.specs.of_wire_messages.declared.packet.Packet.{Packet}
+use Rattle.fact_walks.specs.of_role_steps.Own.{Every}
+use Rattle.fact_walks.specs.of_role_steps.Views.{SiteView, Told, Shown, DiskWrite, Outcome, Receives}
+use Rattle.fact_walks.specs.of_role_steps.declared.copies.FileCopy.{FileCopy}
+use Rattle.fact_walks.proofs.of_role_steps.Sending.{every_append, every_map}
+use Rattle.fact_walks.specs.of_the_run.Disks.{Disk, Booted, Whole, CutOff, boots, cut_disk, is_on_disk}
+use Rattle.fact_walks.specs.of_the_run.Steps.{step}
+use Rattle.fact_walks.specs.of_the_run.Worlds.{World, Place, Running, Stopped, links_of, place_at, script_of, happened, disk_of, puts, arms, passed, stops_with, cut_told, cause_of, acts, fresh, first_world}
+use Rattle.fact_walks.specs.of_the_run.Runs.{boots_as, packet_record, run_in}
+use Rattle.fact_walks.specs.of_the_run.Kept.{Kept}
+use Rattle.fact_walks.proofs.of_the_run.Boots.{at_each, acts_cases, every_weaker}
+use Rattle.fact_walks.proofs.of_the_run.Events.{happened_keeps, puts_other}
+use Rattle.fact_walks.proofs.of_the_run.Runs.{every_run}
+use Rattle.fact_walks.proofs.of_law_walks.FirstWorld.{first_places}
 use Rattle.vector_laws.specs.Held.{IsOf, StillRecord, Still, OnDisk, copies_on}
 use Rattle.vector_laws.specs.Written.{past_of, CommitsAreNumbered, InstancesAgree}
 use Rattle.vector_laws.specs.Facts.{CopyFact, onto}
@@ -117,50 +113,8 @@ sited_kept c = record {
 
 -- ---- the first world ----
 
-none_place : (p : Place) → ◌≡◌ {A = Option Place} None (Some p) → ⊥
-none_place p e = cc
-
-cons_if : {A : Type 0} (P : A → Type 0) (b : Bool) (x : A) (xs : List A) → P x → Every P xs → Every P (cond b (x ∷ xs) xs)
-cons_if P true x xs p h = (p, h)
-cons_if P false x xs p h = h
-
-every_filter : {A : Type 0} (P : A → Type 0) (test : A → Bool) (xs : List A) → Every P xs → Every P (filter test xs)
-every_filter P test [] h = tt
-every_filter P test (x ∷ xs) h = cons_if P (test x) x (filter test xs) h.0 (every_filter P test xs h.1)
-
-first_sited : (c : Config) (ss : List ℕ) → Every IsSite ss → (s : ℕ) (p : Place) → place_in (row place_site s (map (first_place c) ss)) ≡ Some p → IsSite s
-first_sited c [] h s p e = absurd (none_place p e)
-first_sited c (t ∷ ts) h s p e =
-    (elim (t == s) as (λ b. (t == s) ≡ b → place_in (elim b [ true ↦ Some (first_place c t) | false ↦ row place_site s (map (first_place c) ts) ]) ≡ Some p → IsSite s) [
-      | true ↦ λ q f. subst IsSite (equal t s q) h.0
-      | false ↦ λ q f. first_sited c ts h.1 s p f
-    ]) refl e
-
-abbrev in_range : ℕ → Bool
-in_range s = nat_le 1 s && nat_le s sites_max
-
-abbrev all_in_range : List ℕ → Bool
-all_in_range [] = true
-all_in_range (s ∷ ss) = in_range s && all_in_range ss
-
-site_in : (s : ℕ) → in_range s ≡ true → IsSite s
-site_in s h = record { low = low_of (both_true (nat_le 1 s) (nat_le s sites_max) h).0; high = high_of (both_true (nat_le 1 s) (nat_le s sites_max) h).1 }
-  where
-    low_of : nat_le 1 s ≡ true → 1 ≤ s
-    low_of e = grind (arith, nat_tests)
-
-    high_of : nat_le s sites_max ≡ true → s ≤ sites_max
-    high_of e = grind (arith, nat_tests)
-
-all_sited : (ss : List ℕ) → all_in_range ss ≡ true → Every IsSite ss
-all_sited [] h = tt
-all_sited (s ∷ ss) h = let k : (in_range s ≡ true) × (all_in_range ss ≡ true) = both_true (in_range s) (all_in_range ss) h in (site_in s k.0, all_sited ss k.1)
-
-sixteen : Every IsSite all_sites
-sixteen = all_sited all_sites refl
-
 first_known : (c : Config) → SitesAreKnown (first_world c)
-first_known c = record { places = λ s p here. first_sited c _ (every_filter IsSite (λ s. nat_lt s (c.sites + 1)) all_sites sixteen) s p here; commits = tt }
+first_known c = record { places = first_places c (λ t q. IsSite t) (λ t own. record { low = own.0.0; high = own.0.1 }); commits = tt }
 
 pub run_sited : (c : Config) (lines : List ScheduleLine) → SitesAreKnown (run_in c lines)
 run_sited c lines = every_run c SitesAreKnown (sited_kept c) (first_known c) lines

@@ -15,6 +15,8 @@ pub mod HistoryNumbers
 pub mod HistoryHistory
 pub mod HistorySited
 pub mod HistoryCovers
-pub use Rattle.run_laws.proofs as of_run_laws
-pub use Rattle.run_laws.proofs.of_law_walks as of_law_walks
-pub use Rattle.run_laws.proofs.of_the_run as of_the_run
+pub use Rattle.fact_walks.proofs as of_fact_walks
+pub use Rattle.fact_walks.proofs.of_run_laws as of_run_laws
+pub use Rattle.fact_walks.proofs.of_law_walks as of_law_walks
+pub use Rattle.fact_walks.proofs.of_the_run as of_the_run
+pub use Rattle.fact_walks.proofs.of_role_steps as of_role_steps

@@ -1,29 +1,31 @@
--- What the using site and a site that pulls send carries nothing of versions: a law by kinds.
-use Rattle.std.proofs.Common.{ℕ, List, Option}
+-- What the using site and a site that pulls send carries nothing of versions, and they tell no commit and write none: a law by kinds.
+use Rattle.std.proofs.Common.{◌≡◌, ℕ, List, Option, None, refl}
 use Rattle.locus_ids.specs.declared.ids.EpochId.{EpochId}
 use Rattle.locus_ids.specs.declared.ids.FileId.{FileId}
 use Rattle.locus_ids.specs.declared.ids.Stamp.{Stamp}
 use Rattle.trace_book.specs.declared.call.Call.{Call}
 use Rattle.trace_book.specs.declared.operation.Op.{Op}
 use Rattle.trace_book.specs.declared.operation.Outcome.{Outcome as Result}
-use Rattle.run_laws.specs.of_wire_messages.declared.body.Body.{Body}
-use Rattle.run_laws.specs.of_wire_messages.declared.body.CloseAnswer.{CloseAnswer}
-use Rattle.run_laws.specs.of_wire_messages.declared.body.LookAnswer.{LookAnswer}
-use Rattle.run_laws.specs.of_wire_messages.declared.body.Granted.{Granted}
-use Rattle.run_laws.specs.of_wire_messages.declared.body.Body.TheVariants as body
-use Rattle.run_laws.specs.of_role_steps.Own.{Every}
-use Rattle.run_laws.specs.of_role_steps.Views.{Frame, Store, Users, Outcome, sends}
-use Rattle.run_laws.specs.of_role_steps.Looks.{LookRequest}
-use Rattle.run_laws.specs.of_role_steps.Storage.{on_look_ss, on_pull, on_want}
-use Rattle.run_laws.specs.of_role_steps.Pulling.{on_notify, on_page, on_delta, pull_repeats}
-use Rattle.run_laws.specs.of_role_steps.Requests.{users_repeats}
-use Rattle.run_laws.specs.of_role_steps.Using.{on_call, on_open_done, on_op_done, on_as_held, on_close_done, on_look_done}
-use Rattle.run_laws.specs.of_role_steps.declared.copies.FileCopy.{FileCopy}
-use Rattle.run_laws.specs.of_role_steps.declared.pulls.Pull.{Pull}
-use Rattle.run_laws.specs.of_law_walks.Kinds.{IsOfReader, IsUserRequest, IsOfUser}
-use Rattle.run_laws.specs.of_law_walks.Laws.{Law, body_law, ReadersKeep, UsersKeep}
-use Rattle.run_laws.proofs.of_law_walks.RoleWalks.{on_look_ss_walk, on_pull_walk, on_want_walk, on_notify_walk, on_page_walk, on_delta_walk, pull_repeats_walk, users_repeats_walk, on_call_walk, on_open_done_walk, on_op_done_walk, on_as_held_walk, on_close_done_walk, on_look_done_walk}
-use Rattle.vector_laws.specs.Facts.{NoFact, Factless}
+use Rattle.trace_book.specs.declared.record.Record.{Record}
+use Rattle.trace_book.specs.declared.record.Record.TheVariants as says
+use Rattle.fact_walks.specs.of_wire_messages.declared.body.Body.{Body}
+use Rattle.fact_walks.specs.of_wire_messages.declared.body.CloseAnswer.{CloseAnswer}
+use Rattle.fact_walks.specs.of_wire_messages.declared.body.LookAnswer.{LookAnswer}
+use Rattle.fact_walks.specs.of_wire_messages.declared.body.Granted.{Granted}
+use Rattle.fact_walks.specs.of_wire_messages.declared.body.Body.TheVariants as body
+use Rattle.fact_walks.specs.of_role_steps.Own.{Every}
+use Rattle.fact_walks.specs.of_role_steps.Views.{Frame, Store, Users, Told, Shown, Outcome, sends}
+use Rattle.fact_walks.specs.of_role_steps.Looks.{LookRequest}
+use Rattle.fact_walks.specs.of_role_steps.Storage.{on_look_ss, on_pull, on_want}
+use Rattle.fact_walks.specs.of_role_steps.Pulling.{on_notify, on_page, on_delta, pull_repeats}
+use Rattle.fact_walks.specs.of_role_steps.Requests.{users_repeats}
+use Rattle.fact_walks.specs.of_role_steps.Using.{on_call, on_open_done, on_op_done, on_as_held, on_close_done, on_look_done}
+use Rattle.fact_walks.specs.of_role_steps.declared.copies.FileCopy.{FileCopy}
+use Rattle.fact_walks.specs.of_role_steps.declared.pulls.Pull.{Pull}
+use Rattle.fact_walks.specs.of_law_walks.Kinds.{IsOfReader, IsStoreAnswer, IsUserRequest, IsOfUser, IsCallRecord, TellsCall}
+use Rattle.fact_walks.specs.of_law_walks.Laws.{Law, body_law, ReadersKeep, UsersKeep}
+use Rattle.fact_walks.proofs.of_law_walks.RoleWalks.{on_look_ss_walk, on_pull_walk, on_want_walk, on_notify_walk, on_page_walk, on_delta_walk, pull_repeats_walk, users_repeats_walk, on_call_walk, on_open_done_walk, on_op_done_walk, on_as_held_walk, on_close_done_walk, on_look_done_walk}
+use Rattle.vector_laws.specs.Facts.{NoFact, Factless, NotCommitRecord, NotCommit}
 
 -- all that the outcome sends is such
 abbrev AllFactless : {V : Type 0} → Outcome V → Type 0
@@ -48,14 +50,28 @@ reader_factless (body.Pull file stamp page) h = tt
 reader_factless (body.Want file wanted own) h = tt
 reader_factless _ h = absurd h
 
-abbrev carrying : Law
-carrying = body_law NoFact (λ t. Unit {0}) (λ w. Unit {0})
+call_record : (r : Record) → IsCallRecord r → NotCommitRecord r
+call_record (says.Commit file s stamp parents content) h = h
+call_record _ h = tt
 
-users : (f : Frame) → UsersKeep carrying f
-users f = record { asks = λ group to b h e. request_factless b h; sends = λ to b h. user_factless b h; tells = λ t h. tt; unwritten = tt }
+call_told : (t : Told) → TellsCall t → NotCommit t
+call_told (Shown r) h = call_record r h
+call_told _ h = tt
 
-readers : (f : Frame) → ReadersKeep carrying f
-readers f = record { sends = λ to b h. reader_factless b h; unwritten = tt }
+abbrev pub carrying : Law
+carrying = body_law NoFact NotCommit (λ w. w ≡ None)
+
+pub users : (f : Frame) → UsersKeep carrying f
+users f = record { asks = λ group to b h e. request_factless b h; sends = λ to b h. user_factless b h; tells = call_told; unwritten = refl }
+
+pub readers : (f : Frame) → ReadersKeep carrying f
+readers f = record { sends = λ to b h. reader_factless b h; unwritten = refl }
+
+pub back : (b : Body) → IsStoreAnswer b → NoFact b
+back (body.Page file stamp page bytes) h = tt
+back (body.Delta file wanted pages) h = tt
+back (body.Have file stamp) h = tt
+back _ h = absurd h
 
 -- ---- roles ----
 

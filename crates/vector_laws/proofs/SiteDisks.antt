@@ -1,5 +1,5 @@
 -- What each event of a site does to its disk: it writes at most one version, and tells it once.
-use Rattle.std.proofs.Common.{◌≡◌, ℕ, ◌+◌, true, false, cond, ◌&&◌, not, List, [], ◌∷◌, ◌++◌, Option, Some, None, refl, sym, subst, inl, inr}
+use Rattle.std.proofs.Common.{◌≡◌, ℕ, ◌+◌, true, false, cond, ◌&&◌, not, List, [], ◌∷◌, ◌++◌, Option, Some, None, refl, sym, ap, subst, inl, inr}
 use Rattle.locus_ids.specs.declared.ids.EpochId.{EpochId}
 use Rattle.locus_ids.specs.declared.sites.Links.{Links}
 use Rattle.locus_ids.specs.declared.sites.Members.{Members}
@@ -7,30 +7,32 @@ use Rattle.locus_ids.specs.declared.sites.Sites.{Sites}
 use Rattle.locus_ids.specs.declared.config.Config.{Config}
 use Rattle.trace_book.specs.Same.{same_epoch}
 use Rattle.trace_book.specs.declared.call.Call.TheVariants as call
-use Rattle.run_laws.specs.of_wire_messages.declared.packet.Packet.{Packet}
-use Rattle.run_laws.specs.of_wire_messages.declared.body.Body.{Body}
-use Rattle.run_laws.specs.of_wire_messages.declared.body.Body.TheVariants as body
-use Rattle.run_laws.specs.of_role_steps.Tables.{row, without_row, first_that}
-use Rattle.run_laws.specs.of_role_steps.Views.{Frame, SiteView, Promises, DiskWrite, Outcome, Event, Calls, Receives, Ticks, Parts, Merges, GivesUp, quiet, sends, tells, and_then, first_written}
-use Rattle.run_laws.specs.of_role_steps.Reports.{on_report, on_open, on_look, on_closed, on_have}
-use Rattle.run_laws.specs.of_role_steps.Opens.{on_opened}
-use Rattle.run_laws.specs.of_role_steps.Storage.{copy_of, instance_of}
-use Rattle.run_laws.specs.of_role_steps.Using.{reply_record}
-use Rattle.run_laws.specs.of_role_steps.Epochs.{is_epoch_below, frame_in, leaves_of, leaves, promises, promised_view, reached, polls, round_id, begins_round, starts_merge, boots_where, merge_boot, part_boot, starts_part_of, starts_part, promise_packet, refuse_packet, on_poll, on_promise_of, on_refuse_of, joins, may_install, is_in, joined_packet, on_install, on_joined, passed_over, unanswered, chosen_members, chosen_set, installs_all, decides_if, passes_over_of, passes_over}
-use Rattle.run_laws.specs.of_role_steps.Adoption.{notes_own_at, copy_adopted, adopt_write, table_group, without_pull, is_ready, is_above_own, adopts_pull, adopts_first, with_adopted, fits_own, content_under}
-use Rattle.run_laws.specs.of_role_steps.Mends.{mending, kept_stamps, has_mend_in, wants_mend, starts_mend_of, starts_mend, starts_mends_in, row_file}
-use Rattle.run_laws.specs.of_role_steps.declared.copies.FileCopy.{FileCopy}
-use Rattle.run_laws.specs.of_role_steps.declared.pulls.Pull.{Pull}
-use Rattle.run_laws.specs.of_role_steps.declared.rounds.InEpoch.{InEpoch}
-use Rattle.run_laws.specs.of_role_steps.declared.rounds.Round.{Round}
-use Rattle.run_laws.specs.of_role_steps.declared.synchronizing.SyncTable.{SyncTable}
-use Rattle.run_laws.specs.of_role_steps.declared.synchronizing.FileRow.{FileRow}
-use Rattle.run_laws.specs.of_role_steps.declared.users.WaitingCall.{WaitingCall}
-use Rattle.run_laws.proofs.of_role_steps.Fitting.{fits_above}
-use Rattle.run_laws.proofs.of_role_steps.Sending.{every_map}
-use Rattle.run_laws.specs.of_the_run.Steps.{from_user, group_of, at_table_of, is_opened_in, takes_inside, is_dropped, takes_framed, takes, adopts_of, adopts_in, tries_at, starts_mends_of, ends_event, whole, ticks_after, call_frame, epoch_id, takes_call, step}
-use Rattle.run_laws.specs.Words.{Talks}
-use Rattle.run_laws.proofs.Telling.{on_opened_talks, on_open_talks, on_look_talks, on_report_talks, on_closed_talks, on_have_talks, on_notify_talks, on_page_talks, on_delta_talks, on_call_talks, on_open_done_talks, on_op_done_talks, on_as_held_talks, on_close_done_talks, on_look_done_talks}
+use Rattle.fact_walks.specs.of_wire_messages.declared.packet.Packet.{Packet}
+use Rattle.fact_walks.specs.of_wire_messages.declared.body.Body.{Body}
+use Rattle.fact_walks.specs.of_wire_messages.declared.body.Body.TheVariants as body
+use Rattle.fact_walks.specs.of_role_steps.Tables.{row, without_row, first_that}
+use Rattle.fact_walks.specs.of_role_steps.Views.{Frame, Store, SiteView, Promises, DiskWrite, Outcome, Event, Calls, Receives, Ticks, Parts, Merges, GivesUp, quiet, sends, tells, and_then, first_written}
+use Rattle.fact_walks.specs.of_role_steps.Storage.{copy_of, instance_of}
+use Rattle.fact_walks.specs.of_role_steps.Using.{reply_record}
+use Rattle.fact_walks.specs.of_role_steps.Epochs.{is_epoch_below, frame_in, leaves_of, leaves, promises, promised_view, reached, polls, round_id, begins_round, starts_merge, boots_where, merge_boot, part_boot, starts_part_of, starts_part, promise_packet, refuse_packet, on_poll, on_promise_of, on_refuse_of, joins, may_install, is_in, joined_packet, on_install, on_joined, passed_over, unanswered, chosen_members, chosen_set, installs_all, decides_if, passes_over_of, passes_over}
+use Rattle.fact_walks.specs.of_role_steps.Adoption.{notes_own_at, copy_adopted, adopt_write, table_group, without_pull, is_ready, is_above_own, adopts_pull, adopts_first, with_adopted, fits_own, content_under}
+use Rattle.fact_walks.specs.of_role_steps.Mends.{mending, has_mend_in, wants_mend, starts_mend_of, starts_mend, starts_mends_in, row_file}
+use Rattle.fact_walks.specs.of_role_steps.declared.copies.FileCopy.{FileCopy}
+use Rattle.fact_walks.specs.of_role_steps.declared.pulls.Pull.{Pull}
+use Rattle.fact_walks.specs.of_role_steps.declared.rounds.InEpoch.{InEpoch}
+use Rattle.fact_walks.specs.of_role_steps.declared.rounds.Round.{Round}
+use Rattle.fact_walks.specs.of_role_steps.declared.synchronizing.SyncTable.{SyncTable}
+use Rattle.fact_walks.specs.of_role_steps.declared.synchronizing.FileRow.{FileRow}
+use Rattle.fact_walks.specs.of_role_steps.declared.users.WaitingCall.{WaitingCall}
+use Rattle.fact_walks.proofs.of_role_steps.Fitting.{fits_above}
+use Rattle.fact_walks.proofs.of_role_steps.Sending.{every_map}
+use Rattle.fact_walks.specs.of_the_run.Steps.{from_user, group_of, at_table_of, takes_inside, is_dropped, takes_framed, takes, adopts_of, adopts_in, tries_at, starts_mends_of, ends_event, whole, ticks_after, call_frame, epoch_id, takes_call, step}
+use Rattle.fact_walks.specs.of_run_laws.Words.{Talk, Talks}
+use Rattle.fact_walks.proofs.of_run_laws.Telling.{tells_talk, on_notify_talks, on_page_talks, on_delta_talks, on_call_talks}
+use Rattle.fact_walks.specs.of_law_walks.Laws.{Law, frame_law, TablesKeep, ReadersKeep, UsersKeep}
+use Rattle.fact_walks.proofs.of_law_walks.Premises.{table_tells, call_tells, frame_tables, frame_users}
+use Rattle.fact_walks.specs.Roles.{IsForStore}
+use Rattle.fact_walks.proofs.Roles.{by_role, tables_by, readers_by, users_by, pulls_by}
 use Rattle.vector_laws.specs.Held.{RisesOver, Still, Untouched, OnDisk}
 use Rattle.vector_laws.proofs.Disks.{talk_still, talks_untouched, untouched_then, disk_then}
 use Rattle.vector_laws.proofs.StoreDisks.{on_open_ss_keeps, on_close_disk, on_closed_ok_keeps, on_op_disk, on_read_held_disk, on_read_held_disk}
@@ -53,35 +55,40 @@ table_keeps : (g : SyncTable → Outcome SyncTable) (o : Option SyncTable) (v : 
 table_keeps g None v h = quiet_keeps v
 table_keeps g (Some t) v h = record { copies = refl; still = talk_still (g t).told (h t).0; none = (h t).1 }
 
+abbrev telling : Law
+telling = frame_law (λ p. Unit {0}) Talk (λ w. w ≡ None)
+
+tables : (f : Frame) → TablesKeep telling f
+tables f = frame_tables (λ p. Unit {0}) Talk (λ w. w ≡ None) f (λ to b. tt) (λ t h. tells_talk t (table_tells t h)) refl
+
+users : (f : Frame) → UsersKeep telling f
+users f = frame_users (λ p. Unit {0}) Talk (λ w. w ≡ None) f (λ to b. tt) (λ t h. tells_talk t (call_tells t h)) refl
+
+readers : (f : Frame) → ReadersKeep telling f
+readers f = record { sends = λ to b h. tt; unwritten = refl }
+
+stores_disk : (f : Frame) (from : ℕ) (x : Body) (v : SiteView) → IsForStore x → SiteDisk f.me v (takes_inside f from x v)
+stores_disk f from (body.OpenSs inst file mode set kind base vector parents) v is = inl (on_open_ss_keeps f (record { inst = inst; file = file; mode = mode; set = set; kind = kind; base = base; vector = vector; parents = parents }) v.store)
+stores_disk f from (body.Op serial n o seen) v is = on_op_disk f (mending v (group_of (instance_of v.store (from_user from serial)))) (from_user from serial) n o seen v.store
+stores_disk f from (body.ReadHeld serial n at len) v is = on_read_held_disk f (from_user from serial) n at len v.store
+stores_disk f from (body.Close serial) v is = on_close_disk f (from_user from serial) v.store
+stores_disk f from (body.ClosedOk inst) v is = inl (on_closed_ok_keeps f inst v.store)
+stores_disk f from _ v is = absurd is
+
 inside_disk : (f : Frame) (from : ℕ) (x : Body) (v : SiteView) → SiteDisk f.me v (takes_inside f from x v)
-inside_disk f from (body.Report group copies) v = inl (table_keeps (on_report f from copies) (row table_group group v.tables) v (on_report_talks f from copies))
-inside_disk f from (body.ReportOk group) v = inl (record { copies = refl; still = tt; none = refl })
-inside_disk f from (body.Open serial call process request file how) v = inl (table_keeps (on_open f from (record { serial = serial; call = call; process = process; request = request; file = file; how = how })) (row table_group file.group v.tables) v (on_open_talks f from (record { serial = serial; call = call; process = process; request = request; file = file; how = how })))
-inside_disk f from (body.OpenSs inst file mode set kind base vector parents) v = inl (on_open_ss_keeps f (record { inst = inst; file = file; mode = mode; set = set; kind = kind; base = base; vector = vector; parents = parents }) v.store)
-inside_disk f from (body.Opened inst answer) v = inl (table_keeps (on_opened f inst answer) (first_that (is_opened_in inst) v.tables) v (on_opened_talks f inst answer))
-inside_disk f from (body.OpenDone serial answer) v = inl (talks_untouched v.store.copies v.store.copies _ _ refl (on_open_done_talks f (kept_stamps v) serial answer v.users))
-inside_disk f from (body.Op serial n o seen) v = on_op_disk f (mending v (group_of (instance_of v.store (from_user from serial)))) (from_user from serial) n o seen v.store
-inside_disk f from (body.ReadHeld serial n at len) v = on_read_held_disk f (from_user from serial) n at len v.store
-inside_disk f from (body.OpDone serial n result) v = inl (talks_untouched v.store.copies v.store.copies _ _ refl (on_op_done_talks f serial n result v.users))
-inside_disk f from (body.AsHeld serial n len) v = inl (talks_untouched v.store.copies v.store.copies _ _ refl (on_as_held_talks f serial n v.users))
-inside_disk f from (body.Close serial) v = on_close_disk f (from_user from serial) v.store
-inside_disk f from (body.Closed inst made) v = inl (table_keeps (on_closed f from inst made) (first_that (is_opened_in inst) v.tables) v (on_closed_talks f from inst made))
-inside_disk f from (body.ClosedOk inst) v = inl (on_closed_ok_keeps f inst v.store)
-inside_disk f from (body.CloseDone serial answer) v = inl (talks_untouched v.store.copies v.store.copies _ _ refl (on_close_done_talks f serial answer v.users))
-inside_disk f from (body.Look call process request take file what) v = inl (table_keeps (on_look f from (record { call = call; process = process; request = request; take = take; file = file; what = what })) (row table_group file.group v.tables) v (on_look_talks f from (record { call = call; process = process; request = request; take = take; file = file; what = what })))
-inside_disk f from (body.LookSs us call process request take file what serve) v = inl (record { copies = refl; still = tt; none = refl })
-inside_disk f from (body.LookDone call request take answer) v = inl (talks_untouched v.store.copies v.store.copies _ _ refl (on_look_done_talks f call request take answer v.users))
-inside_disk f from (body.Notify file kind set size stamp vector holder) v = inl (talks_untouched v.store.copies v.store.copies _ _ refl (on_notify_talks f from (copy_of v.store file) (record { file = file; kind = kind; set = set; size = size; stamp = stamp; vector = vector; holder = holder; base = None; wanted = None; content = [] }) v.pulls))
-inside_disk f from (body.Pull file stamp page) v = inl (record { copies = refl; still = tt; none = refl })
-inside_disk f from (body.Want file wanted own) v = inl (record { copies = refl; still = tt; none = refl })
-inside_disk f from (body.Page file stamp page bytes) v = inl (talks_untouched v.store.copies v.store.copies _ _ refl (on_page_talks f file stamp page bytes v.pulls))
-inside_disk f from (body.Delta file wanted pages) v = inl (talks_untouched v.store.copies v.store.copies _ _ refl (on_delta_talks f (copy_of v.store file) file wanted pages v.pulls))
-inside_disk f from (body.Have file stamp) v = inl (table_keeps (on_have from file stamp) (row table_group file.group v.tables) v (on_have_talks from file stamp))
-inside_disk f from body.Poll v = inl (quiet_keeps v)
-inside_disk f from (body.Promise reach) v = inl (quiet_keeps v)
-inside_disk f from (body.Refuse promised) v = inl (quiet_keeps v)
-inside_disk f from (body.Install members) v = inl (quiet_keeps v)
-inside_disk f from body.Joined v = inl (quiet_keeps v)
+inside_disk f from x v =
+    by_role Q f from v (record {
+      tables = tables_by Q telling f from v (tables f) (record { reported = λ t h. tt; closed = λ inst. tt }) (λ t. tt) (λ y g o is p. inl (table_keeps g o v (λ t. ((p t).1, (p t).2))));
+      stores = λ y is. stores_disk f from y v is;
+      readers = readers_by Q telling f from v (readers f) (λ b h. tt) (λ y o is same p. inl (talks_untouched v.store.copies o.view.copies o.told o.written (ap (λ (s : Store). s.copies) same) (p.1, p.2)));
+      users = users_by Q telling f from v (users f) (λ y o is p. inl (talks_untouched v.store.copies v.store.copies o.told o.written refl (p.1, p.2)));
+      pulls = pulls_by Q telling f from v (readers f) (λ b h. tt) (λ y o is p. inl (talks_untouched v.store.copies v.store.copies o.told o.written refl (p.1, p.2)));
+      reported = λ group. inl (record { copies = refl; still = tt; none = refl });
+      forming = λ y is. inl (quiet_keeps v);
+    }) x
+  where
+    Q : Body → Outcome SiteView → Type 0
+    Q y o = SiteDisk f.me v o
 
 framed_disk : (c : Config) (me : ℕ) (p : Packet) (e : Option InEpoch) (v : SiteView) → SiteDisk me v (takes_framed c me p e v)
 framed_disk c me p None v = inl (quiet_keeps v)

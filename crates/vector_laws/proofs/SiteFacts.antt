@@ -1,42 +1,43 @@
 -- What a site keeps and sends of versions is as it was told: in its epoch, and where it forms one.
-use Rattle.std.proofs.Common.{◌≡◌, ℕ, Bool, true, false, List, [], ◌∷◌, ◌++◌, Option, Some, None, refl, sym, ◌∙◌, subst}
+use Rattle.std.proofs.Common.{◌≡◌, ℕ, Bool, true, false, List, [], ◌∷◌, ◌++◌, Option, Some, None, refl, sym, ◌∙◌, ap, subst}
 use Rattle.locus_ids.specs.declared.ids.Stamp.{Stamp}
 use Rattle.locus_ids.specs.declared.config.Config.{Config}
 use Rattle.trace_book.specs.declared.record.Record.{Record}
 use Rattle.trace_book.specs.declared.record.Record.TheVariants as says
-use Rattle.run_laws.specs.of_wire_messages.declared.body.Body.{Body}
-use Rattle.run_laws.specs.of_wire_messages.declared.body.Body.TheVariants as body
-use Rattle.run_laws.specs.of_role_steps.Own.{Every}
-use Rattle.run_laws.specs.of_role_steps.Tables.{row, first_that}
-use Rattle.run_laws.specs.of_role_steps.Views.{Frame, Store, Users, SiteView, Told, Shown, DiskWrite, Outcome, quiet, sends, packet}
-use Rattle.run_laws.specs.of_role_steps.Reports.{on_report, on_open, on_look, on_closed, on_have}
-use Rattle.run_laws.specs.of_role_steps.Opens.{on_opened}
-use Rattle.run_laws.specs.of_role_steps.Storage.{copy_of, instance_of}
-use Rattle.run_laws.specs.of_role_steps.Pulling.{pull_key, pull_of, goes_on, pull_over, begins_pull, replaces_pull, on_notify, is_awaited, pages_in, is_delta, on_page_of, on_delta_of, on_page, on_delta}
-use Rattle.run_laws.specs.of_role_steps.Using.{on_open_done, on_op_done, on_as_held, on_close_done, on_look_done}
-use Rattle.run_laws.specs.of_role_steps.Versions.{is_below}
+use Rattle.fact_walks.specs.of_wire_messages.declared.body.Body.{Body}
+use Rattle.fact_walks.specs.of_wire_messages.declared.body.Body.TheVariants as body
+use Rattle.fact_walks.specs.of_role_steps.Own.{Every}
+use Rattle.fact_walks.specs.of_role_steps.Tables.{row, first_that}
+use Rattle.fact_walks.specs.of_role_steps.Views.{Frame, Store, Users, SiteView, Told, Shown, DiskWrite, Outcome, quiet, sends, packet}
+use Rattle.fact_walks.specs.of_role_steps.Reports.{on_report, on_open, on_look, on_closed, on_have}
+use Rattle.fact_walks.specs.of_role_steps.Opens.{on_opened}
+use Rattle.fact_walks.specs.of_role_steps.Storage.{copy_of, instance_of}
+use Rattle.fact_walks.specs.of_role_steps.Pulling.{pull_key, pull_of, goes_on, pull_over, begins_pull, replaces_pull, on_notify, is_awaited, pages_in, is_delta, on_page_of, on_delta_of, on_page, on_delta}
+use Rattle.fact_walks.specs.of_role_steps.Versions.{is_below}
 use Rattle.commit_graph.specs.Versions.{same_stamp}
-use Rattle.run_laws.specs.of_role_steps.Epochs.{frame_in, with_users}
-use Rattle.run_laws.specs.of_role_steps.Adoption.{table_group, with_table, with_store}
-use Rattle.run_laws.specs.of_role_steps.Mends.{mending, kept_stamps}
-use Rattle.run_laws.specs.of_role_steps.declared.copies.FileCopy.{FileCopy}
-use Rattle.run_laws.specs.of_role_steps.declared.instances.Instance.{Instance}
-use Rattle.run_laws.specs.of_role_steps.declared.pulls.Pull.{Pull}
-use Rattle.run_laws.specs.of_role_steps.declared.rounds.InEpoch.{InEpoch}
-use Rattle.run_laws.specs.of_role_steps.declared.synchronizing.SyncTable.{SyncTable}
-use Rattle.run_laws.specs.of_the_run.Steps.{from_user, group_of, at_table_of, is_opened_in, takes_inside, with_pulls}
-use Rattle.run_laws.proofs.of_the_run.InsideSync.{every_row, Found, row_found, first_found}
-use Rattle.run_laws.proofs.of_the_run.Boots.{every_weaker}
-use Rattle.run_laws.specs.Words.{TalkRecord, Talk, Talks}
-use Rattle.run_laws.proofs.Telling.{on_opened_talks, on_open_talks, on_look_talks, on_report_talks, on_closed_talks, on_have_talks, on_notify_talks, on_page_talks, on_delta_talks, on_open_done_talks, on_op_done_talks, on_as_held_talks, on_close_done_talks, on_look_done_talks}
+use Rattle.fact_walks.specs.of_role_steps.Epochs.{frame_in, with_users}
+use Rattle.fact_walks.specs.of_role_steps.Adoption.{table_group, with_table, with_store}
+use Rattle.fact_walks.specs.of_role_steps.Mends.{mending}
+use Rattle.fact_walks.specs.of_role_steps.declared.copies.FileCopy.{FileCopy}
+use Rattle.fact_walks.specs.of_role_steps.declared.instances.Instance.{Instance}
+use Rattle.fact_walks.specs.of_role_steps.declared.pulls.Pull.{Pull}
+use Rattle.fact_walks.specs.of_role_steps.declared.rounds.InEpoch.{InEpoch}
+use Rattle.fact_walks.specs.of_role_steps.declared.synchronizing.SyncTable.{SyncTable}
+use Rattle.fact_walks.specs.of_the_run.Steps.{from_user, group_of, at_table_of, is_opened_in, takes_inside, with_pulls}
+use Rattle.fact_walks.proofs.of_the_run.InsideSync.{every_row, Found, row_found, first_found}
+use Rattle.fact_walks.proofs.of_the_run.Boots.{every_weaker}
+use Rattle.fact_walks.specs.of_run_laws.Words.{TalkRecord, Talk, Talks}
+use Rattle.fact_walks.proofs.of_run_laws.Telling.{on_opened_talks, on_open_talks, on_look_talks, on_report_talks, on_closed_talks, on_have_talks, on_notify_talks, on_page_talks, on_delta_talks}
+use Rattle.fact_walks.specs.Roles.{IsForTable, IsForStore, IsForPull}
+use Rattle.fact_walks.proofs.Roles.{by_role, readers_by, users_by}
 use Rattle.vector_laws.specs.Written.{InstancesAgree}
 use Rattle.vector_laws.specs.Facts.{ReportedFact, BodyFact, Factless, CopyFact, PullFact, InstanceFact, StoreFact, TableFact, InEpochFact, ViewFact, NotCommitRecord, NotCommit, DiskFact, Fine, onto}
 use Rattle.vector_laws.proofs.Facts.{Later, onto_later, factless, pulls_later, tables_later, view_later, numbered_none}
 use Rattle.vector_laws.proofs.SyncFacts.{FoundAt, row_at, TableFine, on_opened_fact}
 use Rattle.vector_laws.proofs.SyncEvents.{on_open_fact, on_look_fact, on_report_fact, on_closed_fact, on_have_fact}
 use Rattle.vector_laws.proofs.StoreFacts.{StoreFine, on_open_ss_fact, on_close_fact, on_closed_ok_fact, on_op_fact, on_read_held_fact}
-use Rattle.vector_laws.proofs.RolesSend.{on_pull_factless, on_want_factless, on_notify_factless, on_page_factless, on_delta_factless, on_open_done_factless, on_op_done_factless, on_as_held_factless, on_close_done_factless, on_look_done_factless}
-use Rattle.run_laws.proofs.of_role_steps.Fitting.{over_any}
+use Rattle.vector_laws.proofs.RolesSend.{carrying, users, readers, back, on_notify_factless, on_page_factless, on_delta_factless}
+use Rattle.fact_walks.proofs.of_role_steps.Fitting.{over_any}
 
 abbrev pub SiteFine : List Told → Outcome SiteView → Type 0
 SiteFine past o = Fine ViewFact past o
@@ -101,7 +102,7 @@ store_part c me boot past v e o here h k = record {
 store_of : (past : List Told) (v : SiteView) (e : InEpoch) → v.epoch ≡ Some e → ViewFact past v → StoreFact past e.id v.store
 store_of past v e here h = record { copies = h.copies; instances = (inside_of past v e here h).0 }
 
-users_part : (past : List Told) (v : SiteView) (o : Outcome Users) → ViewFact past v → Talks o → Every Factless o.sent → SiteFine past (record { view = with_users v o.view; sent = o.sent; told = o.told; written = o.written })
+pub users_part : (past : List Told) (v : SiteView) (o : Outcome Users) → ViewFact past v → Talks o → Every Factless o.sent → SiteFine past (record { view = with_users v o.view; sent = o.sent; told = o.told; written = o.written })
 users_part past v o h t s = plain_fine past v (record { view = with_users v o.view; sent = o.sent; told = o.told; written = o.written }) refl refl refl refl refl (talk_none o.told t.0) t.1 s h
 
 tabled : (past : List Told) (v : SiteView) (e : InEpoch) (t : SyncTable) → v.epoch ≡ Some e → ViewFact past v → TableFact past e.id t → ViewFact past (with_table t v)
@@ -179,36 +180,47 @@ on_page_of_fact past f stamp page bytes (Some p) ps k h = elim (is_awaited p sta
 
 -- ---- packets inside the epoch ----
 
-pub inside_fact : (c : Config) (me boot : ℕ) (past : List Told) (from : ℕ) (v : SiteView) (e : InEpoch) (x : Body) → v.epoch ≡ Some e → InstancesAgree past → BodyFact past e.id x → ViewFact past v → SiteFine past (takes_inside (frame_in c me boot e) from x v)
-inside_fact c me boot past from v e (body.Report group copies) here agree k h = group_part past (on_report (frame_in c me boot e) from copies) v e group here h (on_report_talks (frame_in c me boot e) from copies) (λ t q g. on_report_fact past (frame_in c me boot e) from copies t (subst (λ (n : ℕ). Every (ReportedFact past n) copies) (sym q) k) g)
-inside_fact c me boot past from v e (body.ReportOk group) here agree k h = plain_fine past v _ refl refl refl refl refl tt refl tt h
-inside_fact c me boot past from v e (body.Open serial call process request file how) here agree k h = group_part past (on_open (frame_in c me boot e) from (record { serial = serial; call = call; process = process; request = request; file = file; how = how })) v e file.group here h (on_open_talks (frame_in c me boot e) from (record { serial = serial; call = call; process = process; request = request; file = file; how = how })) (λ t q g. on_open_fact past (frame_in c me boot e) from (record { serial = serial; call = call; process = process; request = request; file = file; how = how }) t (sym q) g)
-inside_fact c me boot past from v e (body.OpenSs inst file mode set kind base vector parents) here agree k h = store_part c me boot past v e _ here h (on_open_ss_fact (frame_in c me boot e) past (record { inst = inst; file = file; mode = mode; set = set; kind = kind; base = base; vector = vector; parents = parents }) v.store k (store_of past v e here h))
-inside_fact c me boot past from v e (body.Opened inst answer) here agree k h = with_part past (on_opened (frame_in c me boot e) inst answer) v e (is_opened_in inst) here h (on_opened_talks (frame_in c me boot e) inst answer) (λ t g. on_opened_fact past (frame_in c me boot e) inst answer t g)
-inside_fact c me boot past from v e (body.OpenDone serial answer) here agree k h = users_part past v (on_open_done (frame_in c me boot e) (kept_stamps v) serial answer v.users) h (on_open_done_talks (frame_in c me boot e) (kept_stamps v) serial answer v.users) (on_open_done_factless (frame_in c me boot e) (kept_stamps v) serial answer v.users)
-inside_fact c me boot past from v e (body.Op serial n o seen) here agree k h = store_part c me boot past v e _ here h (on_op_fact (frame_in c me boot e) past (mending v (group_of (instance_of v.store (from_user from serial)))) (from_user from serial) n o seen v.store (store_of past v e here h))
-inside_fact c me boot past from v e (body.ReadHeld serial n at len) here agree k h = store_part c me boot past v e _ here h (on_read_held_fact (frame_in c me boot e) past (from_user from serial) n at len v.store (store_of past v e here h))
-inside_fact c me boot past from v e (body.OpDone serial n result) here agree k h = users_part past v (on_op_done (frame_in c me boot e) serial n result v.users) h (on_op_done_talks (frame_in c me boot e) serial n result v.users) (on_op_done_factless (frame_in c me boot e) serial n result v.users)
-inside_fact c me boot past from v e (body.AsHeld serial n len) here agree k h = users_part past v (on_as_held (frame_in c me boot e) serial n v.users) h (on_as_held_talks (frame_in c me boot e) serial n v.users) (on_as_held_factless (frame_in c me boot e) serial n v.users)
-inside_fact c me boot past from v e (body.Close serial) here agree k h = store_part c me boot past v e _ here h (on_close_fact (frame_in c me boot e) past (from_user from serial) v.store (store_of past v e here h))
-inside_fact c me boot past from v e (body.Closed inst made) here agree k h = with_part past (on_closed (frame_in c me boot e) from inst made) v e (is_opened_in inst) here h (on_closed_talks (frame_in c me boot e) from inst made) (λ t g. on_closed_fact past (frame_in c me boot e) from inst made t agree k g)
-inside_fact c me boot past from v e (body.ClosedOk inst) here agree k h = store_part c me boot past v e _ here h (on_closed_ok_fact (frame_in c me boot e) past inst v.store (store_of past v e here h))
-inside_fact c me boot past from v e (body.CloseDone serial answer) here agree k h = users_part past v (on_close_done (frame_in c me boot e) serial answer v.users) h (on_close_done_talks (frame_in c me boot e) serial answer v.users) (on_close_done_factless (frame_in c me boot e) serial answer v.users)
-inside_fact c me boot past from v e (body.Look call process request take file what) here agree k h = group_part past (on_look (frame_in c me boot e) from (record { call = call; process = process; request = request; take = take; file = file; what = what })) v e file.group here h (on_look_talks (frame_in c me boot e) from (record { call = call; process = process; request = request; take = take; file = file; what = what })) (λ t q g. on_look_fact past (frame_in c me boot e) from (record { call = call; process = process; request = request; take = take; file = file; what = what }) t g)
-inside_fact c me boot past from v e (body.LookSs us call process request take file what serve) here agree k h = plain_fine past v _ refl refl refl refl refl tt refl (tt, tt) h
-inside_fact c me boot past from v e (body.LookDone call request take answer) here agree k h = users_part past v (on_look_done (frame_in c me boot e) call request take answer v.users) h (on_look_done_talks (frame_in c me boot e) call request take answer v.users) (on_look_done_factless (frame_in c me boot e) call request take answer v.users)
-inside_fact c me boot past from v e (body.Notify file kind set size stamp vector holder) here agree k h =
+tables_fact : (c : Config) (me boot : ℕ) (past : List Told) (from : ℕ) (v : SiteView) (e : InEpoch) (x : Body) → IsForTable x → v.epoch ≡ Some e → InstancesAgree past → BodyFact past e.id x → ViewFact past v → SiteFine past (takes_inside (frame_in c me boot e) from x v)
+tables_fact c me boot past from v e (body.Report group copies) is here agree k h = group_part past (on_report (frame_in c me boot e) from copies) v e group here h (on_report_talks (frame_in c me boot e) from copies) (λ t q g. on_report_fact past (frame_in c me boot e) from copies t (subst (λ (n : ℕ). Every (ReportedFact past n) copies) (sym q) k) g)
+tables_fact c me boot past from v e (body.Open serial call process request file how) is here agree k h = group_part past (on_open (frame_in c me boot e) from (record { serial = serial; call = call; process = process; request = request; file = file; how = how })) v e file.group here h (on_open_talks (frame_in c me boot e) from (record { serial = serial; call = call; process = process; request = request; file = file; how = how })) (λ t q g. on_open_fact past (frame_in c me boot e) from (record { serial = serial; call = call; process = process; request = request; file = file; how = how }) t (sym q) g)
+tables_fact c me boot past from v e (body.Opened inst answer) is here agree k h = with_part past (on_opened (frame_in c me boot e) inst answer) v e (is_opened_in inst) here h (on_opened_talks (frame_in c me boot e) inst answer) (λ t g. on_opened_fact past (frame_in c me boot e) inst answer t g)
+tables_fact c me boot past from v e (body.Closed inst made) is here agree k h = with_part past (on_closed (frame_in c me boot e) from inst made) v e (is_opened_in inst) here h (on_closed_talks (frame_in c me boot e) from inst made) (λ t g. on_closed_fact past (frame_in c me boot e) from inst made t agree k g)
+tables_fact c me boot past from v e (body.Look call process request take file what) is here agree k h = group_part past (on_look (frame_in c me boot e) from (record { call = call; process = process; request = request; take = take; file = file; what = what })) v e file.group here h (on_look_talks (frame_in c me boot e) from (record { call = call; process = process; request = request; take = take; file = file; what = what })) (λ t q g. on_look_fact past (frame_in c me boot e) from (record { call = call; process = process; request = request; take = take; file = file; what = what }) t g)
+tables_fact c me boot past from v e (body.Have file stamp) is here agree k h = group_part past (on_have from file stamp) v e file.group here h (on_have_talks from file stamp) (λ t q g. on_have_fact past (frame_in c me boot e) from file stamp t g)
+tables_fact c me boot past from v e _ is here agree k h = absurd is
+
+stores_fact : (c : Config) (me boot : ℕ) (past : List Told) (from : ℕ) (v : SiteView) (e : InEpoch) (x : Body) → IsForStore x → v.epoch ≡ Some e → InstancesAgree past → BodyFact past e.id x → ViewFact past v → SiteFine past (takes_inside (frame_in c me boot e) from x v)
+stores_fact c me boot past from v e (body.OpenSs inst file mode set kind base vector parents) is here agree k h = store_part c me boot past v e _ here h (on_open_ss_fact (frame_in c me boot e) past (record { inst = inst; file = file; mode = mode; set = set; kind = kind; base = base; vector = vector; parents = parents }) v.store k (store_of past v e here h))
+stores_fact c me boot past from v e (body.Op serial n o seen) is here agree k h = store_part c me boot past v e _ here h (on_op_fact (frame_in c me boot e) past (mending v (group_of (instance_of v.store (from_user from serial)))) (from_user from serial) n o seen v.store (store_of past v e here h))
+stores_fact c me boot past from v e (body.ReadHeld serial n at len) is here agree k h = store_part c me boot past v e _ here h (on_read_held_fact (frame_in c me boot e) past (from_user from serial) n at len v.store (store_of past v e here h))
+stores_fact c me boot past from v e (body.Close serial) is here agree k h = store_part c me boot past v e _ here h (on_close_fact (frame_in c me boot e) past (from_user from serial) v.store (store_of past v e here h))
+stores_fact c me boot past from v e (body.ClosedOk inst) is here agree k h = store_part c me boot past v e _ here h (on_closed_ok_fact (frame_in c me boot e) past inst v.store (store_of past v e here h))
+stores_fact c me boot past from v e _ is here agree k h = absurd is
+
+pulls_fact : (c : Config) (me boot : ℕ) (past : List Told) (from : ℕ) (v : SiteView) (e : InEpoch) (x : Body) → IsForPull x → v.epoch ≡ Some e → InstancesAgree past → BodyFact past e.id x → ViewFact past v → SiteFine past (takes_inside (frame_in c me boot e) from x v)
+pulls_fact c me boot past from v e (body.Notify file kind set size stamp vector holder) is here agree k h =
     let p : Pull = record { file = file; kind = kind; set = set; size = size; stamp = stamp; vector = vector; holder = holder; base = None; wanted = None; content = [] } in
     pulls_part past v (on_notify (frame_in c me boot e) from (copy_of v.store file) p v.pulls) h (on_notify_fact past (frame_in c me boot e) from (copy_of v.store file) p v.pulls k h.pulls) (on_notify_talks (frame_in c me boot e) from (copy_of v.store file) p v.pulls) (on_notify_factless (frame_in c me boot e) from (copy_of v.store file) p v.pulls)
-inside_fact c me boot past from v e (body.Pull file stamp page) here agree k h = plain_fine past v _ refl refl refl refl refl tt refl (on_pull_factless (frame_in c me boot e) from file stamp page v.store) h
-inside_fact c me boot past from v e (body.Want file wanted own) here agree k h = plain_fine past v _ refl refl refl refl refl tt refl (on_want_factless (frame_in c me boot e) from file wanted own v.store) h
-inside_fact c me boot past from v e (body.Page file stamp page bytes) here agree k h =
+pulls_fact c me boot past from v e (body.Page file stamp page bytes) is here agree k h =
     pulls_part past v (on_page (frame_in c me boot e) file stamp page bytes v.pulls) h (on_page_of_fact past (frame_in c me boot e) stamp page bytes (pull_of v.pulls file) v.pulls (row_found (PullFact past) pull_key _ v.pulls h.pulls) h.pulls) (on_page_talks (frame_in c me boot e) file stamp page bytes v.pulls) (on_page_factless (frame_in c me boot e) file stamp page bytes v.pulls)
-inside_fact c me boot past from v e (body.Delta file wanted pages) here agree k h =
+pulls_fact c me boot past from v e (body.Delta file wanted pages) is here agree k h =
     pulls_part past v (on_delta (frame_in c me boot e) (copy_of v.store file) file wanted pages v.pulls) h (on_delta_of_fact past (frame_in c me boot e) (pages_in (copy_of v.store file)) wanted pages (pull_of v.pulls file) v.pulls (row_found (PullFact past) pull_key _ v.pulls h.pulls) h.pulls) (on_delta_talks (frame_in c me boot e) (copy_of v.store file) file wanted pages v.pulls) (on_delta_factless (frame_in c me boot e) (copy_of v.store file) file wanted pages v.pulls)
-inside_fact c me boot past from v e (body.Have file stamp) here agree k h = group_part past (on_have from file stamp) v e file.group here h (on_have_talks from file stamp) (λ t q g. on_have_fact past (frame_in c me boot e) from file stamp t g)
-inside_fact c me boot past from v e body.Poll here agree k h = quiet_fact past v h
-inside_fact c me boot past from v e (body.Promise reach) here agree k h = quiet_fact past v h
-inside_fact c me boot past from v e (body.Refuse promised) here agree k h = quiet_fact past v h
-inside_fact c me boot past from v e (body.Install members) here agree k h = quiet_fact past v h
-inside_fact c me boot past from v e body.Joined here agree k h = quiet_fact past v h
+pulls_fact c me boot past from v e _ is here agree k h = absurd is
+
+pub inside_fact : (c : Config) (me boot : ℕ) (past : List Told) (from : ℕ) (v : SiteView) (e : InEpoch) (x : Body) → v.epoch ≡ Some e → InstancesAgree past → BodyFact past e.id x → ViewFact past v → SiteFine past (takes_inside (frame_in c me boot e) from x v)
+inside_fact c me boot past from v e x here agree k h =
+    by_role Q f from v (record {
+      tables = λ y is b. tables_fact c me boot past from v e y is here agree b h;
+      stores = λ y is b. stores_fact c me boot past from v e y is here agree b h;
+      readers = readers_by Q carrying f from v (readers f) back (λ y o is same p b. plain_fine past v _ (ap (λ (s : Store). s.copies) same) (ap (λ (s : Store). s.instances) same) refl refl refl p.1 p.2 p.0 h);
+      users = users_by Q carrying f from v (users f) (λ y o is p b. plain_fine past v _ refl refl refl refl refl p.1 p.2 p.0 h);
+      pulls = λ y is b. pulls_fact c me boot past from v e y is here agree b h;
+      reported = λ group b. plain_fine past v _ refl refl refl refl refl tt refl tt h;
+      forming = λ y is b. quiet_fact past v h;
+    }) x k
+  where
+    f : Frame
+    f = frame_in c me boot e
+
+    Q : Body → Outcome SiteView → Type 0
+    Q y o = BodyFact past e.id y → SiteFine past o

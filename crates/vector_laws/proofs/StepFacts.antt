@@ -1,221 +1,82 @@
 -- What each event of a site keeps, writes, tells and sends of versions is as it was told.
-use Rattle.std.proofs.Common.{◌≡◌, ℕ, ◌+◌, ◌==◌, nat_lt, Bool, true, false, ◌&&◌, ◌||◌, not, List, [], ◌∷◌, ◌++◌, Option, Some, None, refl, sym, subst, arith}
-use Rattle.std.proofs.lemmas.Bool.Decides.{nat_tests}
-use Rattle.std.specs.List.{flat_map}
-use Rattle.run_laws.proofs.of_role_steps.of_plain_facts.Tests.{both_true, not_false, or_other}
+use Rattle.std.proofs.Common.{◌≡◌, ℕ, List, ◌∷◌, Some, ap}
 use Rattle.locus_ids.specs.declared.ids.EpochId.{EpochId}
-use Rattle.locus_ids.specs.declared.ids.Stamp.{Stamp}
 use Rattle.locus_ids.specs.declared.sites.Links.{Links}
 use Rattle.locus_ids.specs.declared.config.Config.{Config}
-use Rattle.commit_graph.specs.Versions.{same_stamp}
-use Rattle.trace_book.specs.Same.{same_epoch}
-use Rattle.run_laws.specs.of_wire_messages.Bodies.{kind_number}
-use Rattle.run_laws.specs.of_wire_messages.declared.packet.Packet.{Packet}
-use Rattle.run_laws.specs.of_wire_messages.declared.body.Body.{Body}
-use Rattle.run_laws.specs.of_wire_messages.declared.body.Body.TheVariants as body
-use Rattle.run_laws.specs.of_role_steps.Own.{Every}
-use Rattle.run_laws.specs.of_role_steps.Views.{Frame, SiteView, Told, DiskWrite, Outcome, Event, Calls, Receives, Ticks, Parts, Merges, GivesUp, quiet, sends, joined_to, first_written, boot_in, packet}
-use Rattle.run_laws.specs.of_role_steps.Reports.{sync_repeats}
-use Rattle.run_laws.specs.of_role_steps.Storage.{copy_of, store_repeats}
-use Rattle.run_laws.specs.of_role_steps.Pulling.{pull_of, goes_on, pull_over, begins_pull, replaces_pull, on_notify, is_awaited, pages_in, is_delta, on_page_of, on_delta_of, pull_repeats}
-use Rattle.run_laws.specs.of_role_steps.Requests.{users_repeats}
-use Rattle.run_laws.specs.of_role_steps.Versions.{is_below}
-use Rattle.run_laws.specs.of_role_steps.Epochs.{frame_in, leaves, poll_packet, starts_merge, boots_where, merge_boot, starts_part, all_reports, unanswered, install_packet, poll_repeats, install_repeats}
-use Rattle.run_laws.specs.of_role_steps.declared.copies.FileCopy.{FileCopy}
-use Rattle.run_laws.specs.of_role_steps.declared.pulls.Pull.{Pull}
-use Rattle.run_laws.specs.of_role_steps.declared.rounds.InEpoch.{InEpoch}
-use Rattle.run_laws.specs.of_role_steps.declared.rounds.Round.{Round}
-use Rattle.run_laws.proofs.of_role_steps.Sending.{every_append, every_map}
-use Rattle.run_laws.specs.of_the_run.Steps.{in_order, is_framed, is_forming, is_dropped, takes_inside, takes_framed, takes, adopts_in, tries_at, ends_event, whole, repeats_inside, repeats_of, repeats, ticks_after, call_frame, epoch_id, takes_call, step}
-use Rattle.run_laws.proofs.of_the_run.InsideSites.{adopts_of_plain}
-use Rattle.run_laws.proofs.of_the_run.InsideRoles.{on_call_still}
-use Rattle.run_laws.proofs.of_the_run.StepSends.{order_sent}
-use Rattle.run_laws.specs.Naming.{Deeds, Now, ViewOk, Fine as EpochFine}
-use Rattle.run_laws.proofs.Moves.{inner_view, inner_fine}
-use Rattle.run_laws.proofs.InsideSteps.{adopts_of_inner, call_inner}
-use Rattle.run_laws.proofs.Steps.{EventNames, takes_fine, starts_part_fine, begins_fine, leaves_of_fine}
-use Rattle.run_laws.proofs.Telling.{on_call_talks}
-use Rattle.vector_laws.specs.Written.{InstancesAgree}
-use Rattle.vector_laws.specs.Facts.{BodyFact, PacketFact, Factless, TableFact, ViewFact, Fine, onto}
-use Rattle.vector_laws.proofs.Facts.{Later, onto_later, onto_append, packets_later, factless, then_fine, then_later}
+use Rattle.trace_book.specs.declared.record.Record.{Record}
+use Rattle.trace_book.specs.declared.record.Record.TheVariants as says
+use Rattle.fact_walks.specs.of_wire_messages.declared.body.Body.{Body}
+use Rattle.fact_walks.specs.of_wire_messages.declared.body.Body.TheVariants as body
+use Rattle.fact_walks.specs.of_role_steps.Views.{Frame, Store, SiteView, Told, Shown, Event, Receives}
+use Rattle.fact_walks.specs.of_role_steps.Reports.{sync_repeats}
+use Rattle.fact_walks.specs.of_role_steps.Pulling.{pull_repeats}
+use Rattle.fact_walks.specs.of_role_steps.Requests.{users_repeats}
+use Rattle.fact_walks.specs.of_role_steps.Using.{on_call}
+use Rattle.fact_walks.specs.of_role_steps.Epochs.{frame_in, leaves_of, joins}
+use Rattle.fact_walks.specs.of_role_steps.Adoption.{adopts_pull}
+use Rattle.fact_walks.specs.of_role_steps.declared.rounds.InEpoch.{InEpoch}
+use Rattle.fact_walks.specs.of_the_run.Steps.{takes_inside, step}
+use Rattle.fact_walks.specs.of_run_laws.Naming.{Deeds, ViewOk}
+use Rattle.fact_walks.proofs.of_run_laws.Steps.{EventNames}
+use Rattle.fact_walks.proofs.of_run_laws.Telling.{on_call_talks}
+use Rattle.fact_walks.specs.Facts.{IsOfForming, IsOutsideRecord, IsOutside, EventIn}
+use Rattle.fact_walks.specs.Keeping.{Alike, Repeats, FactsKeep, of_users}
+use Rattle.fact_walks.proofs.Steps.{step_fine}
+use Rattle.vector_laws.specs.Written.{InstancesAgree, NumberedRecord, NumberedTold}
+use Rattle.vector_laws.specs.Facts.{BodyFact, PacketFact, TableFact, ViewFact, versions}
+use Rattle.vector_laws.proofs.Facts.{growing, factless, fine_in, fine_of}
 use Rattle.vector_laws.proofs.SyncFacts.{every_flat, sync_repeats_fact}
 use Rattle.vector_laws.proofs.StoreFacts.{store_repeats_fact}
 use Rattle.vector_laws.proofs.RolesSend.{users_repeats_factless, pull_repeats_factless, on_call_factless}
-use Rattle.vector_laws.proofs.SiteDisks.{ends_keeps}
-use Rattle.vector_laws.proofs.SiteFacts.{SiteFine, talk_none, plain_fine, quiet_fact, inside_of, inside_fact}
-use Rattle.vector_laws.proofs.FormingFacts.{adopts_of_fact, leaves_of_fact, begins_fact, starts_part_fact, on_poll_fact, on_promise_fact, on_refuse_fact, all_reports_fact, on_install_fact, on_joined_fact, ends_fact}
+use Rattle.vector_laws.proofs.SiteFacts.{SiteFine, view_alike, users_part, inside_of, inside_fact}
+use Rattle.vector_laws.proofs.FormingFacts.{adopts_pull_fact, without_fact, leaves_fact, all_reports_fact, joins_fact}
 
--- ---- the step ----
+-- ---- what the law gives ----
 
-ordered : (past : List Told) (o : Outcome SiteView) → SiteFine past o → SiteFine past (record { view = o.view; sent = in_order o.sent; told = o.told; written = o.written })
-ordered past o h = record { view = h.view; sent = order_sent (PacketFact (onto o.told past)) o.sent h.sent; numbered = h.numbered; disk = h.disk }
+forming_fact : (past : List Told) (from to : ℕ) (e : EpochId) (b : Body) → IsOfForming b → BodyFact past e b
+forming_fact past from to e body.Poll h = tt
+forming_fact past from to e (body.Promise reach) h = tt
+forming_fact past from to e (body.Refuse promised) h = tt
+forming_fact past from to e (body.Install members) h = tt
+forming_fact past from to e body.Joined h = tt
+forming_fact past from to e _ h = absurd h
 
--- where no adoption is tried
-untried_fact : (K : Deeds) (c : Config) (me : ℕ) (past : List Told) (links : Links) (o : Outcome SiteView) → ViewOk K o.view → SiteFine past o → SiteFine past (whole c me links o quiet)
-untried_fact K c me past links o ok h =
-    let last : Outcome SiteView = ends_event c me links o.view in
-    ordered past (joined_to o last) (then_fine ViewFact ViewFact past o last h (ends_fact K c me (onto o.told past) links o.view ok h.view) (ends_keeps c me links o.view).none)
+outside_record : (past : List Told) (r : Record) → IsOutsideRecord r → NumberedRecord past r
+outside_record past (says.Commit file s stamp parents content) h = absurd h
+outside_record past _ h = tt
 
--- where one is tried the event itself tells and writes nothing
-tried_fact : (K : Deeds) (c : Config) (me : ℕ) (past : List Told) (links : Links) (o : Outcome SiteView) → o.told ≡ [] → o.written ≡ None → ViewOk K o.view → SiteFine past o → SiteFine past (whole c me links o (adopts_in c me))
-tried_fact K c me past links o silent none ok h =
-    let a : Outcome SiteView = adopts_in c me o.view in
-    let last : Outcome SiteView = ends_event c me links a.view in
-    let view : ViewFact past o.view = subst (λ (told : List Told). ViewFact (onto told past) o.view) silent h.view in
-    let sent : Every (PacketFact past) o.sent = subst (λ (told : List Told). Every (PacketFact (onto told past)) o.sent) silent h.sent in
-    let k : SiteFine past a = adopts_of_fact c me past o.view.epoch o.view refl view in
-    let now : List Told = onto a.told past in
-    let e : SiteFine now last = ends_fact K c me now links a.view (inner_view K o.view a (adopts_of_plain c me o.view.epoch o.view ok.tables) (adopts_of_inner c me o.view.epoch o.view refl) ok) k.view in
-    let end : List Told = onto last.told now in
-    let f : SiteFine past (joined_to a last) = then_fine ViewFact ViewFact past a last k e (ends_keeps c me links a.view).none in
-    let same : onto (a.told ++ last.told) past ≡ end = onto_append a.told last.told past in
-    let later : Later past end = then_later past now end (onto_later a.told past) (onto_later last.told now) in
-    let all : Every (PacketFact end) (a.sent ++ in_order (o.sent ++ last.sent)) = every_append (PacketFact end) a.sent (in_order (o.sent ++ last.sent)) (packets_later now end (onto_later last.told now) a.sent k.sent)
-    (order_sent (PacketFact end) (o.sent ++ last.sent) (every_append (PacketFact end) o.sent last.sent (packets_later past end later o.sent sent) e.sent)) in
-    subst (λ (told : List Told). Fine ViewFact past (record { view = last.view; sent = a.sent ++ in_order (o.sent ++ last.sent); told = a.told ++ (told ++ last.told); written = first_written a.written (first_written o.written last.written) })) (sym silent)
-    (subst (λ (w : Option DiskWrite). Fine ViewFact past (record { view = last.view; sent = a.sent ++ in_order (o.sent ++ last.sent); told = a.told ++ last.told; written = first_written a.written (first_written w last.written) })) (sym none)
-    (record { view = f.view; sent = subst (λ (n : List Told). Every (PacketFact n) (a.sent ++ in_order (o.sent ++ last.sent))) (sym same) all; numbered = f.numbered; disk = f.disk }))
+outside_told : (past : List Told) (x : Told) → IsOutside x → NumberedTold past x
+outside_told past (Shown r) h = outside_record past r h
+outside_told past _ h = tt
 
--- ---- a packet ----
+alike_fact : (past : List Told) (v w : SiteView) → Alike v w → ViewFact past v → ViewFact past w
+alike_fact past v w a h = view_alike past v w (ap (λ (s : Store). s.copies) a.store) (ap (λ (s : Store). s.instances) a.store) a.pulls a.tables a.epoch h
 
-same_epoch_eq : (a b : EpochId) → same_epoch a b ≡ true → a ≡ b
-same_epoch_eq a b h = id_eq (grind (arith, nat_tests)) (grind (arith, nat_tests)) (grind (arith, nat_tests))
-  where
-    id_eq : a.number ≡ b.number → a.site ≡ b.site → a.boot ≡ b.boot → a ≡ b
-    id_eq e f g = λ i. record { number = e i; site = f i; boot = g i }
+repeats_fact : (c : Config) (me : ℕ) (past : List Told) (e : InEpoch) (v : SiteView) → v.epoch ≡ Some e → ViewFact past v → Repeats versions past (frame_in c me v.boot e) v
+repeats_fact c me past e v here h =
+    let f : Frame = frame_in c me v.boot e in record {
+      reports = all_reports_fact past f v h.copies;
+      users = factless past (users_repeats f v.users) (users_repeats_factless f v.users);
+      stores = store_repeats_fact past f v.store (inside_of past v e here h).0;
+      pulls = factless past (pull_repeats f v.pulls) (pull_repeats_factless f v.pulls);
+      tables = every_flat (TableFact past e.id) (PacketFact past) (sync_repeats f) v.tables (λ t k. sync_repeats_fact past f e.id t k) (inside_of past v e here h).1;
+    }
 
-framed_epoch : (p : Packet) (v : SiteView) (e : InEpoch) → is_dropped p v ≡ false → is_forming p ≡ false → v.epoch ≡ Some e → e.id ≡ p.epoch
-framed_epoch p v e h inside here =
-    let a : ((p.to_boot == v.boot) ≡ true) × ((is_forming p || is_framed p v.epoch) ≡ true) = both_true (p.to_boot == v.boot) (is_forming p || is_framed p v.epoch) (not_false ((p.to_boot == v.boot) && (is_forming p || is_framed p v.epoch)) h) in
-    let b : is_framed p (Some e) ≡ true = subst (λ (o : Option InEpoch). is_framed p o ≡ true) here (or_other (is_forming p) (is_framed p v.epoch) inside a.1) in
-    same_epoch_eq e.id p.epoch (both_true (same_epoch e.id p.epoch) (boot_in e.members.boot p.from == p.from_boot) b).0
-
-framed_fact : (c : Config) (me : ℕ) (past : List Told) (p : Packet) (x : Body) (o : Option InEpoch) (v : SiteView) → p.body ≡ x → v.epoch ≡ o → ((e : InEpoch) → v.epoch ≡ Some e → e.id ≡ p.epoch) → InstancesAgree past → BodyFact past p.epoch x → ViewFact past v → SiteFine past (takes_framed c me p o v)
-framed_fact c me past p x None v q here named agree k h = quiet_fact past v h
-framed_fact c me past p x (Some e) v q here named agree k h =
-    subst (λ (y : Body). SiteFine past (takes_inside (frame_in c me v.boot e) p.from y v)) (sym q)
-    (inside_fact c me v.boot past p.from v e x here agree (subst (λ (id : EpochId). BodyFact past id x) (sym (named e here)) k) h)
-
-forming_not : (p : Packet) (x : Body) → p.body ≡ x → nat_lt (kind_number x) 6 ≡ false → is_forming p ≡ false
-forming_not p x q h = subst (λ (y : Body). nat_lt (kind_number y) 6 ≡ false) (sym q) h
-
--- what is told where a pull goes on
-abbrev Silent : Outcome (List Pull) → Type 0
-Silent o = (o.told ≡ []) × (o.written ≡ None)
-
-begins_silent : (f : Frame) (own : Option FileCopy) (p : Pull) (ps : List Pull) → Silent (begins_pull f own p ps)
-begins_silent f own p ps = elim (replaces_pull own p (pull_of ps p.file)) as (λ b. Silent (elim b [ true ↦ goes_on f (pull_over own p) ps | false ↦ quiet ps ])) [ true ↦ (refl, refl) | false ↦ (refl, refl) ]
-
-notify_silent : (f : Frame) (from : ℕ) (o : Option FileCopy) (p : Pull) (ps : List Pull) → Silent (on_notify f from o p ps)
-notify_silent f from None p ps = begins_silent f None p ps
-notify_silent f from (Some own) p ps =
-    elim (same_stamp own.stamp p.stamp) as (λ b. Silent (elim b [ true ↦ sends (packet f from (body.Have p.file p.stamp) ∷ []) ps | false ↦ elim (is_below own.vector p.vector) [ true ↦ begins_pull f (Some own) p ps | false ↦ quiet ps ] ])) [
-      | true ↦ (refl, refl)
-      | false ↦ elim (is_below own.vector p.vector) as (λ b. Silent (elim b [ true ↦ begins_pull f (Some own) p ps | false ↦ quiet ps ])) [ true ↦ begins_silent f (Some own) p ps | false ↦ (refl, refl) ]
-    ]
-
-delta_silent : (f : Frame) (own : ℕ) (stamp : Stamp) (pages : List ℕ) (o : Option Pull) (ps : List Pull) → Silent (on_delta_of f own stamp pages o ps)
-delta_silent f own stamp pages None ps = (refl, refl)
-delta_silent f own stamp pages (Some p) ps = elim (is_delta own p stamp pages) as (λ b. Silent (elim b [ true ↦ goes_on f (record p { wanted = Some pages }) ps | false ↦ quiet ps ])) [ true ↦ (refl, refl) | false ↦ (refl, refl) ]
-
-page_silent : (f : Frame) (stamp : Stamp) (page : ℕ) (bytes : List ℕ) (o : Option Pull) (ps : List Pull) → Silent (on_page_of f stamp page bytes o ps)
-page_silent f stamp page bytes None ps = (refl, refl)
-page_silent f stamp page bytes (Some p) ps = elim (is_awaited p stamp page bytes) as (λ b. Silent (elim b [ true ↦ goes_on f (record p { content = p.content ++ bytes }) ps | false ↦ quiet ps ])) [ true ↦ (refl, refl) | false ↦ (refl, refl) ]
-
-abbrev SiteSilent : Outcome SiteView → Type 0
-SiteSilent o = (o.told ≡ []) × (o.written ≡ None)
-
-framed_notify : (c : Config) (me : ℕ) (p : Packet) (x : Body) (o : Option InEpoch) (v : SiteView) → p.body ≡ x → ((f : Frame) → SiteSilent (takes_inside f p.from x v)) → SiteSilent (takes_framed c me p o v)
-framed_notify c me p x None v q h = (refl, refl)
-framed_notify c me p x (Some e) v q h = subst (λ (y : Body). SiteSilent (takes_inside (frame_in c me v.boot e) p.from y v)) (sym q) (h (frame_in c me v.boot e))
-
--- a packet of the epoch after which no adoption is tried
-inside_received : (K : Deeds) (c : Config) (me : ℕ) (past : List Told) (links : Links) (p : Packet) (x : Body) (v : SiteView) → p.body ≡ x → is_dropped p v ≡ false → nat_lt (kind_number x) 6 ≡ false → InstancesAgree past → BodyFact past p.epoch x → ViewOk (Now K me (takes_framed c me p v.epoch v).told) (takes_framed c me p v.epoch v).view → ViewFact past v → SiteFine past (whole c me links (takes_framed c me p v.epoch v) quiet)
-inside_received K c me past links p x v q d inside agree k ok h = untried_fact (Now K me (takes_framed c me p v.epoch v).told) c me past links (takes_framed c me p v.epoch v) ok (framed_fact c me past p x v.epoch v q refl (λ e. framed_epoch p v e d (forming_not p x q inside)) agree k h)
-
-abbrev Received : Deeds → Config → ℕ → List Told → Links → Packet → Body → SiteView → Type 0
-Received K c me past links p x v = SiteFine past (whole c me links (takes c me links p x v) (tries_at c me x))
-
-received_fact : (K : Deeds) (c : Config) (me : ℕ) (past : List Told) (links : Links) (p : Packet) (x : Body) (v : SiteView) → p.body ≡ x → is_dropped p v ≡ false → InstancesAgree past → BodyFact past p.epoch x → ViewOk K v → ViewOk (Now K me (takes c me links p x v).told) (takes c me links p x v).view → ViewFact past v → Received K c me past links p x v
-received_fact K c me past links p body.Poll v q d agree k before ok h = untried_fact (Now K me (takes c me links p body.Poll v).told) c me past links (takes c me links p body.Poll v) ok (on_poll_fact me past links p.from p.from_boot p.epoch v h)
-received_fact K c me past links p (body.Promise reach) v q d agree k before ok h = untried_fact (Now K me (takes c me links p (body.Promise reach) v).told) c me past links (takes c me links p (body.Promise reach) v) ok (on_promise_fact past p.from p.from_boot p.epoch reach v.round v h)
-received_fact K c me past links p (body.Refuse promised) v q d agree k before ok h = untried_fact (Now K me (takes c me links p (body.Refuse promised) v).told) c me past links (takes c me links p (body.Refuse promised) v) ok (on_refuse_fact me past links p.epoch promised v.round v h)
-received_fact K c me past links p (body.Install members) v q d agree k before ok h = untried_fact (Now K me (takes c me links p (body.Install members) v).told) c me past links (takes c me links p (body.Install members) v) ok (on_install_fact K c me past p.from p.from_boot p.epoch members v before h)
-received_fact K c me past links p body.Joined v q d agree k before ok h = untried_fact (Now K me (takes c me links p body.Joined v).told) c me past links (takes c me links p body.Joined v) ok (on_joined_fact past p.from p.epoch v h)
-received_fact K c me past links p (body.Notify file kind set size stamp vector holder) v q d agree k before ok h =
-    let o : Outcome SiteView = takes_framed c me p v.epoch v in
-    let s : SiteSilent o = framed_notify c me p (body.Notify file kind set size stamp vector holder) v.epoch v q (λ f. notify_silent f p.from (copy_of v.store file) (record { file = file; kind = kind; set = set; size = size; stamp = stamp; vector = vector; holder = holder; base = None; wanted = None; content = [] }) v.pulls) in
-    tried_fact (Now K me o.told) c me past links o s.0 s.1 ok (framed_fact c me past p (body.Notify file kind set size stamp vector holder) v.epoch v q refl (λ e. framed_epoch p v e d (forming_not p (body.Notify file kind set size stamp vector holder) q refl)) agree k h)
-received_fact K c me past links p (body.Page file stamp page bytes) v q d agree k before ok h =
-    let o : Outcome SiteView = takes_framed c me p v.epoch v in
-    let s : SiteSilent o = framed_notify c me p (body.Page file stamp page bytes) v.epoch v q (λ f. page_silent f stamp page bytes (pull_of v.pulls file) v.pulls) in
-    tried_fact (Now K me o.told) c me past links o s.0 s.1 ok (framed_fact c me past p (body.Page file stamp page bytes) v.epoch v q refl (λ e. framed_epoch p v e d (forming_not p (body.Page file stamp page bytes) q refl)) agree k h)
-received_fact K c me past links p (body.Delta file wanted pages) v q d agree k before ok h =
-    let o : Outcome SiteView = takes_framed c me p v.epoch v in
-    let s : SiteSilent o = framed_notify c me p (body.Delta file wanted pages) v.epoch v q (λ f. delta_silent f (pages_in (copy_of v.store file)) wanted pages (pull_of v.pulls file) v.pulls) in
-    tried_fact (Now K me o.told) c me past links o s.0 s.1 ok (framed_fact c me past p (body.Delta file wanted pages) v.epoch v q refl (λ e. framed_epoch p v e d (forming_not p (body.Delta file wanted pages) q refl)) agree k h)
-received_fact K c me past links p (body.Report group copies) v q d agree k before ok h = inside_received K c me past links p (body.Report group copies) v q d refl agree k ok h
-received_fact K c me past links p (body.ReportOk group) v q d agree k before ok h = inside_received K c me past links p (body.ReportOk group) v q d refl agree k ok h
-received_fact K c me past links p (body.Open serial call process request file how) v q d agree k before ok h = inside_received K c me past links p (body.Open serial call process request file how) v q d refl agree k ok h
-received_fact K c me past links p (body.OpenSs inst file mode set kind base vector parents) v q d agree k before ok h = inside_received K c me past links p (body.OpenSs inst file mode set kind base vector parents) v q d refl agree k ok h
-received_fact K c me past links p (body.Opened inst answer) v q d agree k before ok h = inside_received K c me past links p (body.Opened inst answer) v q d refl agree k ok h
-received_fact K c me past links p (body.OpenDone serial answer) v q d agree k before ok h = inside_received K c me past links p (body.OpenDone serial answer) v q d refl agree k ok h
-received_fact K c me past links p (body.Op serial n o seen) v q d agree k before ok h = inside_received K c me past links p (body.Op serial n o seen) v q d refl agree k ok h
-received_fact K c me past links p (body.ReadHeld serial n at len) v q d agree k before ok h = inside_received K c me past links p (body.ReadHeld serial n at len) v q d refl agree k ok h
-received_fact K c me past links p (body.OpDone serial n result) v q d agree k before ok h = inside_received K c me past links p (body.OpDone serial n result) v q d refl agree k ok h
-received_fact K c me past links p (body.AsHeld serial n len) v q d agree k before ok h = inside_received K c me past links p (body.AsHeld serial n len) v q d refl agree k ok h
-received_fact K c me past links p (body.Close serial) v q d agree k before ok h = inside_received K c me past links p (body.Close serial) v q d refl agree k ok h
-received_fact K c me past links p (body.Closed inst made) v q d agree k before ok h = inside_received K c me past links p (body.Closed inst made) v q d refl agree k ok h
-received_fact K c me past links p (body.ClosedOk inst) v q d agree k before ok h = inside_received K c me past links p (body.ClosedOk inst) v q d refl agree k ok h
-received_fact K c me past links p (body.CloseDone serial answer) v q d agree k before ok h = inside_received K c me past links p (body.CloseDone serial answer) v q d refl agree k ok h
-received_fact K c me past links p (body.Look call process request take file what) v q d agree k before ok h = inside_received K c me past links p (body.Look call process request take file what) v q d refl agree k ok h
-received_fact K c me past links p (body.LookSs us call process request take file what serve) v q d agree k before ok h = inside_received K c me past links p (body.LookSs us call process request take file what serve) v q d refl agree k ok h
-received_fact K c me past links p (body.LookDone call request take answer) v q d agree k before ok h = inside_received K c me past links p (body.LookDone call request take answer) v q d refl agree k ok h
-received_fact K c me past links p (body.Pull file stamp page) v q d agree k before ok h = inside_received K c me past links p (body.Pull file stamp page) v q d refl agree k ok h
-received_fact K c me past links p (body.Want file wanted own) v q d agree k before ok h = inside_received K c me past links p (body.Want file wanted own) v q d refl agree k ok h
-received_fact K c me past links p (body.Have file stamp) v q d agree k before ok h = inside_received K c me past links p (body.Have file stamp) v q d refl agree k ok h
-
--- ---- a tick ----
-
-inside_repeats : (c : Config) (me boot : ℕ) (past : List Told) (e : InEpoch) (v : SiteView) → v.epoch ≡ Some e → ViewFact past v → Every (PacketFact past) (repeats_inside (frame_in c me boot e) e v)
-inside_repeats c me boot past e v here h =
-    every_append P (in_order (all_reports f v)) _ (order_sent P (all_reports f v) (all_reports_fact past f v h.copies))
-    (every_append P (users_repeats f v.users) _ (factless past (users_repeats f v.users) (users_repeats_factless f v.users))
-    (every_append P (in_order (store_repeats f v.store)) _ (order_sent P (store_repeats f v.store) (store_repeats_fact past f v.store (inside_of past v e here h).0))
-    (every_append P (in_order (pull_repeats f v.pulls)) _ (order_sent P (pull_repeats f v.pulls) (factless past (pull_repeats f v.pulls) (pull_repeats_factless f v.pulls)))
-    (order_sent P (flat_map (sync_repeats f) v.tables) (every_flat (TableFact past e.id) P (sync_repeats f) v.tables (λ t k. sync_repeats_fact past f e.id t k) (inside_of past v e here h).1)))))
-  where
-    f : Frame
-    f = frame_in c me boot e
-
-    P : Packet → Type 0
-    P = PacketFact past
-
-polls_factless : (me : ℕ) (v : SiteView) (r : Option Round) → Every Factless (poll_repeats me v r)
-polls_factless me v None = tt
-polls_factless me v (Some r) = every_map Factless (poll_packet me v.boot r.id r.polled) (unanswered r) (λ s. tt)
-
-repeats_fact : (c : Config) (me : ℕ) (past : List Told) (o : Option InEpoch) (v : SiteView) → v.epoch ≡ o → ViewFact past v → Every (PacketFact past) (repeats_of c me o v)
-repeats_fact c me past None v here h = order_sent (PacketFact past) (poll_repeats me v v.round) (factless past (poll_repeats me v v.round) (polls_factless me v v.round))
-repeats_fact c me past (Some e) v here h =
-    every_append (PacketFact past) (in_order (poll_repeats me v v.round ++ install_repeats me v e)) (repeats_inside (frame_in c me v.boot e) e v)
-    (order_sent (PacketFact past) (poll_repeats me v v.round ++ install_repeats me v e) (every_append (PacketFact past) (poll_repeats me v v.round) (install_repeats me v e) (factless past (poll_repeats me v v.round) (polls_factless me v v.round)) (every_map (PacketFact past) (install_packet me v.boot e.id e.members) v.installs (λ t. tt))))
-    (inside_repeats c me v.boot past e v here h)
-
-ticks_fact : (K : Deeds) (c : Config) (me : ℕ) (past : List Told) (links : Links) (v : SiteView) → ViewOk K v → ViewFact past v → SiteFine past (ticks_after c me links (adopts_in c me v))
-ticks_fact K c me past links v ok h =
-    let a : Outcome SiteView = adopts_in c me v in
-    let last : Outcome SiteView = ends_event c me links a.view in
-    let again : List Packet = repeats c me a.view in
-    let k : SiteFine past a = adopts_of_fact c me past v.epoch v refl h in
-    let now : List Told = onto a.told past in
-    let e : SiteFine now last = ends_fact K c me now links a.view (inner_view K v a (adopts_of_plain c me v.epoch v ok.tables) (adopts_of_inner c me v.epoch v refl) ok) k.view in
-    let end : List Told = onto last.told now in
-    let f : SiteFine past (joined_to a last) = then_fine ViewFact ViewFact past a last k e (ends_keeps c me links a.view).none in
-    let same : onto (a.told ++ last.told) past ≡ end = onto_append a.told last.told past in
-    let all : Every (PacketFact end) (a.sent ++ (again ++ in_order last.sent)) = every_append (PacketFact end) a.sent (again ++ in_order last.sent) (packets_later now end (onto_later last.told now) a.sent k.sent)
-    (every_append (PacketFact end) again (in_order last.sent) (packets_later now end (onto_later last.told now) again (repeats_fact c me now a.view.epoch a.view refl k.view)) (order_sent (PacketFact end) last.sent e.sent)) in
-    record { view = f.view; sent = subst (λ (n : List Told). Every (PacketFact n) (a.sent ++ (again ++ in_order last.sent))) (sym same) all; numbered = f.numbered; disk = f.disk }
+pub versions_keep : (c : Config) (me : ℕ) → FactsKeep versions c me
+versions_keep c me = record {
+  grows = growing;
+  forming = forming_fact;
+  outside = outside_told;
+  alike = alike_fact;
+  inside = λ past from e v x here agree k h. fine_in ViewFact past (takes_inside (frame_in c me v.boot e) from x v) (inside_fact c me v.boot past from v e x here agree k h);
+  calls = λ past f now process words v q h. fine_in ViewFact past (of_users v (on_call f now process words v.users)) (users_part past v (on_call f now process words v.users) h (on_call_talks f now process words v.users) (on_call_factless f now process words v.users));
+  repeats = repeats_fact c me;
+  pulls = λ past v h. h.pulls;
+  without = without_fact;
+  adopts = λ past f p e v at here k h. fine_in ViewFact past (adopts_pull f p v) (adopts_pull_fact f past p e v at here k h);
+  leaves = λ past e v h. fine_in ViewFact past (leaves_of me (Some e) v) (leaves_fact me past e v h);
+  joins = λ past id m v gone h. fine_in ViewFact past (joins c me id m v) (joins_fact c me past id m v gone h);
+}
 
 -- ---- the step ----
 
@@ -224,18 +85,9 @@ abbrev pub EventFact : List Told → Event → Type 0
 EventFact past (Receives p) = PacketFact past p
 EventFact past _ = Unit {0}
 
+event_in : (past : List Told) (me : ℕ) (e : Event) → EventFact past e → EventIn versions past me e
+event_in past me (Receives p) h = h
+event_in past me _ h = tt
+
 pub step_fact : (K J : Deeds) (c : Config) (me : ℕ) (past : List Told) (links : Links) (v : SiteView) (e : Event) → InstancesAgree past → EventFact past e → EventNames J e → ViewOk K v → ViewFact past v → SiteFine past (step c me links v e)
-step_fact K J c me past links v (Calls process words) agree k n ok h =
-    let o : Outcome SiteView = takes_call c me process words v in
-    let f : EpochFine K me v o = inner_fine K me v o (record { boot = refl; round = refl; promised = refl; epoch = refl; tables = ok.tables; still = on_call_still (call_frame c me v.boot v.epoch) (epoch_id v.epoch) process words v.users }) (call_inner c me process words v) ok in
-    untried_fact (Now K me o.told) c me past links o f.view
-    (plain_fine past v o refl refl refl refl refl (talk_none o.told (on_call_talks (call_frame c me v.boot v.epoch) (epoch_id v.epoch) process words v.users).0) (on_call_talks (call_frame c me v.boot v.epoch) (epoch_id v.epoch) process words v.users).1 (on_call_factless (call_frame c me v.boot v.epoch) (epoch_id v.epoch) process words v.users) h)
-step_fact K J c me past links v (Receives p) agree k n ok h =
-    (elim (is_dropped p v) as (λ t. is_dropped p v ≡ t → SiteFine past (elim t [ true ↦ quiet v | false ↦ whole c me links (takes c me links p p.body v) (tries_at c me p.body) ])) [
-      | true ↦ λ d. quiet_fact past v h
-      | false ↦ λ d. (let f : EpochFine K me v (takes c me links p p.body v) = takes_fine K me c links p p.body v J ok n in received_fact K c me past links p p.body v refl d agree k ok f.view h)
-    ]) refl
-step_fact K J c me past links v Ticks agree k n ok h = ticks_fact K c me past links v ok h
-step_fact K J c me past links v Parts agree k n ok h = let f : EpochFine K me v (starts_part me links v) = starts_part_fine K me links v.epoch v ok in untried_fact (Now K me (starts_part me links v).told) c me past links (starts_part me links v) f.view (starts_part_fact me past links v.epoch v h)
-step_fact K J c me past links v Merges agree k n ok h = let f : EpochFine K me v (starts_merge me links v) = begins_fine K me links (v.promised.number + 1) (boots_where (merge_boot me links)) v ok (omega arith) in untried_fact (Now K me (starts_merge me links v).told) c me past links (starts_merge me links v) f.view (begins_fact me past links (v.promised.number + 1) (boots_where (merge_boot me links)) v h)
-step_fact K J c me past links v GivesUp agree k n ok h = let f : EpochFine K me v (leaves me v) = leaves_of_fine K me v.epoch v refl ok in untried_fact (Now K me (leaves me v).told) c me past links (leaves me v) f.view (leaves_of_fact me past v.epoch v h)
+step_fact K J c me past links v e agree k n ok h = fine_of ViewFact past (step c me links v e) (step_fine versions c me (versions_keep c me) K J past links v e agree (event_in past me e k) n ok h)

@@ -8,18 +8,18 @@ use Rattle.locus_ids.specs.declared.refusal.Refusal.TheVariants as refusal
 use Rattle.trace_book.specs.declared.operation.Op.{Op}
 use Rattle.trace_book.specs.declared.operation.Op.TheVariants as op
 use Rattle.trace_book.specs.declared.operation.Outcome.TheVariants as result
-use Rattle.run_laws.specs.of_role_steps.of_file_effects.Effects.{Effect}
-use Rattle.run_laws.specs.of_role_steps.of_file_effects.Works.{counted}
-use Rattle.run_laws.specs.of_wire_messages.declared.body.CloseAnswer.{CloseAnswer}
-use Rattle.run_laws.specs.of_wire_messages.declared.body.CloseAnswer.TheVariants as closing
-use Rattle.run_laws.specs.of_role_steps.Views.{Frame, Store, DiskWrite, Outcome, quiet, sends, and_then}
-use Rattle.run_laws.specs.of_role_steps.Storage.{StoreRequest, instance_of, own_ino, opens, opens_made, on_open_ss_of, on_open_ss, is_spent, commit_write, commits, next_stamp, next_vector, shuts, shuts_again, closes_owing, closes, on_close_at, on_close_of, on_close, ends_at, on_closed_ok_of, on_closed_ok}
-use Rattle.run_laws.specs.of_role_steps.of_dir_format.Entries.{nothing_seen}
-use Rattle.run_laws.specs.of_role_steps.Operations.{acts, acts_committed, commits_owing, last_committed, commit_op, executes_effect, executes, op_again, by_number, on_op_at, on_op_of, on_op, in_form, nothing_to_mend, on_read_held}
-use Rattle.run_laws.specs.of_role_steps.OperationEffects.{Mending, effect_of}
-use Rattle.run_laws.specs.of_role_steps.declared.instances.Instance.{Instance}
-use Rattle.run_laws.specs.of_role_steps.declared.instances.Stage.{Stage}
-use Rattle.run_laws.specs.of_role_steps.declared.instances.Stage.TheVariants as stage
+use Rattle.fact_walks.specs.of_role_steps.of_file_effects.Effects.{Effect}
+use Rattle.fact_walks.specs.of_role_steps.of_file_effects.Works.{counted}
+use Rattle.fact_walks.specs.of_wire_messages.declared.body.CloseAnswer.{CloseAnswer}
+use Rattle.fact_walks.specs.of_wire_messages.declared.body.CloseAnswer.TheVariants as closing
+use Rattle.fact_walks.specs.of_role_steps.Views.{Frame, Store, DiskWrite, Outcome, quiet, sends, and_then}
+use Rattle.fact_walks.specs.of_role_steps.Storage.{StoreRequest, instance_of, own_ino, opens, opens_made, on_open_ss_of, on_open_ss, is_spent, commit_write, commits, next_stamp, next_vector, shuts, shuts_again, closes_owing, closes, on_close_at, on_close_of, on_close, ends_at, on_closed_ok_of, on_closed_ok}
+use Rattle.fact_walks.specs.of_role_steps.of_dir_format.Entries.{nothing_seen}
+use Rattle.fact_walks.specs.of_role_steps.Operations.{acts, acts_committed, commits_owing, last_committed, commit_op, executes_effect, executes, op_again, by_number, on_op_at, on_op_of, on_op, in_form, nothing_to_mend, on_read_held}
+use Rattle.fact_walks.specs.of_role_steps.OperationEffects.{Mending, effect_of}
+use Rattle.fact_walks.specs.of_role_steps.declared.instances.Instance.{Instance}
+use Rattle.fact_walks.specs.of_role_steps.declared.instances.Stage.{Stage}
+use Rattle.fact_walks.specs.of_role_steps.declared.instances.Stage.TheVariants as stage
 use Rattle.vector_laws.specs.Held.{Untouched, OnDisk}
 use Rattle.vector_laws.proofs.Disks.{disk_then}
 

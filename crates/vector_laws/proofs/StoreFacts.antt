@@ -10,32 +10,32 @@ use Rattle.trace_book.specs.declared.operation.Op.{Op}
 use Rattle.trace_book.specs.declared.operation.Op.TheVariants as op
 use Rattle.trace_book.specs.declared.operation.Outcome.{Outcome as Result}
 use Rattle.trace_book.specs.declared.operation.Outcome.TheVariants as result
-use Rattle.run_laws.specs.of_role_steps.of_file_effects.Effects.{Effect}
-use Rattle.run_laws.specs.of_role_steps.of_file_effects.Works.{counted, carried_out}
-use Rattle.run_laws.specs.of_role_steps.of_file_effects.declared.work.Work.{Work}
-use Rattle.run_laws.specs.of_wire_messages.declared.packet.Packet.{Packet}
-use Rattle.run_laws.specs.of_wire_messages.declared.body.Body.{Body}
-use Rattle.run_laws.specs.of_wire_messages.declared.body.Body.TheVariants as body
-use Rattle.run_laws.specs.of_wire_messages.declared.body.MadeVersion.{MadeVersion}
-use Rattle.run_laws.specs.of_wire_messages.declared.body.CloseAnswer.{CloseAnswer}
-use Rattle.run_laws.specs.of_wire_messages.declared.body.CloseAnswer.TheVariants as closing
-use Rattle.run_laws.specs.of_role_steps.Own.{Every}
-use Rattle.run_laws.specs.of_role_steps.Views.{Frame, Store, Told, Shown, Begins, Shuts, Reserves, Outcome, quiet, sends, and_then, to_some, to_sync, sync_site, serial_key}
-use Rattle.run_laws.specs.of_role_steps.Storage.{StoreRequest, copy_key, copy_of, instance_key, instance_of, is_open, own_ino, begun_instance, begins, with_instance, opened_packets, opens, opens_made, on_open_ss_of, on_open_ss, is_spent, copy_made, instance_committed, commit_record, commits, next_stamp, next_vector, made_version, shut, closed_packets, shuts, shuts_again, closes_owing, closes, on_close_at, on_close_of, on_close, ends_at, on_closed_ok_of, on_closed_ok, closed_again, store_repeats}
-use Rattle.run_laws.specs.of_role_steps.of_dir_format.Entries.{nothing_seen}
-use Rattle.run_laws.specs.of_role_steps.Operations.{act_record, acts, acts_committed, commits_owing, last_committed, commit_op, executes_effect, executes, op_again, by_number, on_op_at, on_op_of, on_op, in_form, nothing_to_mend, on_read_held}
-use Rattle.run_laws.specs.of_role_steps.OperationEffects.{Mending, effect_of}
-use Rattle.run_laws.specs.of_role_steps.declared.copies.FileCopy.{FileCopy}
-use Rattle.run_laws.specs.of_role_steps.declared.instances.Instance.{Instance}
-use Rattle.run_laws.specs.of_role_steps.declared.instances.Stage.{Stage}
-use Rattle.run_laws.specs.of_role_steps.declared.instances.Stage.TheVariants as stage
-use Rattle.run_laws.proofs.of_role_steps.Sending.{every_cond}
-use Rattle.run_laws.proofs.of_the_run.InsideSync.{every_row, Found, row_found}
+use Rattle.fact_walks.specs.of_role_steps.of_file_effects.Effects.{Effect}
+use Rattle.fact_walks.specs.of_role_steps.of_file_effects.Works.{counted, carried_out}
+use Rattle.fact_walks.specs.of_role_steps.of_file_effects.declared.work.Work.{Work}
+use Rattle.fact_walks.specs.of_wire_messages.declared.packet.Packet.{Packet}
+use Rattle.fact_walks.specs.of_wire_messages.declared.body.Body.{Body}
+use Rattle.fact_walks.specs.of_wire_messages.declared.body.Body.TheVariants as body
+use Rattle.fact_walks.specs.of_wire_messages.declared.body.MadeVersion.{MadeVersion}
+use Rattle.fact_walks.specs.of_wire_messages.declared.body.CloseAnswer.{CloseAnswer}
+use Rattle.fact_walks.specs.of_wire_messages.declared.body.CloseAnswer.TheVariants as closing
+use Rattle.fact_walks.specs.of_role_steps.Own.{Every}
+use Rattle.fact_walks.specs.of_role_steps.Views.{Frame, Store, Told, Shown, Begins, Shuts, Reserves, Outcome, quiet, sends, and_then, to_some, to_sync, sync_site, serial_key}
+use Rattle.fact_walks.specs.of_role_steps.Storage.{StoreRequest, copy_key, copy_of, instance_key, instance_of, is_open, own_ino, begun_instance, begins, with_instance, opened_packets, opens, opens_made, on_open_ss_of, on_open_ss, is_spent, copy_made, instance_committed, commit_record, commits, next_stamp, next_vector, made_version, shut, closed_packets, shuts, shuts_again, closes_owing, closes, on_close_at, on_close_of, on_close, ends_at, on_closed_ok_of, on_closed_ok, closed_again, store_repeats}
+use Rattle.fact_walks.specs.of_role_steps.of_dir_format.Entries.{nothing_seen}
+use Rattle.fact_walks.specs.of_role_steps.Operations.{act_record, acts, acts_committed, commits_owing, last_committed, commit_op, executes_effect, executes, op_again, by_number, on_op_at, on_op_of, on_op, in_form, nothing_to_mend, on_read_held}
+use Rattle.fact_walks.specs.of_role_steps.OperationEffects.{Mending, effect_of}
+use Rattle.fact_walks.specs.of_role_steps.declared.copies.FileCopy.{FileCopy}
+use Rattle.fact_walks.specs.of_role_steps.declared.instances.Instance.{Instance}
+use Rattle.fact_walks.specs.of_role_steps.declared.instances.Stage.{Stage}
+use Rattle.fact_walks.specs.of_role_steps.declared.instances.Stage.TheVariants as stage
+use Rattle.fact_walks.proofs.of_role_steps.Sending.{every_cond}
+use Rattle.fact_walks.proofs.of_the_run.InsideSync.{every_row, Found, row_found}
 use Rattle.vector_laws.specs.Written.{JoinsAll, WrittenAs, WasBegun}
 use Rattle.vector_laws.specs.Facts.{BaseFact, MaybeMade, BodyFact, PacketFact, CopyFact, ClosingFact, StageFact, LastMade, InstanceFact, StoreFact, Fine, onto}
 use Rattle.vector_laws.proofs.Facts.{Later, one_later, joins_later, store_later, copies_later, instances_later, instance_later, stage_later, then_fine}
 use Rattle.vector_laws.proofs.SyncFacts.{every_flat, every_latest, joins_one}
-use Rattle.run_laws.proofs.of_role_steps.HeldReads.{held_read_sent}
+use Rattle.fact_walks.proofs.of_role_steps.HeldReads.{held_read_sent}
 
 abbrev pub InStore : Frame → List Told → Store → Type 0
 InStore f past s = StoreFact past f.epoch s

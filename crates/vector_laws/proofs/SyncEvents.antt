@@ -8,27 +8,27 @@ use Rattle.locus_ids.specs.declared.ids.Mode.TheVariants as mode
 use Rattle.locus_ids.specs.declared.ids.Serial.{Serial}
 use Rattle.locus_ids.specs.declared.ids.Stamp.{Stamp}
 use Rattle.trace_book.specs.declared.record.Record.TheVariants as says
-use Rattle.run_laws.specs.of_wire_messages.declared.body.Body.{Body}
-use Rattle.run_laws.specs.of_wire_messages.declared.body.Body.TheVariants as body
-use Rattle.run_laws.specs.of_wire_messages.declared.body.MadeVersion.{MadeVersion}
-use Rattle.run_laws.specs.of_wire_messages.declared.body.ReportedCopy.{ReportedCopy}
-use Rattle.run_laws.specs.of_role_steps.Own.{Every}
-use Rattle.run_laws.specs.of_role_steps.Tables.{row}
-use Rattle.run_laws.specs.of_role_steps.Views.{Frame, Told, Outcome, quiet, sends, Shown, packet, process_key, serial_key}
-use Rattle.run_laws.specs.of_role_steps.Versions.{row_ino, file_row, with_version, unknown_file, known_or, with_holder, noted}
-use Rattle.run_laws.specs.of_role_steps.Notices.{notices}
-use Rattle.run_laws.specs.of_role_steps.Opens.{OpenRequest, Decision, Denies, Grants, decision, decides, on_open_of, takes_open, open_row, open_key, with_open}
-use Rattle.run_laws.specs.of_role_steps.Looks.{LookRequest, is_look_before, is_same_look, new_look, after_last, look_key, takes_look}
-use Rattle.run_laws.specs.of_role_steps.Reports.{brought_files, waits_early, is_early_of, on_open, on_look, takes_early, takes_all_early, starts, starts_if, have_all_reported, counts_report, version_reported, with_reported, with_all_reported, with_report, on_report, published_row, published, published_notices, closed_ok, releases, closes_at, on_closed_of, on_closed, on_have_of, on_have}
-use Rattle.run_laws.specs.of_role_steps.declared.synchronizing.SyncTable.{SyncTable}
-use Rattle.run_laws.specs.of_role_steps.declared.synchronizing.FileRow.{FileRow}
-use Rattle.run_laws.specs.of_role_steps.declared.synchronizing.OpenRow.{OpenRow}
-use Rattle.run_laws.specs.of_role_steps.declared.synchronizing.OpenStage.{OpenStage}
-use Rattle.run_laws.specs.of_role_steps.declared.synchronizing.OpenStage.TheVariants as stage
-use Rattle.run_laws.specs.of_role_steps.declared.synchronizing.LastLook.{LastLook}
-use Rattle.run_laws.specs.of_role_steps.declared.synchronizing.Early.{Early}
-use Rattle.run_laws.proofs.of_role_steps.Sending.{every_append}
-use Rattle.run_laws.proofs.of_the_run.InsideSync.{Found, row_found}
+use Rattle.fact_walks.specs.of_wire_messages.declared.body.Body.{Body}
+use Rattle.fact_walks.specs.of_wire_messages.declared.body.Body.TheVariants as body
+use Rattle.fact_walks.specs.of_wire_messages.declared.body.MadeVersion.{MadeVersion}
+use Rattle.fact_walks.specs.of_wire_messages.declared.body.ReportedCopy.{ReportedCopy}
+use Rattle.fact_walks.specs.of_role_steps.Own.{Every}
+use Rattle.fact_walks.specs.of_role_steps.Tables.{row}
+use Rattle.fact_walks.specs.of_role_steps.Views.{Frame, Told, Outcome, quiet, sends, Shown, packet, process_key, serial_key}
+use Rattle.fact_walks.specs.of_role_steps.Versions.{row_ino, file_row, with_version, unknown_file, known_or, with_holder, noted}
+use Rattle.fact_walks.specs.of_role_steps.Notices.{notices}
+use Rattle.fact_walks.specs.of_role_steps.Opens.{OpenRequest, Decision, Denies, Grants, decision, decides, on_open_of, takes_open, open_row, open_key, with_open}
+use Rattle.fact_walks.specs.of_role_steps.Looks.{LookRequest, is_look_before, is_same_look, new_look, after_last, look_key, takes_look}
+use Rattle.fact_walks.specs.of_role_steps.Reports.{brought_files, waits_early, is_early_of, on_open, on_look, takes_early, takes_all_early, starts, starts_if, have_all_reported, counts_report, version_reported, with_reported, with_all_reported, with_report, on_report, published_row, published, published_notices, closed_ok, releases, closes_at, on_closed_of, on_closed, on_have_of, on_have}
+use Rattle.fact_walks.specs.of_role_steps.declared.synchronizing.SyncTable.{SyncTable}
+use Rattle.fact_walks.specs.of_role_steps.declared.synchronizing.FileRow.{FileRow}
+use Rattle.fact_walks.specs.of_role_steps.declared.synchronizing.OpenRow.{OpenRow}
+use Rattle.fact_walks.specs.of_role_steps.declared.synchronizing.OpenStage.{OpenStage}
+use Rattle.fact_walks.specs.of_role_steps.declared.synchronizing.OpenStage.TheVariants as stage
+use Rattle.fact_walks.specs.of_role_steps.declared.synchronizing.LastLook.{LastLook}
+use Rattle.fact_walks.specs.of_role_steps.declared.synchronizing.Early.{Early}
+use Rattle.fact_walks.proofs.of_role_steps.Sending.{every_append}
+use Rattle.fact_walks.proofs.of_the_run.InsideSync.{Found, row_found}
 use Rattle.vector_laws.specs.Written.{WrittenAs, InstancesAgree, WasGranted}
 use Rattle.vector_laws.specs.Facts.{file_in, ReportedFact, MadeFact, MaybeMade, PacketFact, RowFact, GrantFact, OpenFact, WaitingFact, EarlyFact, TableFact, onto}
 use Rattle.vector_laws.proofs.Facts.{Later, one_later, onto_later, table_later, packets_later}

@@ -2,7 +2,7 @@
 use Rattle.std.proofs.Common.{◌≡◌, ℕ, zero, suc, ◌==◌, max, Bool, true, false, cond, List, [], ◌∷◌, ◌++◌, filter, replicate, Option, Some, None, refl, sym, ◌∙◌, subst, inl, arith}
 use Rattle.std.proofs.lemmas.Bool.Decides.{nat_tests}
 use Rattle.std.specs.List.{flat_map}
-use Rattle.run_laws.proofs.of_role_steps.of_plain_facts.Numbers.{equal}
+use Rattle.fact_walks.proofs.of_role_steps.of_plain_facts.Numbers.{equal}
 use Rattle.locus_ids.specs.declared.ids.EpochId.{EpochId}
 use Rattle.locus_ids.specs.declared.ids.FileId.{FileId}
 use Rattle.locus_ids.specs.declared.ids.Kind.{Kind}
@@ -16,31 +16,31 @@ use Rattle.locus_ids.specs.declared.refusal.Refusal.TheVariants as refusal
 use Rattle.locus_ids.specs.Sizes.{sites_max}
 use Rattle.version_vector.specs.Counters.{part}
 use Rattle.version_vector.proofs.Counting.{part-joined}
-use Rattle.run_laws.specs.of_role_steps.of_dir_format.Entries.{nothing_seen}
+use Rattle.fact_walks.specs.of_role_steps.of_dir_format.Entries.{nothing_seen}
 use Rattle.trace_book.specs.declared.operation.What.{What}
 use Rattle.trace_book.specs.declared.operation.What.TheVariants as what
-use Rattle.run_laws.specs.of_wire_messages.declared.body.Opening.{Opening}
-use Rattle.run_laws.specs.of_wire_messages.declared.body.Opening.TheVariants as how
-use Rattle.run_laws.specs.of_wire_messages.declared.body.OpenedAs.{OpenedAs}
-use Rattle.run_laws.specs.of_wire_messages.declared.body.OpenedAs.TheVariants as opened
-use Rattle.run_laws.specs.of_role_steps.Own.{Every}
-use Rattle.run_laws.specs.of_role_steps.Tables.{row, with_row, with_latest}
-use Rattle.run_laws.specs.of_role_steps.Views.{Frame, Told, Outcome, quiet, sends, and_then, packet, process_key, serial_key}
-use Rattle.run_laws.specs.of_role_steps.Versions.{version_key, row_ino, file_row, with_file, with_version, with_kept, not_below, is_below_some, kept, stamps_of, joined_vectors, unknown_file, known_or, with_holder, holders_of, holding_of, version_of, rises_to, noted_at, noted_of, noted, chosen_site}
-use Rattle.run_laws.specs.of_role_steps.Notices.{lagging, notice, notices_of, notices_by, file_notices, notices, row_notices}
-use Rattle.run_laws.specs.of_role_steps.Opens.{OpenRequest, Decision, Denies, Grants, mode_of, decision, file_decision, unless_refused, grant_on, plain_at, plain_decision, resolve_from, is_stamp_among, make_at, refuse_record, decides, denied_row, asked_row, granted_row, numbered_file, granted_at_once, granted_at_last, repeats_open, on_open_of, takes_open, open_row, open_key, with_open, answers_open, by_stage, on_opened_of, on_opened}
-use Rattle.run_laws.specs.of_role_steps.Looks.{LookRequest, Service, Denies as Unserved, Serves, service, letter, serving_letter, last_look, is_look_before, is_same_look, new_look, after_last, takes_look, look_key}
-use Rattle.run_laws.specs.of_role_steps.Reports.{sync_repeats}
-use Rattle.run_laws.specs.of_role_steps.declared.synchronizing.SyncTable.{SyncTable}
-use Rattle.run_laws.specs.of_role_steps.declared.synchronizing.FileRow.{FileRow}
-use Rattle.run_laws.specs.of_role_steps.declared.synchronizing.VersionRow.{VersionRow}
-use Rattle.run_laws.specs.of_role_steps.declared.synchronizing.Holding.{Holding}
-use Rattle.run_laws.specs.of_role_steps.declared.synchronizing.OpenRow.{OpenRow}
-use Rattle.run_laws.specs.of_role_steps.declared.synchronizing.OpenStage.{OpenStage}
-use Rattle.run_laws.specs.of_role_steps.declared.synchronizing.OpenStage.TheVariants as stage
-use Rattle.run_laws.specs.of_role_steps.declared.synchronizing.LastLook.{LastLook}
-use Rattle.run_laws.proofs.of_role_steps.Sending.{every_append, every_cond, every_map}
-use Rattle.run_laws.proofs.of_the_run.InsideSync.{every_row, Found, row_found}
+use Rattle.fact_walks.specs.of_wire_messages.declared.body.Opening.{Opening}
+use Rattle.fact_walks.specs.of_wire_messages.declared.body.Opening.TheVariants as how
+use Rattle.fact_walks.specs.of_wire_messages.declared.body.OpenedAs.{OpenedAs}
+use Rattle.fact_walks.specs.of_wire_messages.declared.body.OpenedAs.TheVariants as opened
+use Rattle.fact_walks.specs.of_role_steps.Own.{Every}
+use Rattle.fact_walks.specs.of_role_steps.Tables.{row, with_row, with_latest}
+use Rattle.fact_walks.specs.of_role_steps.Views.{Frame, Told, Outcome, quiet, sends, and_then, packet, process_key, serial_key}
+use Rattle.fact_walks.specs.of_role_steps.Versions.{version_key, row_ino, file_row, with_file, with_version, with_kept, not_below, is_below_some, kept, stamps_of, joined_vectors, unknown_file, known_or, with_holder, holders_of, holding_of, version_of, rises_to, noted_at, noted_of, noted, chosen_site}
+use Rattle.fact_walks.specs.of_role_steps.Notices.{lagging, notice, notices_of, notices_by, file_notices, notices, row_notices}
+use Rattle.fact_walks.specs.of_role_steps.Opens.{OpenRequest, Decision, Denies, Grants, mode_of, decision, file_decision, unless_refused, grant_on, plain_at, plain_decision, resolve_from, is_stamp_among, make_at, refuse_record, decides, denied_row, asked_row, granted_row, numbered_file, granted_at_once, granted_at_last, repeats_open, on_open_of, takes_open, open_row, open_key, with_open, answers_open, by_stage, on_opened_of, on_opened}
+use Rattle.fact_walks.specs.of_role_steps.Looks.{LookRequest, Service, Denies as Unserved, Serves, service, letter, serving_letter, last_look, is_look_before, is_same_look, new_look, after_last, takes_look, look_key}
+use Rattle.fact_walks.specs.of_role_steps.Reports.{sync_repeats}
+use Rattle.fact_walks.specs.of_role_steps.declared.synchronizing.SyncTable.{SyncTable}
+use Rattle.fact_walks.specs.of_role_steps.declared.synchronizing.FileRow.{FileRow}
+use Rattle.fact_walks.specs.of_role_steps.declared.synchronizing.VersionRow.{VersionRow}
+use Rattle.fact_walks.specs.of_role_steps.declared.synchronizing.Holding.{Holding}
+use Rattle.fact_walks.specs.of_role_steps.declared.synchronizing.OpenRow.{OpenRow}
+use Rattle.fact_walks.specs.of_role_steps.declared.synchronizing.OpenStage.{OpenStage}
+use Rattle.fact_walks.specs.of_role_steps.declared.synchronizing.OpenStage.TheVariants as stage
+use Rattle.fact_walks.specs.of_role_steps.declared.synchronizing.LastLook.{LastLook}
+use Rattle.fact_walks.proofs.of_role_steps.Sending.{every_append, every_cond, every_map}
+use Rattle.fact_walks.proofs.of_the_run.InsideSync.{every_row, Found, row_found}
 use Rattle.vector_laws.specs.Written.{CountsNone, JoinsAll, WrittenAs}
 use Rattle.vector_laws.specs.Facts.{file_in, BaseFact, PacketFact, NoFact, VersionFact, RowFact, GrantFact, OpenFact, LookFact, TableFact, onto}
 use Rattle.vector_laws.proofs.Facts.{base_later, one_later, onto_later, onto_append, packets_later, table_later, no_fact}

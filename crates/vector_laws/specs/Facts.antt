@@ -7,30 +7,32 @@ use Rattle.locus_ids.specs.declared.ids.Mode.{Mode}
 use Rattle.locus_ids.specs.declared.ids.Mode.TheVariants as mode
 use Rattle.trace_book.specs.declared.record.Record.{Record}
 use Rattle.trace_book.specs.declared.record.Record.TheVariants as says
-use Rattle.run_laws.specs.of_wire_messages.declared.packet.Packet.{Packet}
-use Rattle.run_laws.specs.of_wire_messages.declared.body.Body.{Body}
-use Rattle.run_laws.specs.of_wire_messages.declared.body.Body.TheVariants as body
-use Rattle.run_laws.specs.of_wire_messages.declared.body.MadeVersion.{MadeVersion}
-use Rattle.run_laws.specs.of_wire_messages.declared.body.ReportedCopy.{ReportedCopy}
-use Rattle.run_laws.specs.of_role_steps.Own.{Every}
-use Rattle.run_laws.specs.of_role_steps.Views.{Store, SiteView, Told, Shown, DiskWrite, Outcome, serial_key}
-use Rattle.run_laws.specs.of_role_steps.declared.copies.FileCopy.{FileCopy}
-use Rattle.run_laws.specs.of_role_steps.declared.instances.Instance.{Instance}
-use Rattle.run_laws.specs.of_role_steps.declared.instances.Stage.{Stage}
-use Rattle.run_laws.specs.of_role_steps.declared.instances.Stage.TheVariants as stage
-use Rattle.run_laws.specs.of_role_steps.declared.pulls.Pull.{Pull}
-use Rattle.run_laws.specs.of_role_steps.declared.rounds.InEpoch.{InEpoch}
-use Rattle.run_laws.specs.of_role_steps.declared.synchronizing.SyncTable.{SyncTable}
-use Rattle.run_laws.specs.of_role_steps.declared.synchronizing.FileRow.{FileRow}
-use Rattle.run_laws.specs.of_role_steps.declared.synchronizing.VersionRow.{VersionRow}
-use Rattle.run_laws.specs.of_role_steps.declared.synchronizing.OpenRow.{OpenRow}
-use Rattle.run_laws.specs.of_role_steps.declared.synchronizing.OpenStage.{OpenStage}
-use Rattle.run_laws.specs.of_role_steps.declared.synchronizing.OpenStage.TheVariants as opening
-use Rattle.run_laws.specs.of_role_steps.declared.synchronizing.LastLook.{LastLook}
-use Rattle.run_laws.specs.of_role_steps.declared.synchronizing.Early.{Early}
-use Rattle.run_laws.specs.of_the_run.Worlds.{World, Place, Running, Numbered, place_at}
+use Rattle.fact_walks.specs.of_wire_messages.declared.packet.Packet.{Packet}
+use Rattle.fact_walks.specs.of_wire_messages.declared.body.Body.{Body}
+use Rattle.fact_walks.specs.of_wire_messages.declared.body.Body.TheVariants as body
+use Rattle.fact_walks.specs.of_wire_messages.declared.body.MadeVersion.{MadeVersion}
+use Rattle.fact_walks.specs.of_wire_messages.declared.body.ReportedCopy.{ReportedCopy}
+use Rattle.fact_walks.specs.of_role_steps.Own.{Every}
+use Rattle.fact_walks.specs.of_role_steps.Views.{Store, SiteView, Told, Shown, DiskWrite, Outcome, serial_key}
+use Rattle.fact_walks.specs.of_role_steps.declared.copies.FileCopy.{FileCopy}
+use Rattle.fact_walks.specs.of_role_steps.declared.instances.Instance.{Instance}
+use Rattle.fact_walks.specs.of_role_steps.declared.instances.Stage.{Stage}
+use Rattle.fact_walks.specs.of_role_steps.declared.instances.Stage.TheVariants as stage
+use Rattle.fact_walks.specs.of_role_steps.declared.pulls.Pull.{Pull}
+use Rattle.fact_walks.specs.of_role_steps.declared.rounds.InEpoch.{InEpoch}
+use Rattle.fact_walks.specs.of_role_steps.declared.synchronizing.SyncTable.{SyncTable}
+use Rattle.fact_walks.specs.of_role_steps.declared.synchronizing.FileRow.{FileRow}
+use Rattle.fact_walks.specs.of_role_steps.declared.synchronizing.VersionRow.{VersionRow}
+use Rattle.fact_walks.specs.of_role_steps.declared.synchronizing.OpenRow.{OpenRow}
+use Rattle.fact_walks.specs.of_role_steps.declared.synchronizing.OpenStage.{OpenStage}
+use Rattle.fact_walks.specs.of_role_steps.declared.synchronizing.OpenStage.TheVariants as opening
+use Rattle.fact_walks.specs.of_role_steps.declared.synchronizing.LastLook.{LastLook}
+use Rattle.fact_walks.specs.of_role_steps.declared.synchronizing.Early.{Early}
+use Rattle.fact_walks.specs.of_the_run.Worlds.{World, Place, Running, Numbered, place_at}
+use Rattle.fact_walks.specs.Facts.{Facts, AllTold, WrittenIn}
 use Rattle.vector_laws.specs.Held.{copies_on}
 use Rattle.vector_laws.specs.Written.{past_of, CommitsAreNumbered, InstancesAgree, NumberedTold, CountsNone, JoinsAll, WrittenAs, WasBegun, WasGranted}
+pub use Rattle.fact_walks.specs.Facts.{onto}
 
 abbrev pub file_in : ℕ → ℕ → FileId
 file_in group ino = record { group = group; ino = ino }
@@ -154,11 +156,6 @@ pub record ViewFact (past : List Told) (v : SiteView) : Type 0 where
 
 -- ---- outcomes ----
 
--- what was told before and in the event, the newest first
-abbrev pub onto : List Told → List Told → List Told
-onto [] past = past
-onto (x ∷ xs) past = onto xs (x ∷ past)
-
 abbrev pub NotCommitRecord : Record → Type 0
 NotCommitRecord (says.Commit file s stamp parents content) = ⊥
 NotCommitRecord _ = Unit {0}
@@ -168,15 +165,24 @@ abbrev pub NotCommit : Told → Type 0
 NotCommit (Shown r) = NotCommitRecord r
 NotCommit _ = Unit {0}
 
--- each commit that is told is numbered by what was told before it
+-- the law of facts, in a run whose instances agree; each commit that is told is numbered by what was told before it
+abbrev pub versions : Facts
+versions = record {
+  assumes = InstancesAgree;
+  carries = λ past from to e b. BodyFact past e b;
+  pull = PullFact;
+  view = λ past me v. ViewFact past v;
+  disk = λ past copies. Every (CopyFact past) copies;
+  told = NumberedTold;
+  written = λ past d. NumberedTold past (Shown d.says) × CopyFact (Shown d.says ∷ past) d.copy;
+}
+
 abbrev pub NumberedAll : List Told → List Told → Type 0
-NumberedAll past [] = Unit {0}
-NumberedAll past (x ∷ xs) = NumberedTold past x × NumberedAll (x ∷ past) xs
+NumberedAll past told = AllTold versions past told
 
 -- the version that is written, which its record tells before all else of the event
 abbrev pub DiskFact : List Told → Option DiskWrite → Type 0
-DiskFact past None = Unit {0}
-DiskFact past (Some d) = NumberedTold past (Shown d.says) × CopyFact (Shown d.says ∷ past) d.copy
+DiskFact past d = WrittenIn versions past d
 
 -- what an outcome owes, whose view has these facts
 pub record Fine {V : Type 0} (F : List Told → V → Type 0) (past : List Told) (o : Outcome V) : Type 0 where

@@ -5,13 +5,14 @@ use Rattle.locus_ids.specs.declared.ids.Stamp.{Stamp}
 use Rattle.locus_ids.specs.declared.config.Config.{Config}
 use Rattle.trace_book.specs.declared.record.Record.{Record}
 use Rattle.trace_book.specs.declared.record.Record.TheVariants as says
-use Rattle.run_laws.specs.of_role_steps.Own.{Every}
-use Rattle.run_laws.specs.of_role_steps.Tables.{row, with_row}
-use Rattle.run_laws.specs.of_role_steps.Views.{Told, Shown, DiskWrite, file_key}
-use Rattle.run_laws.specs.of_role_steps.Storage.{copy_key}
-use Rattle.run_laws.specs.of_role_steps.Versions.{is_below}
-use Rattle.run_laws.specs.of_role_steps.declared.copies.FileCopy.{FileCopy}
-use Rattle.run_laws.specs.of_the_run.Worlds.{World, Place, Running, Stopped, Line, place_at, formatted}
+use Rattle.fact_walks.specs.of_role_steps.Own.{Every}
+use Rattle.fact_walks.specs.of_role_steps.Tables.{row, with_row}
+use Rattle.fact_walks.specs.of_role_steps.Views.{Told, Shown, DiskWrite, file_key}
+use Rattle.fact_walks.specs.of_role_steps.Storage.{copy_key}
+use Rattle.fact_walks.specs.of_role_steps.Versions.{is_below}
+use Rattle.fact_walks.specs.of_role_steps.declared.copies.FileCopy.{FileCopy}
+use Rattle.fact_walks.specs.of_the_run.Worlds.{World, Place, Line, place_at, formatted}
+pub use Rattle.fact_walks.specs.Facts.{copies_on}
 
 -- ---- the last record of a version on a disk ----
 
@@ -51,10 +52,6 @@ abbrev pub IsHeld : Config → ℕ → ℕ → Option Record → Option FileCopy
 IsHeld c s key None copy = copy ≡ row copy_key key (formatted c s)
 IsHeld c s key (Some r) None = ⊥
 IsHeld c s key (Some r) (Some x) = IsOf s r x
-
-abbrev pub copies_on : Place → List FileCopy
-copies_on (Running v) = v.store.copies
-copies_on (Stopped d) = d.copies
 
 -- so it is on each disk, of a running site or a stopped one, for each file
 abbrev pub CopiesAreTold : Config → World → Type 0

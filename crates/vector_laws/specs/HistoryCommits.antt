@@ -10,12 +10,12 @@ use Rattle.commit_graph.specs.Vectors.{vector_of}
 use Rattle.conflict_flags.specs.Written.{is_format, NoneTwice, Numbered, ancestors_made_at}
 use Rattle.trace_book.specs.declared.record.Record.{Record}
 use Rattle.trace_book.specs.declared.record.Record.TheVariants as says
-use Rattle.run_laws.specs.of_role_steps.Own.{Every}
-use Rattle.run_laws.specs.of_role_steps.Tables.{row}
-use Rattle.run_laws.specs.of_role_steps.Views.{Told, Shown, file_key}
-use Rattle.run_laws.specs.of_role_steps.Storage.{copy_key}
-use Rattle.run_laws.specs.of_role_steps.declared.copies.FileCopy.{FileCopy}
-use Rattle.run_laws.specs.of_the_run.Worlds.{World, Place, place_at}
+use Rattle.fact_walks.specs.of_role_steps.Own.{Every}
+use Rattle.fact_walks.specs.of_role_steps.Tables.{row}
+use Rattle.fact_walks.specs.of_role_steps.Views.{Told, Shown, file_key}
+use Rattle.fact_walks.specs.of_role_steps.Storage.{copy_key}
+use Rattle.fact_walks.specs.of_role_steps.declared.copies.FileCopy.{FileCopy}
+use Rattle.fact_walks.specs.of_the_run.Worlds.{World, Place, place_at}
 use Rattle.vector_laws.specs.Held.{copies_on}
 use Rattle.vector_laws.specs.Written.{past_of, CommitsAreNumbered}
 

@@ -1,23 +1,17 @@
 -- Written vectors by the trace alone, and what the trace tells of instances.
-use Rattle.std.specs.Prelude.{ℕ, ◌≡◌, ◌-◌, ◌⊎◌, max, List, [], ◌∷◌, map, Some}
+use Rattle.std.specs.Prelude.{ℕ, ◌≡◌, ◌-◌, ◌⊎◌, max, List, [], ◌∷◌, Some}
 use Rattle.locus_ids.specs.declared.ids.EpochId.{EpochId}
 use Rattle.locus_ids.specs.declared.ids.FileId.{FileId}
 use Rattle.locus_ids.specs.declared.ids.Stamp.{Stamp}
 use Rattle.version_vector.specs.Counters.{part, raised}
 use Rattle.trace_book.specs.declared.record.Record.{Record}
 use Rattle.trace_book.specs.declared.record.Record.TheVariants as says
-use Rattle.run_laws.specs.of_role_steps.Own.{Every}
-use Rattle.run_laws.specs.of_role_steps.Views.{Told, Shown, Begins, serial_key}
-use Rattle.run_laws.specs.of_role_steps.declared.copies.FileCopy.{FileCopy}
-use Rattle.run_laws.specs.of_the_run.Worlds.{World, Place, Line, place_at}
+use Rattle.fact_walks.specs.of_role_steps.Own.{Every}
+use Rattle.fact_walks.specs.of_role_steps.Views.{Told, Shown, Begins, serial_key}
+use Rattle.fact_walks.specs.of_role_steps.declared.copies.FileCopy.{FileCopy}
+use Rattle.fact_walks.specs.of_the_run.Worlds.{World, Place, place_at}
 use Rattle.vector_laws.specs.Held.{copies_on}
-
--- what was told before, the newest first
-abbrev pub line_told : Line → Told
-line_told x = x.told
-
-abbrev pub past_of : List Line → List Told
-past_of trace = map line_told trace
+pub use Rattle.fact_walks.specs.Facts.{line_told, past_of}
 
 -- ---- written vectors ----
 

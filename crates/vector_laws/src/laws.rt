@@ -1,8 +1,8 @@
 //! Laws of every run about versions: what the disks hold, by the trace.
 ghost use Rattle.std.specs.Prelude.{List};
 ghost use Rattle.locus_ids.specs.declared.config.Config.{Config};
-ghost use Rattle.run_laws.specs.of_schedule_lines.declared.line.ScheduleLine.{ScheduleLine};
-ghost use Rattle.run_laws.specs.of_the_run.Runs.{run_in};
+ghost use Rattle.fact_walks.specs.of_schedule_lines.declared.line.ScheduleLine.{ScheduleLine};
+ghost use Rattle.fact_walks.specs.of_the_run.Runs.{run_in};
 ghost use Rattle.vector_laws.specs.Held.{CopiesAreTold};
 ghost use Rattle.vector_laws.specs.Written.{past_of, InstancesAgree, VectorsAreWritten, CommitsAreNumbered};
 

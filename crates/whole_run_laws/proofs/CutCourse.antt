@@ -1,28 +1,23 @@
 -- In every run the cut calls are counted: what each line and each event keeps.
-use Rattle.std.proofs.Common.{◌≡◌, ◌≢◌, ◌≤◌, ◌<◌, ℕ, ◌+◌, ◌==◌, nat_lt, Bool, true, false, cond, List, [], ◌∷◌, length, map, filter, Option, Some, refl, sym, ◌∙◌, ap, subst, arith}
-use Rattle.role_steps.proofs.of_plain_facts.Numbers.{apart_test, equal_self}
+use Rattle.std.proofs.Common.{◌≡◌, ◌<◌, ℕ, ◌+◌, true, List, [], ◌∷◌, length, map, Option, Some, refl, sym, ◌∙◌, ap, subst}
 use Rattle.locus_ids.specs.declared.config.Config.{Config}
 use Rattle.schedule_lines.specs.declared.line.Line.{Line as LineWords}
 use Rattle.schedule_lines.specs.declared.line.Line.TheVariants as line
 use Rattle.schedule_lines.specs.declared.line.ScheduleLine.{ScheduleLine}
 use Rattle.schedule_lines.specs.declared.line.ScheduleLine.TheVariants.{Event as EventLine}
 use Rattle.trace_book.specs.declared.record.Record.TheVariants as says
-use Rattle.role_steps.specs.Tables.{row}
 use Rattle.role_steps.specs.Own.{Every}
 use Rattle.role_steps.specs.Views.{SiteView, DiskWrite, Told, Shown, Event, Receives, Ticks}
 use Rattle.role_steps.proofs.Sending.{every_map}
 use Rattle.tree_model.specs.Epochs.{is_up}
-use Rattle.tree_model.specs.Folds.{last_line}
-use Rattle.the_run.specs.Disks.{Armed as Script}
 use Rattle.the_run.specs.Steps.{step}
-use Rattle.the_run.specs.Worlds.{World, Running, Stopped, Numbered, CutCircuit, place_at, place_in, place_site, script_of, links_of, happened, acts, passed, arms, first_place, first_world}
+use Rattle.the_run.specs.Worlds.{World, Running, Stopped, Numbered, CutCircuit, place_at, links_of, happened, acts, passed, first_world}
 use Rattle.the_run.specs.Runs.{cuts_circuit, mends_circuit, packet_record, run_in}
-use Rattle.the_run.proofs.Boots.{at_each}
 use Rattle.run_laws.specs.Naming.{DeedsOf}
 use Rattle.lawful_trace.specs.Places.{line_at}
 use Rattle.orderly_traces.specs.of_row_laws.Shown.{trace_of, EachRecord}
 use Rattle.orderly_traces.specs.of_row_laws.Events.{SiteTold, causes_of}
-use Rattle.orderly_traces.specs.of_row_laws.ByLine.{IsLine, ArmsAs, KeptIn}
+use Rattle.orderly_traces.specs.of_row_laws.ByLine.{IsLine, KeptIn}
 use Rattle.orderly_traces.specs.of_row_laws.Arms.{NoDisk}
 use Rattle.orderly_traces.specs.of_row_laws.Voids.{LinesFit}
 use Rattle.orderly_traces.proofs.of_row_laws.StepForms.{step_forms}

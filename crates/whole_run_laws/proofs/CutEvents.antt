@@ -18,11 +18,11 @@ use Rattle.the_run.specs.Runs.{asked_stop, boots_as}
 use Rattle.the_run.specs.Worlds.{World, Place, Running, Stopped, Line, place_at, script_of, told_onto, happened, puts, arms, stops_with, disk_of, cause_of, cut_event, runs_on, spends, writes_of, acts_of, acts, fresh}
 use Rattle.the_run.proofs.Boots.{at_each}
 use Rattle.the_run.proofs.Events.{happened_keeps, puts_other, puts_same}
-use Rattle.vector_laws.specs.Held.{IsOf}
+use Rattle.rest_laws.specs.of_vector_laws.Held.{IsOf}
 use Rattle.lawful_trace.specs.Disks.{Armed, Writing, booted_with, stopped_with, has_left}
 use Rattle.lawful_trace.specs.Disks as lawful
 use Rattle.whole_run_laws.specs.Wrote.{Disk, disk_written, disk_booted, disk_stopped, slots_stopped, disk_after, disk_at, disk_through, armed_at, AgreeBelow}
-use Rattle.tree_laws.specs.Stores.{CopiesAreHeld}
+use Rattle.rest_laws.specs.of_tree_laws.Stores.{CopiesAreHeld}
 use Rattle.orderly_traces.specs.of_row_laws.Shown.{shown, trace_of, EachRecord}
 use Rattle.orderly_traces.specs.of_row_laws.Events.{Causes, SiteTold}
 use Rattle.orderly_traces.specs.of_row_laws.Arms.{NoDisk, Rises}

@@ -1,16 +1,14 @@
 -- The counts of disks where a line begins, where it arms a disk, and in the first world.
-use Rattle.std.proofs.Common.{◌≡◌, ◌≢◌, ◌≤◌, ◌<◌, ℕ, ◌+◌, ◌==◌, nat_lt, Bool, true, false, cond, List, [], ◌∷◌, length, map, filter, Option, None, Some, refl, sym, ◌∙◌, ap, subst, arith}
+use Rattle.std.proofs.Common.{◌≡◌, ◌≢◌, ◌≤◌, ◌<◌, ℕ, ◌+◌, Bool, false, cond, List, length, Option, None, Some, refl, sym, ◌∙◌, ap, subst, arith}
 use Rattle.role_steps.proofs.of_plain_facts.Numbers.{apart_test, equal_self}
 use Rattle.locus_ids.specs.declared.config.Config.{Config}
 use Rattle.schedule_lines.specs.declared.line.Line.{Line as LineWords}
 use Rattle.schedule_lines.specs.declared.line.Line.TheVariants as line
 use Rattle.schedule_lines.specs.declared.line.ScheduleLine.{ScheduleLine}
 use Rattle.schedule_lines.specs.declared.line.ScheduleLine.TheVariants.{Event as EventLine}
-use Rattle.role_steps.specs.Tables.{row}
-use Rattle.role_steps.specs.Views.{all_sites}
 use Rattle.tree_model.specs.Folds.{last_line}
 use Rattle.the_run.specs.Disks.{Armed as Script}
-use Rattle.the_run.specs.Worlds.{World, Place, Running, Stopped, place_at, place_in, place_site, script_of, arms, first_place, first_world}
+use Rattle.the_run.specs.Worlds.{World, Place, Running, Stopped, place_at, script_of, arms, first_world}
 use Rattle.the_run.proofs.Boots.{at_each}
 use Rattle.lawful_trace.specs.Places.{line_at}
 use Rattle.lawful_trace.specs.Disks.{Arming, Armed, Stops, Fails, calls_of, first_disk, armed_by, newly_armed}
@@ -19,6 +17,7 @@ use Rattle.orderly_traces.specs.of_row_laws.Shown.{trace_of}
 use Rattle.orderly_traces.specs.of_row_laws.ByLine.{IsLine, ArmsAs}
 use Rattle.orderly_traces.proofs.of_row_laws.Scripts.{rises_with, armed_here, armed_other}
 use Rattle.orderly_traces.proofs.of_row_laws.ArmsRun.{disk_next as lawful_next}
+use Rattle.run_laws.proofs.of_law_walks.FirstWorld.{first_places}
 use Rattle.whole_run_laws.specs.Wrote.{Disk, disk_at}
 use Rattle.whole_run_laws.specs.CutCounts.{SameArming, GatesAs, CountsAt, CountsAreTheRuns, IsLeast, is_stopped}
 use Rattle.whole_run_laws.proofs.CutDisks.{disk_next, line_least}
@@ -59,13 +58,9 @@ all_pass : (left calls : ℕ) → calls ≡ left → 0 + left ≡ calls
 all_pass left calls e = omega (arith, e)
 
 -- no gate is open, and nothing armed
-first_gates : (c : Config) (s : ℕ) (ss : List ℕ) → GatesAs (record { rest = first_disk; slots = false }) (place_in (row place_site s (map (first_place c) ss)))
-first_gates c s [] = tt
-first_gates c s (t ∷ ts) = over (t == s) (first_gates c s ts)
-  where
-    over : (b : Bool) → GatesAs (record { rest = first_disk; slots = false }) (place_in (row place_site s (map (first_place c) ts))) → GatesAs (record { rest = first_disk; slots = false }) (place_in (elim b [ true ↦ Some (first_place c t) | false ↦ row place_site s (map (first_place c) ts) ]))
-    over true h = (refl, refl)
-    over false h = h
+first_gates : (c : Config) (s : ℕ) (o : Option Place) → place_at (first_world c) s ≡ o → GatesAs (record { rest = first_disk; slots = false }) o
+first_gates c s None e = tt
+first_gates c s (Some p) e = first_places c (λ t q. GatesAs (record { rest = first_disk; slots = false }) (Some q)) (λ t own. (refl, refl)) s p e
 
 module _ (wrote : ℕ → List ℕ) (c : Config) (lines : List ScheduleLine) where
   -- ---- a line begins ----
@@ -121,7 +116,7 @@ module _ (wrote : ℕ → List ℕ) (c : Config) (lines : List ScheduleLine) whe
   pub first_counts : Counts wrote c lines 0 (first_world c)
   first_counts r = record {
     rises = tt;
-    sites = λ s. record { calls = tt; gates = first_gates c s (filter (λ (t : ℕ). nat_lt t (c.sites + 1)) all_sites) };
+    sites = λ s. record { calls = tt; gates = first_gates c s (place_at (first_world c) s) refl };
     least = λ s. record { armed = tt; halves = refl };
     rows = tt;
   }

@@ -21,11 +21,11 @@ use Rattle.tree_model.specs.Histories.{held}
 use Rattle.lawful_trace.specs.Disks.{Writing, pages_held, pages_now, writing_commit}
 use Rattle.whole_run_laws.specs.Wrote.{Disk, writing_adopted, disk_written, disk_after}
 use Rattle.lawful_trace.specs.Lawful.{MayCome}
-use Rattle.vector_laws.specs.Held.{IsOf}
-use Rattle.tree_laws.specs.Doing.{AreWritten, WriteFact, pages_told}
-use Rattle.tree_laws.specs.Printed.{entries}
-use Rattle.tree_laws.specs.Stores.{CopiesAreHeld, copy_for}
-use Rattle.tree_laws.proofs.Rows.{followed_rows}
+use Rattle.rest_laws.specs.of_vector_laws.Held.{IsOf}
+use Rattle.rest_laws.specs.of_tree_laws.Doing.{AreWritten, WriteFact, pages_told}
+use Rattle.rest_laws.specs.of_tree_laws.Printed.{entries}
+use Rattle.rest_laws.specs.of_tree_laws.Stores.{CopiesAreHeld, copy_for}
+use Rattle.rest_laws.proofs.of_tree_laws.Rows.{followed_rows}
 use Rattle.rest_laws.proofs.of_holding_laws.Rising.{known_stands}
 use Rattle.rest_laws.specs.of_one_tree_laws.Rest.{RestTold, RangeRecord, Past}
 use Rattle.rest_laws.proofs.StoreStepKnown.{stands_narrow}

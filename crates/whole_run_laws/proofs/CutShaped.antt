@@ -28,8 +28,8 @@ use Rattle.role_steps.specs.declared.synchronizing.SyncTable.{SyncTable}
 use Rattle.the_run.specs.Steps.{at_table_of, from_user, group_of, is_opened_in, is_dropped, takes_inside, takes_framed, takes, tries_at, adopts_in, ends_event, whole, call_frame, epoch_id, takes_call, step}
 use Rattle.run_laws.specs.Words.{Talks}
 use Rattle.run_laws.proofs.Telling.{on_open_ss_talks, on_closed_ok_talks, on_notify_talks, on_page_talks, on_delta_talks, on_call_talks, on_open_done_talks, on_op_done_talks, on_as_held_talks, on_close_done_talks, on_look_done_talks, on_opened_talks, on_open_talks, on_look_talks, on_report_talks, on_closed_talks, on_have_talks}
-use Rattle.vector_laws.specs.Held.{StillRecord, Still, IsOf, OnDisk}
-use Rattle.vector_laws.proofs.SiteDisks.{step_disk, ends_keeps}
+use Rattle.rest_laws.specs.of_vector_laws.Held.{StillRecord, Still, IsOf, OnDisk}
+use Rattle.rest_laws.proofs.of_vector_laws.SiteDisks.{step_disk, ends_keeps}
 use Rattle.rest_laws.proofs.of_one_tree_laws.Deeds.{IsShaped, on_close_shaped, on_op_shaped, adopts_shaped}
 use Rattle.rest_laws.proofs.of_one_tree_laws.Cuts.{leaves_none, begins_none, part_none, poll_none, promise_none, refuse_none, install_none}
 

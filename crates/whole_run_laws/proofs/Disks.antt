@@ -15,12 +15,12 @@ use Rattle.the_run.specs.Runs.{run, run_in}
 use Rattle.the_run.specs.Worlds.{Line, Place, Running, Stopped}
 use Rattle.tree_model.specs.Files.{held_version}
 use Rattle.tree_model.specs.Folds.{Trace}
-use Rattle.vector_laws.specs.Held.{copies_on}
+use Rattle.rest_laws.specs.of_vector_laws.Held.{copies_on}
 use Rattle.orderly_traces.specs.of_row_laws.Voids.{LinesFit}
 use Rattle.orderly_traces.proofs.of_row_laws.Fitting.{schedule_fits}
 use Rattle.rest_laws.specs.of_order_laws.Joining.{PacksAreOfSites}
-use Rattle.tree_laws.specs.Printed.{entries}
-use Rattle.tree_laws.specs.Stores.{copy_for}
+use Rattle.rest_laws.specs.of_tree_laws.Printed.{entries}
+use Rattle.rest_laws.specs.of_tree_laws.Stores.{copy_for}
 use Rattle.rest_laws.proofs.StoreStepFirst.{four_groups}
 use Rattle.rest_laws.specs.of_one_tree_laws.Places.{PlaceFact, SiteIn, WorldFact}
 use Rattle.rest_laws.proofs.of_one_tree_laws.Run.{run_holds}

@@ -9,9 +9,9 @@ use Rattle.role_steps.specs.Tables.{row}
 use Rattle.role_steps.specs.Views.{file_key}
 use Rattle.the_run.specs.Worlds.{World, Place, place_at}
 use Rattle.tree_model.specs.Files.{held_version}
-use Rattle.vector_laws.specs.Held.{copies_on}
+use Rattle.rest_laws.specs.of_vector_laws.Held.{copies_on}
 use Rattle.orderly_traces.specs.of_row_laws.Shown.{trace_of}
-use Rattle.tree_laws.specs.Stores.{copy_for}
+use Rattle.rest_laws.specs.of_tree_laws.Stores.{copy_for}
 
 -- Each disk, of a running site or a stopped one, holds of each file just the version that its site has by the trace, whole: kind,
 -- sites, stamp, written vector, bytes. Inode numbers have 16 bits.

@@ -8,20 +8,20 @@ use Rattle.std.proofs.lemmas.Slice.Eq.{bytes_eq-Decides}
 use Rattle.std.proofs.Common.{append_assoc, length-append}
 use Rattle.std.proofs.lemmas.List.{length-replicate}
 use Rattle.std.proofs.Math.Seq.{drop-append-add, drop-append_seam}
-use Rattle.tree_laws.proofs.of_plain_facts.Options.{some_same}
-use Rattle.tree_laws.proofs.of_plain_facts.Tests.{true_false}
+use Rattle.holding_laws.proofs.of_tree_laws.of_plain_facts.Options.{some_same}
+use Rattle.holding_laws.proofs.of_tree_laws.of_plain_facts.Tests.{true_false}
 use Rattle.locus_ids.specs.declared.refusal.Refusal.TheVariants as refusal
 use Rattle.locus_ids.specs.Sizes.{file_bytes_max, directory_bytes_max, page_bytes}
 use Rattle.trace_book.specs.declared.operation.Op.{Op}
 use Rattle.trace_book.specs.declared.operation.Op.TheVariants as op
 use Rattle.trace_book.specs.declared.operation.Outcome.{Outcome}
 use Rattle.trace_book.specs.declared.operation.Outcome.TheVariants as outcome
-use Rattle.tree_laws.specs.of_lawful_trace.of_dir_format.Contents.{entries_of, is_dir}
-use Rattle.tree_laws.specs.of_lawful_trace.of_dir_format.Grammar.{dir_bytes}
-use Rattle.tree_laws.specs.of_lawful_trace.of_dir_format.Effects.{DirEffect, dir_effect}
+use Rattle.holding_laws.specs.of_tree_laws.of_lawful_trace.of_dir_format.Contents.{entries_of, is_dir}
+use Rattle.holding_laws.specs.of_tree_laws.of_lawful_trace.of_dir_format.Grammar.{dir_bytes}
+use Rattle.holding_laws.specs.of_tree_laws.of_lawful_trace.of_dir_format.Effects.{DirEffect, dir_effect}
 use Rattle.file_content.specs.Pages.{has_page, is_replaced, page_of, pages_from, pages_of, pages_replaced, pages_within, pages_written}
-use Rattle.tree_laws.specs.of_lawful_trace.of_file_effects.Effects.{As, Deed, Effect, Mends, Removes, cuts, directory_left, effect, in_directory, is_worded, mends, on_directory, puts, tells, writes}
-use Rattle.tree_laws.specs.of_lawful_trace.of_file_effects.Works.{changed_after}
+use Rattle.holding_laws.specs.of_tree_laws.of_lawful_trace.of_file_effects.Effects.{As, Deed, Effect, Mends, Removes, cuts, directory_left, effect, in_directory, is_worded, mends, on_directory, puts, tells, writes}
+use Rattle.holding_laws.specs.of_tree_laws.of_lawful_trace.of_file_effects.Works.{changed_after}
 use Rattle.operation_effects.specs.Settling.{AreBounded, IsBounded}
 use Rattle.operation_effects.proofs.Bounded.{bounded_empty, bounded_find, bounded_insert, bounded_probe, bounded_remove, bounded_rename}
 use Rattle.stored_versions.specs.Changes.{IsKept}

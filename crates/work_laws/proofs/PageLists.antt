@@ -3,8 +3,8 @@ use Rattle.std.proofs.Common.{◌≡◌, ◌≢◌, ◌≤◌, ◌<◌, ℕ, zer
 use Rattle.std.specs.Prelude.{slice_index}
 use Rattle.std.proofs.lemmas.Bool.Decides.{nat_tests}
 use Rattle.std.proofs.lemmas.List.{length-drop, length-take, take_min}
-use Rattle.tree_laws.proofs.of_plain_facts.Numbers.{equal, equal_self}
-use Rattle.tree_laws.proofs.of_plain_facts.Tests.{true_false}
+use Rattle.holding_laws.proofs.of_tree_laws.of_plain_facts.Numbers.{equal, equal_self}
+use Rattle.holding_laws.proofs.of_tree_laws.of_plain_facts.Tests.{true_false}
 use Rattle.locus_ids.specs.Sizes.{page_bytes}
 use Rattle.file_content.specs.Pages.{has_page, page_of, pages_from, pages_of, pages_within, with_page, with_pages}
 use Rattle.stored_versions.specs.Changes.{ArePages, IsKept}

@@ -1,8 +1,8 @@
 -- Along the trace: each version is no longer than a file may be, and each open instance works over the version on which it stands.
 use Rattle.std.proofs.Common.{◌≡◌, ◌≤◌, ℕ, ◌+◌, ◌==◌, Bool, true, false, ◌&&◌, cond, List, [], ◌∷◌, ◌++◌, length, filter, Option, None, Some, refl, sym, ◌∙◌, ap, subst, arith}
 use Rattle.std.specs.List.{AllByRecursion}
-use Rattle.tree_laws.proofs.of_plain_facts.Numbers.{equal, equal_self}
-use Rattle.tree_laws.proofs.of_plain_facts.Tests.{and_first, and_second, true_false}
+use Rattle.holding_laws.proofs.of_tree_laws.of_plain_facts.Numbers.{equal, equal_self}
+use Rattle.holding_laws.proofs.of_tree_laws.of_plain_facts.Tests.{and_first, and_second, true_false}
 use Rattle.locus_ids.specs.declared.config.Config.{Config}
 use Rattle.locus_ids.specs.declared.ids.CallId.{CallId}
 use Rattle.locus_ids.specs.declared.ids.EpochId.{EpochId}
@@ -20,26 +20,26 @@ use Rattle.trace_book.specs.declared.operation.Op.TheVariants as op
 use Rattle.trace_book.specs.declared.operation.Outcome.{Outcome}
 use Rattle.trace_book.specs.declared.record.Record.{Record}
 use Rattle.trace_book.specs.declared.record.Record.TheVariants as says
-use Rattle.tree_laws.specs.of_lawful_trace.of_file_effects.Effects.{Deed, Effect, is_refusal}
-use Rattle.tree_laws.specs.of_lawful_trace.of_file_effects.Works.{carried_out, counted}
-use Rattle.tree_laws.specs.of_lawful_trace.of_file_effects.declared.work.Work.{Work}
-use Rattle.tree_laws.specs.of_role_steps.Views.{Told, Shown}
-use Rattle.tree_laws.specs.of_the_run.Worlds.{Line}
-use Rattle.tree_laws.specs.of_lawful_trace.of_tree_model.declared.instance.Instance.{Instance}
-use Rattle.tree_laws.specs.of_lawful_trace.of_tree_model.Epochs.{is_in as is_at}
-use Rattle.tree_laws.specs.of_lawful_trace.of_tree_model.Folds.{Trace}
-use Rattle.tree_laws.specs.of_lawful_trace.of_tree_model.Histories.{format_version, format_versions, history, history_after, stamped_content}
-use Rattle.tree_laws.specs.of_lawful_trace.of_tree_model.Lists.{change_first}
-use Rattle.tree_laws.specs.of_lawful_trace.of_tree_model.State.{TreeState, held_at, is_granted_here, is_inside, is_make, is_named, is_writer}
-use Rattle.tree_laws.specs.of_lawful_trace.of_tree_model.Tree.{acted, grant_of, granted, joined, left, next, once_acted, once_committed, opened, released, tree_of, without_make}
-use Rattle.tree_laws.specs.of_lawful_trace.of_tree_model.Working.{deed_of, effect_of, effect_on, operated_by, work_after}
-use Rattle.tree_laws.specs.of_lawful_trace.TreeRows.{MayCommit, is_writing}
-use Rattle.tree_laws.specs.Following.{IsFollowed, MayTell, RowsAreLawful}
-use Rattle.tree_laws.specs.Frames.{IsFresh}
-use Rattle.tree_laws.specs.Printed.{entries, onto_entries}
-use Rattle.tree_laws.proofs.Names.{same_epoch_eq}
-use Rattle.tree_laws.proofs.Owing.{inside_is, writer_writes}
-use Rattle.tree_laws.proofs.Rows.{followed_rows}
+use Rattle.holding_laws.specs.of_tree_laws.of_lawful_trace.of_file_effects.Effects.{Deed, Effect, is_refusal}
+use Rattle.holding_laws.specs.of_tree_laws.of_lawful_trace.of_file_effects.Works.{carried_out, counted}
+use Rattle.holding_laws.specs.of_tree_laws.of_lawful_trace.of_file_effects.declared.work.Work.{Work}
+use Rattle.holding_laws.specs.of_tree_laws.of_role_steps.Views.{Told, Shown}
+use Rattle.holding_laws.specs.of_tree_laws.of_the_run.Worlds.{Line}
+use Rattle.holding_laws.specs.of_tree_laws.of_lawful_trace.of_tree_model.declared.instance.Instance.{Instance}
+use Rattle.holding_laws.specs.of_tree_laws.of_lawful_trace.of_tree_model.Epochs.{is_in as is_at}
+use Rattle.holding_laws.specs.of_tree_laws.of_lawful_trace.of_tree_model.Folds.{Trace}
+use Rattle.holding_laws.specs.of_tree_laws.of_lawful_trace.of_tree_model.Histories.{format_version, format_versions, history, history_after, stamped_content}
+use Rattle.holding_laws.specs.of_tree_laws.of_lawful_trace.of_tree_model.Lists.{change_first}
+use Rattle.holding_laws.specs.of_tree_laws.of_lawful_trace.of_tree_model.State.{TreeState, held_at, is_granted_here, is_inside, is_make, is_named, is_writer}
+use Rattle.holding_laws.specs.of_tree_laws.of_lawful_trace.of_tree_model.Tree.{acted, grant_of, granted, joined, left, next, once_acted, once_committed, opened, released, tree_of, without_make}
+use Rattle.holding_laws.specs.of_tree_laws.of_lawful_trace.of_tree_model.Working.{deed_of, effect_of, effect_on, operated_by, work_after}
+use Rattle.holding_laws.specs.of_tree_laws.of_lawful_trace.TreeRows.{MayCommit, is_writing}
+use Rattle.holding_laws.specs.of_tree_laws.Following.{IsFollowed, MayTell, RowsAreLawful}
+use Rattle.holding_laws.specs.of_tree_laws.Frames.{IsFresh}
+use Rattle.holding_laws.specs.of_tree_laws.Printed.{entries, onto_entries}
+use Rattle.holding_laws.proofs.of_tree_laws.Names.{same_epoch_eq}
+use Rattle.holding_laws.proofs.of_tree_laws.Owing.{inside_is, writer_writes}
+use Rattle.holding_laws.proofs.of_tree_laws.Rows.{followed_rows}
 use Rattle.holding_laws.proofs.of_order_laws.Alone.{tree_is}
 use Rattle.holding_laws.proofs.of_order_laws.Knowing.{versions_stand}
 use Rattle.holding_laws.proofs.of_order_laws.Lists.{all_filtered, all_more, all_then, all_without}

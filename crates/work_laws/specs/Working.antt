@@ -9,13 +9,13 @@ use Rattle.locus_ids.specs.Sizes.{file_bytes_max}
 use Rattle.commit_graph.specs.Versions.{content_of}
 use Rattle.commit_graph.specs.declared.history.Version.{Version}
 use Rattle.file_content.specs.Pages.{has_page, pages_of}
-use Rattle.tree_laws.specs.of_lawful_trace.of_file_effects.Effects.{Effect}
+use Rattle.holding_laws.specs.of_tree_laws.of_lawful_trace.of_file_effects.Effects.{Effect}
 use Rattle.stored_versions.specs.Changes.{IsKept}
-use Rattle.tree_laws.specs.of_the_run.Worlds.{Line}
-use Rattle.tree_laws.specs.of_lawful_trace.of_tree_model.declared.instance.Instance.{Instance}
-use Rattle.tree_laws.specs.of_lawful_trace.of_tree_model.Histories.{history, stamped_content}
-use Rattle.tree_laws.specs.of_lawful_trace.of_tree_model.Tree.{tree_of}
-use Rattle.tree_laws.specs.Printed.{entries}
+use Rattle.holding_laws.specs.of_tree_laws.of_the_run.Worlds.{Line}
+use Rattle.holding_laws.specs.of_tree_laws.of_lawful_trace.of_tree_model.declared.instance.Instance.{Instance}
+use Rattle.holding_laws.specs.of_tree_laws.of_lawful_trace.of_tree_model.Histories.{history, stamped_content}
+use Rattle.holding_laws.specs.of_tree_laws.of_lawful_trace.of_tree_model.Tree.{tree_of}
+use Rattle.holding_laws.specs.of_tree_laws.Printed.{entries}
 
 -- page numbers below this one
 abbrev pub AreBelow : ℕ → List ℕ → Type 0

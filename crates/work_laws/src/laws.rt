@@ -1,7 +1,7 @@
 ghost use Rattle.std.specs.Prelude.{List};
 ghost use Rattle.locus_ids.specs.declared.config.Config.{Config};
-ghost use Rattle.tree_laws.specs.of_the_run.Worlds.{Line};
-ghost use Rattle.tree_laws.specs.Following.{IsFollowed};
+ghost use Rattle.holding_laws.specs.of_tree_laws.of_the_run.Worlds.{Line};
+ghost use Rattle.holding_laws.specs.of_tree_laws.Following.{IsFollowed};
 ghost use Rattle.holding_laws.specs.Below.{LawsBelow};
 ghost use Rattle.work_laws.specs.Working.{AllWork};
 

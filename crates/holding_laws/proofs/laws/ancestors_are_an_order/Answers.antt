@@ -1,6 +1,6 @@
 use Rattle.tree_model.specs.Histories.{history}
-use Rattle.tree_laws.specs.Printed.{entries}
-use Rattle.tree_laws.proofs.Rows.{followed_rows}
+use Rattle.order_laws.specs.of_tree_laws.Printed.{entries}
+use Rattle.order_laws.proofs.of_tree_laws.Rows.{followed_rows}
 use Rattle.holding_laws.proofs.Ancestors.{ancestors_ordered}
 use Rattle.holding_laws.proofs.Below.{commits_new}
 use Rattle.holding_laws.proofs.Made.{rows_made}

@@ -1,5 +1,5 @@
-use Rattle.tree_laws.specs.Printed.{entries}
-use Rattle.tree_laws.proofs.Rows.{followed_rows}
+use Rattle.order_laws.specs.of_tree_laws.Printed.{entries}
+use Rattle.order_laws.proofs.of_tree_laws.Rows.{followed_rows}
 use Rattle.holding_laws.proofs.Below.{commits_new}
 use Rattle.holding_laws.proofs.Holding.{below_kept}
 use Rattle.holding_laws.proofs.laws.known_versions_are_below_kept_ones.Goals as goal

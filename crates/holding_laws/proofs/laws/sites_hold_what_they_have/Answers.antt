@@ -1,5 +1,5 @@
-use Rattle.tree_laws.specs.Printed.{entries}
-use Rattle.tree_laws.proofs.Rows.{followed_rows}
+use Rattle.order_laws.specs.of_tree_laws.Printed.{entries}
+use Rattle.order_laws.proofs.of_tree_laws.Rows.{followed_rows}
 use Rattle.holding_laws.proofs.Below.{packs_hold}
 use Rattle.holding_laws.proofs.Holding.{late_brings_nothing, sites_hold}
 use Rattle.holding_laws.proofs.laws.sites_hold_what_they_have.Goals as goal

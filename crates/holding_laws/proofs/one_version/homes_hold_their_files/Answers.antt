@@ -1,5 +1,5 @@
-use Rattle.tree_laws.specs.Printed.{entries}
-use Rattle.tree_laws.proofs.Rows.{followed_rows}
+use Rattle.order_laws.specs.of_tree_laws.Printed.{entries}
+use Rattle.order_laws.proofs.of_tree_laws.Rows.{followed_rows}
 use Rattle.holding_laws.proofs.OneVersionHomes.{home_holds}
 use Rattle.holding_laws.proofs.one_version.homes_hold_their_files.Goals as goal
 

@@ -1,5 +1,5 @@
 use Rattle.std.proofs.Common.{◌∷◌}
-use Rattle.tree_laws.proofs.Carried.{packet_stays}
+use Rattle.order_laws.proofs.of_tree_laws.Carried.{packet_stays}
 use Rattle.holding_laws.proofs.Below.{commits_new, line_fresh}
 use Rattle.holding_laws.proofs.OneVersionOrder.{order_stays}
 use Rattle.holding_laws.proofs.one_version.the_order_of_versions_stays.Goals as goal

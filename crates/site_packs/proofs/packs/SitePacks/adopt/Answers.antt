@@ -13,13 +13,15 @@ use Rattle.role_steps.specs.Storage.{content_of}
 use Rattle.site_packs.specs.Packs.{PacksState, ArePacks, pack_in, copy_at}
 use Rattle.site_packs.specs.Committing.{MayBeLeft, IsOfStore, calls_of, store_calls}
 use Rattle.site_packs.specs.Cutting.{IsCut}
-use Rattle.site_packs.specs.Laying.{AreLaid, IsLaidFit, content_over, copy_laid}
+use Rattle.page_marks.specs.Laying.{AreLaid}
+use Rattle.site_packs.specs.Laying.{IsLaidFit, content_over, copy_laid}
 use Rattle.site_packs.specs.Marking.{blocks_at}
 use Rattle.site_packs.proofs.Blocks.{blocks_laid, written_size}
 use Rattle.site_packs.proofs.Laid.{laid_fills, laid_long}
 use Rattle.site_packs.proofs.Noted.{same_places, stand_noted}
 use Rattle.site_packs.proofs.Stored.{stays}
-use Rattle.site_packs.proofs.WrittenTables.{are_marked, needed_laid}
+use Rattle.page_marks.proofs.WrittenTables.{are_marked}
+use Rattle.site_packs.proofs.WrittenTables.{needed_laid}
 use Rattle.site_packs.proofs.packs.SitePacks.adopt.Goals as goal
 
 pub returns-then-pages-from-clause-any_moment : goal.returns-then-pages-from-clause-any_moment

@@ -18,7 +18,7 @@ use Rattle.site_packs.specs.Committing.{MayBeLeft, IsOfStore, copy_made, room, b
 use Rattle.site_packs.specs.Marking.{FillsAt, blocks_at}
 use Rattle.site_packs.proofs.Noted.{same_places, stand_noted}
 use Rattle.site_packs.proofs.Stored.{stays}
-use Rattle.site_packs.proofs.WrittenTables.{are_marked}
+use Rattle.page_marks.proofs.WrittenTables.{are_marked}
 use Rattle.site_packs.proofs.Blocks.{admitted_blocks, written_size}
 use Rattle.site_packs.proofs.Fills.{fills_at}
 use Rattle.std.specs.Prelude.{OnErr}

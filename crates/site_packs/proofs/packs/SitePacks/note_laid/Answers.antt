@@ -1,7 +1,7 @@
 use Rattle.std.proofs.Common.{◌≡◌, ℕ, List, length, sym, subst, arith, length-take}
 use Rattle.file_content.specs.Pages.{pages_of}
 use Rattle.site_packs.specs.Live.{IsNoted}
-use Rattle.site_packs.proofs.Rising.{all_laid, whole_bytes}
+use Rattle.site_packs.proofs.AllCame.{all_laid, whole_bytes}
 use Rattle.site_packs.proofs.packs.SitePacks.note_laid.Goals as goal
 
 pub returns-clause-noted : goal.returns-clause-noted

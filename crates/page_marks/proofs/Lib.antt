@@ -1,0 +1,4 @@
+pub mod Marks
+pub mod Rising
+pub mod Reported
+pub mod WrittenTables

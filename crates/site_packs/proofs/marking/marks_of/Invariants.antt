@@ -1,7 +1,0 @@
-use Rattle.std.proofs.Common.{◌≡◌, take, length}
-use Rattle.locus_ids.specs.Sizes.{content_pages_max}
-use Rattle.site_packs.specs.Marking.{AreMarks}
-use Rattle.site_packs.proofs.marking.marks_of.Given as goal
-
-abbrev pub invariant-loop-i : goal.invariant-loop-i
-invariant-loop-i l = record { are : AreMarks l.count (take l.i l.changed) l.marks; long : length l.marks ≡ content_pages_max }
