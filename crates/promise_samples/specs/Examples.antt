@@ -70,6 +70,10 @@ IsNotAsked x = IsAskedFor (config_of x.lines) x.lines x.trace → ⊥
 abbrev pub IsAsked : Example → Type 0
 IsAsked x = IsAskedBy (λ k. []) (config_of x.lines) x.lines x.trace
 
+-- they ask for it, if each adoption wrote the first page
+abbrev pub IsAskedByFirstPages : Example → Type 0
+IsAskedByFirstPages x = IsAskedBy (λ k. 0 ∷ []) (config_of x.lines) x.lines x.trace
+
 -- no refused call changes a named file
 abbrev pub ChangesNothingRefused : Example → Type 0
 ChangesNothingRefused x = each refusals_change_nothing (config_of x.lines) (nothing_yet (config_of x.lines)) x.trace ≡ true

@@ -6,6 +6,7 @@ use Rattle.trace_book.specs.declared.record.StopCause.TheVariants as cause
 use Rattle.trace_book.specs.declared.record.Record.TheVariants.{Stopped, Leave, Accept, Grant}
 use Rattle.promise_samples.specs.Examples.{Example, first_of, printed}
 use Rattle.promise_samples.specs.First.{first}
+use Rattle.promise_samples.specs.OtherGroup.{other_group}
 use Rattle.trace_samples.specs.FlaggedRun.{flagged_run}
 use Rattle.trace_samples.specs.PartedRun.{parted_run}
 use Rattle.promise_samples.specs.RemovedAndChanged.{removed_and_changed}
@@ -51,3 +52,7 @@ two_mends_at_once = first_of 30 (printed parted_run) (at 12 (Accept 1 0 (caller 
 -- a mend has the number after the next
 abbrev pub skipped_call_number_of_a_mend : Example
 skipped_call_number_of_a_mend = first_of 29 (printed parted_run) (at 12 (Accept 1 0 (caller 1 1 3) (call.Mend (file 0 1))) ∷ [])
+
+-- a directory is mended for a file of another group, which has the number of one that was removed in it
+abbrev pub mend_for_another_group : Example
+mend_for_another_group = first_of 43 other_group (at 20 (Accept 1 0 (caller 1 1 7) (call.Mend (file 0 1))) ∷ [])

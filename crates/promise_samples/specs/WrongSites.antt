@@ -55,3 +55,11 @@ start_of_a_group_without_a_pack = first_of 2 first (at 4 (Start (epoch 1 1 1) 1 
 -- a group starts before a member with a pack has joined
 abbrev pub start_before_all_are_in : Example
 start_before_all_are_in = first_of 1 (printed flagged_run) (at 4 (Start (epoch 1 1 1) 0 (brought 1 (stamp 0 0) ∷ [])) ∷ [])
+
+-- a site joins an epoch of the number that it has just left, which a lower site forms in a later boot
+abbrev pub join_of_a_lower_site : Example
+join_of_a_lower_site = first_of 53 removed_and_changed (at 29 (Join 3 (epoch 2 2 2) (members (0 ∷ 2 ∷ 1 ∷ []))) ∷ [])
+
+-- a site joins an epoch of the number and the site that it has just left, of an earlier boot of that site
+abbrev pub join_of_a_lower_boot : Example
+join_of_a_lower_boot = first_of 57 removed_and_changed (at 30 (Stopped 1 cause.Asked) ∷ at 31 (Up 1 2) ∷ at 32 (Leave 2 (epoch 3 1 1)) ∷ at 33 (Join 2 (epoch 4 1 2) (members (2 ∷ 1 ∷ []))) ∷ at 34 (Leave 2 (epoch 4 1 2)) ∷ at 35 (Join 2 (epoch 4 1 1) (members (1 ∷ 1 ∷ []))) ∷ [])

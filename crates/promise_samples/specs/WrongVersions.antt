@@ -49,3 +49,11 @@ adoption_of_a_file_for_others = first_of 3 (printed flagged_run) (at 5 (Accept 1
 -- a site adopts a version of a file that is open there
 abbrev pub adoption_into_an_open_file : Example
 adoption_into_an_open_file = first_of 78 three_ways (at 31 (Adopt (file 0 1) 1 (stamp 2 1)) ∷ [])
+
+-- a version is committed of another file than the open instance is of
+abbrev pub commit_of_another_file : Example
+commit_of_another_file = first_of 20 first (at 12 (Commit (file 0 3) 1 (stamp 1 1) (stamp 1 1 ∷ []) (104 ∷ 105 ∷ [])) ∷ [])
+
+-- a conflict is settled, and the next commit of the same open names the settled versions as its parents again
+abbrev pub settled_again : Example
+settled_again = first_of 63 conflict_and_resolve (at 38 (Answer 1 1 (caller 1 1 6) (reply.Opened 0)) ∷ at 39 (Accept 1 1 (caller 1 1 7) (call.Commit 0)) ∷ at 40 (Commit (file 0 2) 3 (stamp 3 2) (stamp 1 2 ∷ stamp 3 1 ∷ []) (99 ∷ [])) ∷ at 40 (Act (epoch 3 1 1) (inst 1 5) 1 op.Commit (outcome.Committed (stamp 3 2))) ∷ at 40 (Answer 1 1 (caller 1 1 7) (reply.Committed (stamp 3 2))) ∷ at 41 (Accept 1 1 (caller 1 1 8) (call.Write 0 0 (100 ∷ []))) ∷ at 42 (Act (epoch 3 1 1) (inst 1 5) 2 (op.Write 0 (100 ∷ [])) outcome.Done) ∷ at 42 (Answer 1 1 (caller 1 1 8) reply.Done) ∷ at 43 (Accept 1 1 (caller 1 1 9) (call.Close 0)) ∷ at 44 (Commit (file 0 2) 3 (stamp 3 2) (stamp 1 2 ∷ stamp 3 1 ∷ []) (100 ∷ [])) ∷ [])

@@ -1,7 +1,7 @@
 ghost use Rattle.std.specs.Prelude.{reverse};
 ghost use Rattle.promises.specs.Progress.{LargeRoundsEnd};
-ghost use Rattle.promise_samples.specs.Altered.{CutBeforeTheGate, Fails, Passes, StaysByItsGate, mend, mend_again_after_its_refusal, refusal_for_want_of_a_number, another_refusal_without_a_number, write_refused_for_want_of_a_number};
-ghost use Rattle.promise_samples.specs.Examples.{Follows, IsAsked, IsNotAsked, ChangesRefused, CommitsUnaskedAt, IsLateAt, printed};
+ghost use Rattle.promise_samples.specs.Altered.{CutBeforeTheGate, Fails, Passes, StaysByItsGate, mend, mend_again_after_its_refusal, refusal_for_want_of_a_number, another_refusal_without_a_number, write_refused_for_want_of_a_number, refusal_of_the_last_number, refusal_before_the_last_number, refusal_for_the_numbers_of_another_group, refusal_for_the_numbers_of_another_site, refusal_for_a_make_in_another_group, write_without_room, write_with_another_need, write_with_another_room, write_past_the_room, write_without_room_elsewhere, write_without_room_in_another_group};
+ghost use Rattle.promise_samples.specs.Examples.{Follows, IsAsked, IsAskedByFirstPages, IsNotAsked, ChangesRefused, CommitsUnaskedAt, IsLateAt, printed};
 ghost use Rattle.promise_samples.specs.First.{first};
 ghost use Rattle.promise_samples.specs.Busy.{busy};
 ghost use Rattle.promise_samples.specs.Descriptors.{descriptors};
@@ -17,6 +17,7 @@ ghost use Rattle.promise_samples.specs.LostAndLate.{lost_and_late};
 ghost use Rattle.promise_samples.specs.RemovedAndChanged.{removed_and_changed};
 ghost use Rattle.promise_samples.specs.StopAfterTheGate.{stop_after_the_gate};
 ghost use Rattle.promise_samples.specs.StopInsideAWrite.{stop_inside_a_write};
+ghost use Rattle.promise_samples.specs.StopInAnAdoption.{stop_in_an_adoption};
 ghost use Rattle.promise_samples.specs.BoundedRequests.{bounded_requests};
 ghost use Rattle.promise_samples.specs.CalmRound.{calm_round};
 ghost use Rattle.promise_samples.specs.CopiesConverge.{copies_converge};
@@ -28,6 +29,11 @@ ghost use Rattle.promise_samples.specs.WholeInput.{whole_input};
 ghost use Rattle.promise_samples.specs.RemovedElsewhere.{removed_elsewhere};
 ghost use Rattle.promise_samples.specs.ThreeWays.{three_ways};
 ghost use Rattle.promise_samples.specs.NoMember.{no_member};
+ghost use Rattle.promise_samples.specs.NoPack.{no_pack};
+ghost use Rattle.promise_samples.specs.AtOnce.{at_once};
+ghost use Rattle.promise_samples.specs.SameNumber.{same_number};
+ghost use Rattle.promise_samples.specs.TwoNames.{two_names};
+ghost use Rattle.promise_samples.specs.OtherGroup.{other_group};
 ghost use Rattle.promise_samples.specs.TwoGroups.{two_groups};
 ghost use Rattle.promise_samples.specs.ReplyBehindACall.{reply_behind_a_call};
 ghost use Rattle.promise_samples.specs.ArmedBoots.{armed_boots};
@@ -49,6 +55,17 @@ pub fn altered_pasts_are_judged()
     ensures refusal_for_want_of_a_number { Passes refusal_for_want_of_a_number }
     ensures another_refusal_without_a_number { Fails another_refusal_without_a_number }
     ensures write_refused_for_want_of_a_number { Fails write_refused_for_want_of_a_number }
+    ensures refusal_of_the_last_number { Passes refusal_of_the_last_number }
+    ensures refusal_before_the_last_number { Fails refusal_before_the_last_number }
+    ensures refusal_for_the_numbers_of_another_group { Fails refusal_for_the_numbers_of_another_group }
+    ensures refusal_for_the_numbers_of_another_site { Fails refusal_for_the_numbers_of_another_site }
+    ensures refusal_for_a_make_in_another_group { Fails refusal_for_a_make_in_another_group }
+    ensures write_without_room { Passes write_without_room }
+    ensures write_with_another_need { Fails write_with_another_need }
+    ensures write_with_another_room { Fails write_with_another_room }
+    ensures write_past_the_room { Fails write_past_the_room }
+    ensures write_without_room_elsewhere { Fails write_without_room_elsewhere }
+    ensures write_without_room_in_another_group { Fails write_without_room_in_another_group }
     ensures cut_before_the_gate_of_a_long_file { CutBeforeTheGate }
     ensures stay_by_the_gate_of_a_long_file { StaysByItsGate }
 {}
@@ -88,11 +105,21 @@ pub fn right_traces_are_asked_for()
     ensures removed_elsewhere { IsAsked removed_elsewhere }
     ensures three_ways { IsAsked three_ways }
     ensures no_member { IsAsked no_member }
+    ensures no_pack { IsAsked no_pack }
+    ensures at_once { IsAsked at_once }
+    ensures same_number { IsAsked same_number }
+    ensures two_names { IsAsked two_names }
+    ensures other_group { IsAsked other_group }
     ensures two_groups { IsAsked two_groups }
     ensures reply_behind_a_call { IsAsked reply_behind_a_call }
     ensures two_closes { IsAsked two_closes }
     ensures void_lines { IsAsked void_lines }
     ensures armed_boots { IsAsked armed_boots }
+{}
+
+/// A stop in an adoption hangs on the pages that this wrote.
+pub fn stops_in_adoptions_are_asked_for()
+    ensures stop_in_an_adoption { IsAskedByFirstPages stop_in_an_adoption }
 {}
 
 /// A stop within a disk call that the disk doesn't give, or that leaves something else, is asked for by no line.

@@ -25,6 +25,11 @@ ghost use Rattle.promise_samples.specs.WholeInput.{whole_input};
 ghost use Rattle.promise_samples.specs.RemovedElsewhere.{removed_elsewhere};
 ghost use Rattle.promise_samples.specs.ThreeWays.{three_ways};
 ghost use Rattle.promise_samples.specs.NoMember.{no_member};
+ghost use Rattle.promise_samples.specs.NoPack.{no_pack};
+ghost use Rattle.promise_samples.specs.AtOnce.{at_once};
+ghost use Rattle.promise_samples.specs.SameNumber.{same_number};
+ghost use Rattle.promise_samples.specs.TwoNames.{two_names};
+ghost use Rattle.promise_samples.specs.OtherGroup.{other_group};
 ghost use Rattle.promise_samples.specs.TwoGroups.{two_groups};
 ghost use Rattle.promise_samples.specs.ReplyBehindACall.{reply_behind_a_call};
 ghost use Rattle.promise_samples.specs.ArmedBoots.{armed_boots};
@@ -63,6 +68,11 @@ pub fn right_traces_follow()
     ensures removed_elsewhere { Follows removed_elsewhere }
     ensures three_ways { Follows three_ways }
     ensures no_member { Follows no_member }
+    ensures no_pack { Follows no_pack }
+    ensures at_once { Follows at_once }
+    ensures same_number { Follows same_number }
+    ensures two_names { Follows two_names }
+    ensures other_group { Follows other_group }
     ensures two_groups { Follows two_groups }
     ensures reply_behind_a_call { Follows reply_behind_a_call }
     ensures armed_boots { Follows armed_boots }
@@ -102,6 +112,11 @@ pub fn right_traces_keep_the_phrases()
     ensures removed_elsewhere { KeepsPhrases removed_elsewhere }
     ensures three_ways { KeepsPhrases three_ways }
     ensures no_member { KeepsPhrases no_member }
+    ensures no_pack { KeepsPhrases no_pack }
+    ensures at_once { KeepsPhrases at_once }
+    ensures same_number { KeepsPhrases same_number }
+    ensures two_names { KeepsPhrases two_names }
+    ensures other_group { KeepsPhrases other_group }
     ensures two_groups { KeepsPhrases two_groups }
     ensures reply_behind_a_call { KeepsPhrases reply_behind_a_call }
     ensures armed_boots { KeepsPhrases armed_boots }
@@ -141,6 +156,11 @@ pub fn right_traces_keep_beside()
     ensures removed_elsewhere { KeepsBeside removed_elsewhere }
     ensures three_ways { KeepsBeside three_ways }
     ensures no_member { KeepsBeside no_member }
+    ensures no_pack { KeepsBeside no_pack }
+    ensures at_once { KeepsBeside at_once }
+    ensures same_number { KeepsBeside same_number }
+    ensures two_names { KeepsBeside two_names }
+    ensures other_group { KeepsBeside other_group }
     ensures two_groups { KeepsBeside two_groups }
     ensures reply_behind_a_call { KeepsBeside reply_behind_a_call }
     ensures armed_boots { KeepsBeside armed_boots }

@@ -1,11 +1,12 @@
 ghost use Rattle.promise_samples.specs.Examples.{FailsAtLast, printed};
-ghost use Rattle.promise_samples.specs.WrongSites.{boot_of_no_site, boot_of_a_running_site, stop_of_a_stopped_site, stop_of_no_site, leave_of_another_epoch, join_of_a_stopped_site, join_beside_an_epoch, join_of_a_lower_epoch, join_of_an_earlier_boot, start_twice, start_of_a_group_without_a_pack, start_before_all_are_in};
-ghost use Rattle.promise_samples.specs.WrongCalls.{call_at_a_stopped_site, mend_by_a_process, mend_of_a_file, mend_outside_its_epoch, mend_by_another_site, mend_before_the_start, mend_of_an_open_directory, mend_from_an_older_copy, two_mends_at_once, skipped_call_number_of_a_mend};
+ghost use Rattle.promise_samples.specs.WrongSites.{boot_of_no_site, boot_of_a_running_site, stop_of_a_stopped_site, stop_of_no_site, leave_of_another_epoch, join_of_a_stopped_site, join_beside_an_epoch, join_of_a_lower_epoch, join_of_an_earlier_boot, start_twice, start_of_a_group_without_a_pack, start_before_all_are_in, join_of_a_lower_site, join_of_a_lower_boot};
+ghost use Rattle.promise_samples.specs.WrongCalls.{call_at_a_stopped_site, mend_by_a_process, mend_of_a_file, mend_outside_its_epoch, mend_by_another_site, mend_before_the_start, mend_of_an_open_directory, mend_from_an_older_copy, two_mends_at_once, skipped_call_number_of_a_mend, mend_for_another_group};
 ghost use Rattle.promise_samples.specs.WrongReplies.{reply_to_no_call, reply_to_another_process, reply_at_another_site, reply_with_another_number, another_reply_of_the_same_text, reply_after_its_site_left, late_local_refusal, changed_of_another_epoch, late_changed, changed_at_anothers_leave, changed_at_a_later_leave, changed_of_a_later_epoch, changed_out_of_order};
 ghost use Rattle.promise_samples.specs.WrongLooks.{look_before_the_start, look_at_an_older_version, look_for_an_unknown_call, look_in_another_epoch, look_with_number_0, look_before_its_turn, look_again_after_the_next, look_that_is_not_asked};
 ghost use Rattle.promise_samples.specs.WrongOpens.{grant_before_the_start, grant_of_anothers_instance, grant_of_an_instance_again, grant_with_a_skipped_number, grant_in_another_mode, grant_of_a_busy_file, read_of_an_older_version, read_where_the_version_is_not, write_of_an_older_version, write_where_the_version_is_not, resolution_at_another_site, resolution_of_anothers_version, resolution_from_an_older_version, mend_at_another_site, mend_of_anothers_version, make_at_another_site, make_of_anothers_number, make_of_a_number_in_use, make_of_a_number_being_made, make_on_a_version, make_for_a_site_without_a_pack, refusal_before_the_start, refusal_of_a_number, refusal_with_a_skipped_number, busy_for_another_process, no_number_where_there_are};
 ghost use Rattle.promise_samples.specs.WrongSteps.{operation_judged_on_another, operation_with_the_number_after_the_next, operation_that_is_not_asked, release_judged_on_another, release_of_another_file, release_of_an_older_version, release_that_is_not_asked};
-ghost use Rattle.promise_samples.specs.WrongVersions.{commit_after_leaving, commit_at_another_site, commit_of_nothing_new, commit_on_no_parent, resolution_that_loses_a_version, adoption_after_leaving, adoption_before_publishing, adoption_of_a_file_for_others, adoption_into_an_open_file};
+ghost use Rattle.promise_samples.specs.WrongVersions.{commit_after_leaving, commit_at_another_site, commit_of_nothing_new, commit_on_no_parent, resolution_that_loses_a_version, adoption_after_leaving, adoption_before_publishing, adoption_of_a_file_for_others, adoption_into_an_open_file, commit_of_another_file, settled_again};
+ghost use Rattle.promise_samples.specs.WrongWords.{conflict_with_an_older_version, conflict_with_a_version_that_never_was, busy_at_another_site, ambiguous_with_another_first, ambiguous_with_another_second, stat_of_another_kind, stat_of_another_file, stat_of_another_length, stat_of_another_version, entry_with_another_number, entry_of_another_kind, insert_of_another_name, insert_of_another_number, insert_of_another_kind, read_at_another_place, read_of_another_length, write_at_another_place, operation_on_another_instance, look_at_another_file, start_with_another_number, start_with_another_version, rename_of_another_entry, rename_to_another_name, remove_of_another_name};
 ghost use Rattle.trace_samples.specs.Wrong.{reply_twice, write_through_read_descriptor, lost_commit, skipped_operation_number, skipped_stamp, reply_before_its_step, join_with_another_list, adoption_of_a_concurrent_version, busy_with_nobody_there, flag_on_an_unflagged_file, no_flag_on_a_flagged_file, kept_version_passed_over, no_space_where_there_is_room, skipped_call_number, two_calls_at_once, commit_of_other_bytes, changed_in_the_same_epoch, mend_of_an_unflagged_directory, boot_with_its_old_number, data_that_was_never_written, start_without_a_version};
 
 /// A site does what it may not do, or a group starts as it may not.
@@ -22,6 +23,8 @@ pub fn wrong_records_of_sites_fail()
     ensures start_twice { FailsAtLast start_twice }
     ensures start_of_a_group_without_a_pack { FailsAtLast start_of_a_group_without_a_pack }
     ensures start_before_all_are_in { FailsAtLast start_before_all_are_in }
+    ensures join_of_a_lower_site { FailsAtLast join_of_a_lower_site }
+    ensures join_of_a_lower_boot { FailsAtLast join_of_a_lower_boot }
 {}
 
 /// A call is accepted that may not be, or a mend that may not.
@@ -36,6 +39,7 @@ pub fn wrong_calls_fail()
     ensures mend_from_an_older_copy { FailsAtLast mend_from_an_older_copy }
     ensures two_mends_at_once { FailsAtLast two_mends_at_once }
     ensures skipped_call_number_of_a_mend { FailsAtLast skipped_call_number_of_a_mend }
+    ensures mend_for_another_group { FailsAtLast mend_for_another_group }
 {}
 
 /// A call is answered that doesn't wait, or otherwise or later than its script says.
@@ -119,6 +123,36 @@ pub fn wrong_versions_fail()
     ensures adoption_before_publishing { FailsAtLast adoption_before_publishing }
     ensures adoption_of_a_file_for_others { FailsAtLast adoption_of_a_file_for_others }
     ensures adoption_into_an_open_file { FailsAtLast adoption_into_an_open_file }
+    ensures commit_of_another_file { FailsAtLast commit_of_another_file }
+    ensures settled_again { FailsAtLast settled_again }
+{}
+
+/// One word of a record is another than it must be.
+pub fn wrong_words_fail()
+    ensures conflict_with_an_older_version { FailsAtLast conflict_with_an_older_version }
+    ensures conflict_with_a_version_that_never_was { FailsAtLast conflict_with_a_version_that_never_was }
+    ensures busy_at_another_site { FailsAtLast busy_at_another_site }
+    ensures ambiguous_with_another_first { FailsAtLast ambiguous_with_another_first }
+    ensures ambiguous_with_another_second { FailsAtLast ambiguous_with_another_second }
+    ensures stat_of_another_kind { FailsAtLast stat_of_another_kind }
+    ensures stat_of_another_file { FailsAtLast stat_of_another_file }
+    ensures stat_of_another_length { FailsAtLast stat_of_another_length }
+    ensures stat_of_another_version { FailsAtLast stat_of_another_version }
+    ensures entry_with_another_number { FailsAtLast entry_with_another_number }
+    ensures entry_of_another_kind { FailsAtLast entry_of_another_kind }
+    ensures insert_of_another_name { FailsAtLast insert_of_another_name }
+    ensures insert_of_another_number { FailsAtLast insert_of_another_number }
+    ensures insert_of_another_kind { FailsAtLast insert_of_another_kind }
+    ensures read_at_another_place { FailsAtLast read_at_another_place }
+    ensures read_of_another_length { FailsAtLast read_of_another_length }
+    ensures write_at_another_place { FailsAtLast write_at_another_place }
+    ensures operation_on_another_instance { FailsAtLast operation_on_another_instance }
+    ensures look_at_another_file { FailsAtLast look_at_another_file }
+    ensures start_with_another_number { FailsAtLast start_with_another_number }
+    ensures start_with_another_version { FailsAtLast start_with_another_version }
+    ensures rename_of_another_entry { FailsAtLast rename_of_another_entry }
+    ensures rename_to_another_name { FailsAtLast rename_to_another_name }
+    ensures remove_of_another_name { FailsAtLast remove_of_another_name }
 {}
 
 /// The samples that are wrong in themselves, whatever their schedule is, fail at the record that is wrong.
