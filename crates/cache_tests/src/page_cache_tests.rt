@@ -1,169 +1,68 @@
-use locus_ids::{Bytes, FileId, NoMemory, Stamp};
-use page_cache::{CACHED_PAGES, PageCache, PageName, Part};
-use std::alloc::Global;
-use std::test::Fail;
+use crate::cached::plays;
 
-const FILE: FileId = FileId { group: 0, ino: 2 };
+const SCRIPT: &str = "
+    # The page used the longest ago goes.
+    full
+    get other 0 -> 7 7 7 alike
+    peek other 1 -> 7 7 7 alike
+    put page 0 8
+    peek other 0 -> 7 7 7 alike
+    peek other 1 -> none
+    peek other 2 -> 7 7 7 alike
+    peek page 0 -> 8 8 8 alike
 
-const OTHER: FileId = FileId { group: 0, ino: 3 };
+    # A page that is there takes no room.
+    full
+    put other 0 9
+    peek other 0 -> 9 9 9 alike
+    peek other 1 -> 7 7 7 alike
+    put page 0 8
+    peek other 0 -> 9 9 9 alike
+    peek other 1 -> none
 
-const STAMP: Stamp = Stamp { site: 1, n: 2 };
+    # A part is kept and found.
+    held page 2049 0 2049 -> none
+    keep 2049 0 4000 2049
+    held page 2049 0 2049 -> 2049 as kept
+    held page 2049 1000 1049 -> 1049 as kept
+    held page 2049 2048 9 -> 1 as kept
+    peek page 2 -> 67 0 0
 
-fn page(number: u32) -> PageName {
-    PageName {
-        file: FILE,
-        stamp: STAMP,
-        page: number,
-    }
-}
+    # No part without bytes is found.
+    keep 1024 0 1024 1024
+    held page 1024 1024 1 -> none
+    held page 1024 0 0 -> none
+    held page 0 0 1 -> none
 
-/// A page of another file.
-fn other(number: u32) -> PageName {
-    PageName {
-        file: OTHER,
-        stamp: STAMP,
-        page: number,
-    }
-}
+    # A page that came in part is not kept.
+    keep 4096 512 1024 1024
+    peek page 0 -> none
+    peek page 1 -> none
+    keep 4096 1024 1023 1023
+    peek page 1 -> none
+    keep 4096 3072 1024 1024
+    peek page 3 -> 65 65 65 alike
+    peek page 2 -> none
 
-fn part(size: u32, at: u32, len: u16) -> Part {
-    Part {
-        file: FILE,
-        stamp: STAMP,
-        size,
-        at,
-        len,
-    }
-}
+    # Another version is not found, nor another file.
+    keep 1024 0 1024 1024
+    held later 1024 0 1024 -> none
+    held other 1024 0 1024 -> none
 
-/// So many bytes, of which those of a page are its number and 65.
-fn content(alloc: Global, len: u32) -> Result<Bytes, NoMemory> {
-    let mut bytes = Bytes::new(alloc);
-    for i in 0..len {
-        bytes.push(65 + (i / 1024 % 64) as u8)?;
-    }
-    Ok(bytes)
-}
-
-/// A cache of as many pages as may be: those of another file from 0 on, the last one in front.
-fn full(alloc: Global) -> Result<PageCache, NoMemory> {
-    let mut cache = PageCache::new(alloc);
-    for number in 0..CACHED_PAGES as u32 {
-        cache.put(other(number), [7; 1024])?;
-    }
-    Ok(cache)
-}
-
-#[test]
-fn the_page_used_the_longest_ago_goes(rt: HostRuntime) -> Result<(), Fail> {
-    let mut cache = full(rt.alloc())?;
-    assert!(rt; cache.get(&other(0)).is_some());
-    assert!(rt; cache.peek(&other(1)).is_some());
-    cache.put(page(0), [8; 1024])?;
-    assert!(rt; cache.peek(&other(0)).is_some());
-    assert!(rt; cache.peek(&other(1)).is_none());
-    assert!(rt; cache.peek(&other(2)).is_some());
-    assert!(rt; cache.peek(&page(0)) == Some(&[8; 1024]));
-    Ok(())
-}
+    # Found pages come to the front, also before a missing one.
+    full
+    held other 1048576 0 1025 -> 1025 of others
+    held other 1048576 261120 1025 -> none
+    put page 0 8
+    put page 1 8
+    peek other 0 -> 7 7 7 alike
+    peek other 1 -> 7 7 7 alike
+    peek other 2 -> none
+    peek other 3 -> none
+    peek other 255 -> 7 7 7 alike
+";
 
 #[test]
-fn a_page_that_is_there_takes_no_room(rt: HostRuntime) -> Result<(), Fail> {
-    let mut cache = full(rt.alloc())?;
-    cache.put(other(0), [9; 1024])?;
-    assert!(rt; cache.peek(&other(0)) == Some(&[9; 1024]));
-    assert!(rt; cache.peek(&other(1)).is_some());
-    cache.put(page(0), [8; 1024])?;
-    assert!(rt; cache.peek(&other(0)).is_some());
-    assert!(rt; cache.peek(&other(1)).is_none());
-    Ok(())
-}
-
-#[test]
-fn a_part_is_kept_and_found(rt: HostRuntime) -> Result<(), Fail> {
-    let alloc = rt.alloc();
-    let bytes = content(alloc, 2049)?;
-    let mut cache = PageCache::new(alloc);
-    assert!(rt; cache.held(alloc, &part(2049, 0, 2049))?.is_none());
-    cache.keep(&part(2049, 0, 4000), bytes.as_slice())?;
-    let whole = cache.held(alloc, &part(2049, 0, 2049))?.ok_or("nothing")?;
-    assert!(rt; whole.as_slice() == bytes.as_slice());
-    let middle = cache
-        .held(alloc, &part(2049, 1000, 1049))?
-        .ok_or("nothing")?;
-    let there = bytes.as_slice().get(1000..2049).ok_or("few bytes")?;
-    assert!(rt; middle.as_slice() == there);
-    let end = cache.held(alloc, &part(2049, 2048, 9))?.ok_or("nothing")?;
-    assert!(rt; end.as_slice() == [67].as_slice());
-    let last = cache.peek(&page(2)).ok_or("no page")?;
-    assert!(rt; last[0] == 67 && last[1] == 0 && last[1023] == 0);
-    Ok(())
-}
-
-#[test]
-fn no_part_without_bytes_is_found(rt: HostRuntime) -> Result<(), Fail> {
-    let alloc = rt.alloc();
-    let bytes = content(alloc, 1024)?;
-    let mut cache = PageCache::new(alloc);
-    cache.keep(&part(1024, 0, 1024), bytes.as_slice())?;
-    assert!(rt; cache.held(alloc, &part(1024, 1024, 1))?.is_none());
-    assert!(rt; cache.held(alloc, &part(1024, 0, 0))?.is_none());
-    assert!(rt; cache.held(alloc, &part(0, 0, 1))?.is_none());
-    Ok(())
-}
-
-#[test]
-fn a_page_that_came_in_part_is_not_kept(rt: HostRuntime) -> Result<(), Fail> {
-    let alloc = rt.alloc();
-    let bytes = content(alloc, 1024)?;
-    let mut cache = PageCache::new(alloc);
-    cache.keep(&part(4096, 512, 1024), bytes.as_slice())?;
-    assert!(rt; cache.peek(&page(0)).is_none() && cache.peek(&page(1)).is_none());
-    let fewer = content(alloc, 1023)?;
-    cache.keep(&part(4096, 1024, 1023), fewer.as_slice())?;
-    assert!(rt; cache.peek(&page(1)).is_none());
-    cache.keep(&part(4096, 3072, 1024), bytes.as_slice())?;
-    assert!(rt; cache.peek(&page(3)).is_some() && cache.peek(&page(2)).is_none());
-    Ok(())
-}
-
-#[test]
-fn another_version_is_not_found(rt: HostRuntime) -> Result<(), Fail> {
-    let alloc = rt.alloc();
-    let bytes = content(alloc, 1024)?;
-    let mut cache = PageCache::new(alloc);
-    cache.keep(&part(1024, 0, 1024), bytes.as_slice())?;
-    let later = Part {
-        stamp: Stamp { site: 1, n: 3 },
-        ..part(1024, 0, 1024)
-    };
-    assert!(rt; cache.held(alloc, &later)?.is_none());
-    let elsewhere = Part {
-        file: OTHER,
-        ..part(1024, 0, 1024)
-    };
-    assert!(rt; cache.held(alloc, &elsewhere)?.is_none());
-    Ok(())
-}
-
-#[test]
-fn found_pages_come_to_the_front_also_before_a_missing_one(rt: HostRuntime) -> Result<(), Fail> {
-    let alloc = rt.alloc();
-    let mut cache = full(alloc)?;
-    let both = Part {
-        file: OTHER,
-        ..part(1_048_576, 0, 1025)
-    };
-    let missing = Part {
-        at: 261_120,
-        ..both
-    };
-    assert!(rt; cache.held(alloc, &both)?.is_some());
-    assert!(rt; cache.held(alloc, &missing)?.is_none());
-    cache.put(page(0), [8; 1024])?;
-    cache.put(page(1), [8; 1024])?;
-    assert!(rt; cache.peek(&other(0)).is_some() && cache.peek(&other(1)).is_some());
-    assert!(rt; cache.peek(&other(2)).is_none() && cache.peek(&other(3)).is_none());
-    assert!(rt; cache.peek(&other(255)).is_some());
-    Ok(())
+fn pages_are_kept_found_and_let_go(rt: HostRuntime) {
+    plays(&rt, rt.alloc(), SCRIPT);
 }
