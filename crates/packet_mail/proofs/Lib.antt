@@ -1,6 +1,5 @@
 pub mod Rows
 pub mod Sent
-pub mod Adding
 pub mod Calls
 pub mod Listing
 pub mod Known

@@ -5,7 +5,7 @@ use Rattle.wire_messages.specs.Bodies.{kind_of}
 use Rattle.wire_messages.specs.declared.packet.Packet.{Packet}
 use Rattle.wire_messages.specs.Packets.{FitsPacket}
 use Rattle.packet_queue.specs.of_role_steps.Tables.{row, without_row, total, first_that}
-use Rattle.circuits.specs.of_the_run.Worlds.{World, Numbered, number_of, numbered_from, newest_onto, packet_size}
+use Rattle.circuits.specs.of_the_run.Worlds.{World, Limit, Numbered, number_of, numbered_from, newest_onto, packet_size, limit_passed}
 use Rattle.circuits.specs.Circuits.{circuit_of}
 use Rattle.packet_mail.specs.declared.mail.PendingPacket.{PendingPacket}
 
@@ -31,6 +31,10 @@ posts ps m = record m {
   packets = m.packets + length ps;
   bytes = m.bytes + total packet_size ps;
 }
+
+-- the limit that one more packet passes, if it passes one
+abbrev pub limit_of_packet : Packet → Post → Option Limit
+limit_of_packet p m = limit_passed (m.packets + 1) (m.bytes + packet_size p) 0
 
 -- the packet isn't under way any more
 abbrev pub passes : ℕ → Post → Post

@@ -2,7 +2,7 @@ use Rattle.std.proofs.Common.{◌≡◌, ap, Err}
 use Rattle.run_book.specs.declared.fault.BookFault.TheVariants.{Unfit}
 use Rattle.run_book.proofs.Parts.{part_fits, part_rest}
 use Rattle.run_book.proofs.PartLetters.{part_letters}
-use Rattle.run_book.proofs.measures.put_letters.Goals as goal
+use Rattle.run_book.proofs.measures.letters_of_all.Goals as goal
 
 pub returns-in-Err-clause-unfit : goal.returns-in-Err-clause-unfit
 returns-in-Err-clause-unfit c = λ e all. let f : c.in-Err.fault ≡ Unfit = cc in c.in-Err.ensures.unfit (ap Err f) (part_fits c.args.parts.now c.loop-part.part-index c.part-item.result c.loop-part-test.true c.part-item.is all)

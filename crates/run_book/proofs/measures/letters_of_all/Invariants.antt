@@ -3,7 +3,7 @@ use Rattle.std.specs.List.{AllByRecursion}
 use Rattle.wire_messages.specs.declared.packet.Packet.{Packet}
 use Rattle.wire_messages.specs.Packets.{FitsPacket, packet_bytes}
 use Rattle.packet_order.specs.Orders.{together}
-use Rattle.run_book.proofs.measures.put_letters.Given as goal
+use Rattle.run_book.proofs.measures.letters_of_all.Given as goal
 
 abbrev pub invariant-loop-part : goal.invariant-loop-part
 invariant-loop-part l = record {
