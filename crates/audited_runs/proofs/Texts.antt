@@ -66,7 +66,7 @@ record Told (c : Config) (trace : Trace) : Type 0 where
   versions : AllByRecursion (λ (r : Entry). CommitFits r.what) trace
   joins : EachRecord IsJoinFit trace
   members : EachRecord IsMemberRow trace
-  sites : EachRecord IsSiteRow trace
+  sites : EachRecord (IsSiteRow c) trace
   reached : EachRecord IsReached trace
   few_kept : KeepsFew 17 c trace
 
@@ -82,7 +82,7 @@ all_known c named (r ∷ before) few k = (
     versions = k.versions.0;
     joins = k.joins.0;
     members = k.members.0;
-    begun = λ site. has_booted before site k.sites.1;
+    begun = λ site. has_booted c before site k.sites.1;
     reached = k.reached.0;
     asks = asks_low 17 c before r.what (omega arith) k.few_kept.1 k.comes.0.row;
   },

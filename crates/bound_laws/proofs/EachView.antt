@@ -1,18 +1,18 @@
 -- What each event of a site keeps of its view, and a fresh view has, each running site has in every run.
-use Rattle.std.proofs.Common.{◌≡◌, ℕ, ◌==◌, true, false, List, [], ◌∷◌, map, Option, Some, None, sym, ◌∙◌, ap, subst}
+use Rattle.std.proofs.Common.{◌≡◌, ℕ, List, [], Option, Some, None, sym, ◌∙◌, ap, subst}
 use Rattle.locus_ids.specs.declared.config.Config.{Config}
 use Rattle.locus_ids.specs.declared.sites.Links.{Links}
 use Rattle.wire_messages.specs.declared.packet.Packet.{Packet}
-use Rattle.role_steps.specs.Tables.{row}
 use Rattle.role_steps.specs.Views.{SiteView, Told, Outcome, Event, Receives}
 use Rattle.role_steps.specs.declared.copies.FileCopy.{FileCopy}
 use Rattle.the_run.specs.Disks.{Disk, Booted, Whole, CutOff, boots, cut_disk}
 use Rattle.the_run.specs.Kept.{Kept}
 use Rattle.the_run.specs.Steps.{step}
-use Rattle.the_run.specs.Worlds.{World, Place, Running, Stopped, place_at, place_in, place_site, links_of, script_of, happened, puts, arms, passed, stops_with, disk_of, acts, fresh, first_place, formatted, first_world}
+use Rattle.the_run.specs.Worlds.{World, Place, Running, Stopped, place_at, links_of, script_of, happened, puts, arms, passed, stops_with, disk_of, acts, fresh, formatted, first_world}
 use Rattle.the_run.specs.Runs.{boots_as}
 use Rattle.the_run.proofs.Boots.{at_each, acts_cases}
 use Rattle.the_run.proofs.Events.{happened_keeps, puts_other, puts_same}
+use Rattle.law_walks.proofs.FirstWorld.{first_views}
 
 -- each running site's view is such
 abbrev pub EachView : (SiteView → Type 0) → World → Type 0
@@ -30,9 +30,6 @@ same_running v u e = cc
 
 never_running : (d : Disk) (v : SiteView) → ◌≡◌ {A = Option Place} (Some (Stopped d)) (Some (Running v)) → ⊥
 never_running d v e = cc
-
-none_running : (v : SiteView) → ◌≡◌ {A = Option Place} None (Some (Running v)) → ⊥
-none_running v e = cc
 
 -- the site runs so from now on
 runs_so : (P : SiteView → Type 0) → (s : ℕ) (u : SiteView) (w : World) → P u → EachView P w → EachView P (puts s (Running u) w)
@@ -80,13 +77,5 @@ views_kept c P k = record {
   booting = λ n s d w here g. boots_so P n s k.booted (boots (script_of w s) d) w g;
 }
 
-first_so : (c : Config) (P : SiteView → Type 0) → KeepsViews c P → (ss : List ℕ) (s : ℕ) (v : SiteView) → place_in (row place_site s (map (first_place c) ss)) ≡ Some (Running v) → P v
-first_so c P k [] s v e = absurd (none_running v e)
-first_so c P k (t ∷ ts) s v e =
-    (elim (t == s) as (λ b. place_in (elim b [ true ↦ Some (first_place c t) | false ↦ row place_site s (map (first_place c) ts) ]) ≡ Some (Running v) → P v) [
-      | true ↦ λ f. subst P (same_running (fresh 1 (formatted c t)) v f) (k.booted 1 (formatted c t))
-      | false ↦ λ f. first_so c P k ts s v f
-    ]) e
-
 pub views_first : (c : Config) (P : SiteView → Type 0) → KeepsViews c P → EachView P (first_world c)
-views_first c P k s v e = first_so c P k _ s v e
+views_first c P k = first_views c (λ s. P) (λ s own. k.booted 1 (formatted c s))

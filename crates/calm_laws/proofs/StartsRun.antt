@@ -1,21 +1,21 @@
 -- In each world of a round the groups start in time.
-use Rattle.std.proofs.Common.{◌≡◌, ℕ, ◌==◌, Bool, true, false, List, [], ◌∷◌, map, Option, Some, None, sym, ◌∙◌, ap, subst}
+use Rattle.std.proofs.Common.{◌≡◌, ℕ, List, [], ◌∷◌, map, Option, Some, None, sym, ◌∙◌, ap, subst}
 use Rattle.role_steps.proofs.of_plain_facts.Options.{some_same}
 use Rattle.locus_ids.specs.declared.config.Config.{Config}
 use Rattle.schedule_lines.specs.declared.line.ScheduleLine.{ScheduleLine}
 use Rattle.trace_book.specs.declared.record.Record.TheVariants as says
 use Rattle.trace_book.specs.declared.record.StopCause.TheVariants as cause
 use Rattle.wire_messages.specs.declared.packet.Packet.{Packet}
-use Rattle.role_steps.specs.Tables.{row}
 use Rattle.role_steps.specs.Views.{SiteView, Told, Shown, Outcome, Receives}
 use Rattle.role_steps.specs.declared.rounds.InEpoch.{InEpoch}
 use Rattle.the_run.specs.Disks.{Disk, Booted, Whole, CutOff, boots, cut_disk}
 use Rattle.the_run.specs.Kept.{Kept}
 use Rattle.the_run.specs.Runs.{boots_as, packet_record}
 use Rattle.the_run.specs.Steps.{step}
-use Rattle.the_run.specs.Worlds.{World, Place, Running, Stopped, links_of, place_at, place_in, place_site, script_of, happened, disk_of, puts, arms, passed, cut_told, stops_with, cause_of, acts, fresh, formatted, first_place, first_world}
+use Rattle.the_run.specs.Worlds.{World, Running, Stopped, links_of, place_at, script_of, happened, disk_of, puts, arms, passed, cut_told, stops_with, cause_of, acts, fresh, first_world}
 use Rattle.the_run.proofs.Boots.{at_each, acts_cases}
 use Rattle.the_run.proofs.Events.{happened_keeps, puts_other, puts_same}
+use Rattle.run_laws.proofs.of_law_walks.FirstWorld.{first_views}
 use Rattle.calm_laws.specs.Calming.{GroupsStartInTime}
 use Rattle.calm_laws.specs.Rounds.{IsInRound}
 use Rattle.calm_laws.proofs.Rounds.{in_round}
@@ -74,19 +74,8 @@ start_run c = record {
 
 -- ---- the first world ----
 
-none_place : (p : Place) → ◌≡◌ {A = Option Place} None (Some p) → ⊥
-none_place p e = cc
-
-first_view : (c : Config) (ss : List ℕ) (s : ℕ) (v : SiteView) → place_in (row place_site s (map (first_place c) ss)) ≡ Some (Running v) → InTime c v.epoch v.tables
-first_view c [] s v e = absurd (none_place (Running v) e)
-first_view c (t ∷ ts) s v e = over (t == s) (first_view c ts s v) e
-  where
-    over : (b : Bool) → (place_in (row place_site s (map (first_place c) ts)) ≡ Some (Running v) → InTime c v.epoch v.tables) → place_in (elim b [ true ↦ Some (first_place c t) | false ↦ row place_site s (map (first_place c) ts) ]) ≡ Some (Running v) → InTime c v.epoch v.tables
-    over true k f = subst (λ (u : SiteView). InTime c u.epoch u.tables) (running_view (fresh 1 (formatted c t)) v (some_same (Running (fresh 1 (formatted c t))) (Running v) f)) tt
-    over false k f = k f
-
 first_start : (c : Config) → ViewsStart c (first_world c)
-first_start c s v here = first_view c _ s v here
+first_start c = first_views c (λ s v. InTime c v.epoch v.tables) (λ s own. tt)
 
 -- ---- in a round ----
 

@@ -52,7 +52,7 @@ list_is c lines more id members s v d listed here inside same =
 
 -- ---- a member ----
 
-site_inside : (c : Config) (lines more : List ScheduleLine) (w : World) (id : EpochId) (members : Members) (s : ℕ) → Twin c lines more w → Stands w → members_of (trace_of (run_in c lines)) id ≡ Some members → is_up (trace_of w) s ≡ true → boot_of (trace_of w) s ≡ boot_in members s → epoch_of (trace_of w) s ≡ Some id →
+site_inside : (c : Config) (lines more : List ScheduleLine) (w : World) (id : EpochId) (members : Members) (s : ℕ) → Twin c lines more w → Stands w → members_of (trace_of (run_in c lines)) id ≡ Some members → is_up c (trace_of w) s ≡ true → boot_of (trace_of w) s ≡ boot_in members s → epoch_of (trace_of w) s ≡ Some id →
     IsInside w (record { id = id; members = members }) s
 site_inside c lines more w id members s twin stands listed up boot inside = by_place (place_at w s) refl
   where
@@ -74,7 +74,7 @@ site_inside c lines more w id members s twin stands listed up boot inside = by_p
 
     by_place : (o : Option Place) → place_at w s ≡ o → IsInside w (record { id = id; members = members }) s
     by_place None h = absurd (none_some id (sym (stands.only s h) ∙ stood))
-    by_place (Some (Stopped d)) h = absurd (false_true (sym ((run_courses c (lines ++ more)).course.places s (Stopped d) (twin.places s ∙ h)).0 ∙ (twin.folds (λ t. is_up t s) (λ n older. refl) ∙ up)))
+    by_place (Some (Stopped d)) h = absurd (false_true (sym ((run_courses c (lines ++ more)).course.places s (Stopped d) (twin.places s ∙ h)).0 ∙ (twin.folds (λ t. is_up c t s) (λ n older. refl) ∙ up)))
     by_place (Some (Running v)) h = by_epoch v h v.epoch refl (ap (λ (x : Standing). x.epoch) (sym (stands.good.stands s v h)) ∙ stood)
 
 -- ---- all ----
@@ -90,11 +90,11 @@ member_is : (members : Members) (s : ℕ) → boot_in members s ≢ 0 → is_mem
 member_is members s h = grind (arith, nat_tests)
 
 -- by the records so far, as the run of the lines has cut circuits, and in a world with the same circuits
-pub together_in : (c : Config) (lines more : List ScheduleLine) (w : World) (id : EpochId) (members : Members) → Every (FitsCluster c.sites) lines → Twin c lines more w → Stands w → w.circuits ≡ (run_in c lines).circuits → members_of (trace_of (run_in c lines)) id ≡ Some members → told.AreTogether lines (trace_of w) id members →
+pub together_in : (c : Config) (lines more : List ScheduleLine) (w : World) (id : EpochId) (members : Members) → Every (FitsCluster c.sites) lines → Twin c lines more w → Stands w → w.circuits ≡ (run_in c lines).circuits → members_of (trace_of (run_in c lines)) id ≡ Some members → told.AreTogether c lines (trace_of w) id members →
     AreTogether w (record { id = id; members = members })
 together_in c lines more w id members fits twin stands circuits listed h = record {
   inside = λ s m. site_inside c lines more w id members s twin stands listed (h.up s (is s m)) (h.boots s (is s m)) (h.inside s (is s m));
-  connected = λ s t m k ne. ap (λ (xs : List CutCircuit). list_any (is_between s t) xs) circuits ∙ (cut_is c lines fits s t ∙ uncut_by (is_up (trace_of w) s) (is_up (trace_of w) t) (s == t) (lawful.is_cut lines s t) (h.reach s t (is s m) (is t k)) (differ s t ne));
+  connected = λ s t m k ne. ap (λ (xs : List CutCircuit). list_any (is_between s t) xs) circuits ∙ (cut_is c lines fits s t ∙ uncut_by (is_up c (trace_of w) s) (is_up c (trace_of w) t) (s == t) (lawful.is_cut lines s t) (h.reach s t (is s m) (is t k)) (differ s t ne));
 }
   where
     is : (s : ℕ) → IsMember (record { id = id; members = members }) s → is_member members s ≡ true

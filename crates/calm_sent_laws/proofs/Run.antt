@@ -19,7 +19,6 @@ use Rattle.wire_messages.specs.declared.body.Granted.TheVariants as granted
 use Rattle.wire_messages.specs.declared.packet.Packet.{Packet}
 use Rattle.role_steps.specs.Adoption.{table_group}
 use Rattle.role_steps.specs.Own.{Every, IsOwn as IsOwnPacket}
-use Rattle.role_steps.specs.Tables.{row}
 use Rattle.role_steps.specs.Views.{SiteView, Told, Shown, Outcome, Event, Calls, Receives, Ticks, Parts, Merges, GivesUp, boot_in, serial_key}
 use Rattle.role_steps.specs.declared.rounds.InEpoch.{InEpoch}
 use Rattle.role_steps.specs.declared.synchronizing.SyncTable.{SyncTable}
@@ -33,7 +32,7 @@ use Rattle.the_run.specs.Kept.{Among, WasSent, IsOwn, Kept}
 use Rattle.the_run.specs.Laws.{boot_on}
 use Rattle.the_run.specs.Runs.{boots_as, packet_record, run_in}
 use Rattle.the_run.specs.Steps.{from_user, is_dropped, is_forming, is_framed, step}
-use Rattle.the_run.specs.Worlds.{World, Place, Running, Stopped, Numbered, Line, number_of, told_onto, place_at, place_in, place_site, links_of, script_of, happened, numbered_from, disk_of, puts, arms, passed, stops_with, cut_told, cause_of, acts, fresh, formatted, first_place, first_world}
+use Rattle.the_run.specs.Worlds.{World, Place, Running, Stopped, Numbered, Line, number_of, told_onto, place_at, links_of, script_of, happened, numbered_from, disk_of, puts, arms, passed, stops_with, cut_told, cause_of, acts, fresh, formatted, first_world}
 use Rattle.the_run.proofs.Boots.{at_each, puts_rises, Reached, boots_reached, acts_cases, every_newest, every_numbered, every_weaker}
 use Rattle.the_run.proofs.Events.{happened_keeps, puts_other, puts_same}
 use Rattle.the_run.proofs.InsideSync.{every_without}
@@ -48,6 +47,7 @@ use Rattle.epoch_laws.specs.Known.{Places, boots_on, FormFact, Good}
 use Rattle.epoch_laws.proofs.Handlers.{same_epoch_eq}
 use Rattle.epoch_laws.proofs.Run as epochs
 use Rattle.one_tree_laws.proofs.Rising.{Rising, every_among}
+use Rattle.epoch_laws.proofs.of_law_walks.FirstWorld.{first_views}
 use Rattle.calm_sent_laws.specs.Standing.{AskedStands, BodyStands, GrantStands, IsGranted, IsReported, IsSyncedBy, InstancesStand, PacketsStand, ReportsStand, StandsAt, WithGrant, WithReport}
 use Rattle.calm_sent_laws.proofs.Closing.{IsBegun}
 use Rattle.calm_sent_laws.proofs.Sites.{Brings, HasBegun}
@@ -89,9 +89,6 @@ running_view v u e = cc
 
 stopped_never : (d : Disk) (v : SiteView) → Stopped d ≡ Running v → ⊥
 stopped_never d v e = cc
-
-none_never : (v : SiteView) → ◌≡◌ {A = Option Place} None (Some (Running v)) → ⊥
-none_never v e = cc
 
 place_there : (s : ℕ) (new : Place) (w : World) (u : SiteView) → place_at (puts s new w) s ≡ Some (Running u) → new ≡ Running u
 place_there s new w u h = some_same new (Running u) (sym (puts_same s new w) ∙ h)
@@ -301,16 +298,8 @@ both_kept c = record {
 
 -- ---- the first world ----
 
-first_views : (c : Config) (at : Places) (ss : List ℕ) (s : ℕ) (v : SiteView) → place_in (row place_site s (map (first_place c) ss)) ≡ Some (Running v) → ViewFact c at s v
-first_views c at [] s v e = absurd (none_never v e)
-first_views c at (t ∷ ts) s v e =
-    (elim (t == s) as (λ b. place_in (elim b [ true ↦ Some (first_place c t) | false ↦ row place_site s (map (first_place c) ts) ]) ≡ Some (Running v) → ViewFact c at s v) [
-      | true ↦ λ f. subst (λ (y : SiteView). ViewFact c at s y) (running_view (fresh 1 (formatted c t)) v (some_same (Running (fresh 1 (formatted c t))) (Running v) f)) (fresh_fact c at s (fresh 1 (formatted c t)) refl refl refl refl refl)
-      | false ↦ λ f. first_views c at ts s v f
-    ]) e
-
 pub first_both : (c : Config) → Both c (first_world c)
-first_both c = record { epochs = epochs.first_good c; begun = (first_good c, begins.first_world_fact c); stand = record { packets = tt; underway = tt; views = λ s v e. first_views c (place_at (first_world c)) _ s v e } }
+first_both c = record { epochs = epochs.first_good c; begun = (first_good c, begins.first_world_fact c); stand = record { packets = tt; underway = tt; views = first_views c (ViewFact c (place_at (first_world c))) (λ s own. fresh_fact c (place_at (first_world c)) s (fresh 1 (formatted c s)) refl refl refl refl refl) } }
 
 -- ---- what it comes to ----
 

@@ -1,5 +1,5 @@
 -- In every run the tables of each site have their shape.
-use Rattle.std.proofs.Common.{◌≡◌, ◌≢◌, ◌≤◌, ℕ, ◌+◌, ◌==◌, Bool, true, false, List, [], ◌∷◌, map, Option, Some, None, refl, sym, ◌∙◌, ap, subst, ◌⊎◌, inl, inr, arith}
+use Rattle.std.proofs.Common.{◌≡◌, ◌≢◌, ◌≤◌, ℕ, ◌+◌, List, [], ◌∷◌, map, Option, Some, None, refl, sym, ◌∙◌, ap, subst, ◌⊎◌, inl, inr, arith}
 use Rattle.role_steps.proofs.of_plain_facts.Options.{some_same}
 use Rattle.locus_ids.specs.declared.config.Config.{Config}
 use Rattle.locus_ids.specs.declared.ids.EpochId.{EpochId}
@@ -11,7 +11,6 @@ use Rattle.trace_book.specs.declared.record.StopCause.TheVariants as cause
 use Rattle.wire_messages.specs.declared.body.Body.{Body}
 use Rattle.wire_messages.specs.declared.packet.Packet.{Packet}
 use Rattle.role_steps.specs.Own.{Every}
-use Rattle.role_steps.specs.Tables.{row}
 use Rattle.role_steps.specs.Views.{SiteView, Told, Shown, Event, Outcome, Receives}
 use Rattle.role_steps.specs.declared.rounds.InEpoch.{InEpoch}
 use Rattle.role_steps.specs.declared.synchronizing.Early.{Early}
@@ -22,7 +21,7 @@ use Rattle.the_run.specs.Disks.{Disk, Booted, Whole, CutOff, boots, cut_disk}
 use Rattle.the_run.specs.Kept.{Among, Kept, IsOwn, WasSent}
 use Rattle.the_run.specs.Runs.{boots_as, packet_record, run_in}
 use Rattle.the_run.specs.Steps.{step}
-use Rattle.the_run.specs.Worlds.{World, Place, Running, Stopped, Numbered, Line, links_of, place_at, place_in, place_site, script_of, happened, told_onto, numbered_from, newest_onto, disk_of, puts, arms, passed, cut_told, stops_with, cause_of, acts, fresh, formatted, first_place, first_world}
+use Rattle.the_run.specs.Worlds.{World, Running, Stopped, Numbered, Line, links_of, place_at, script_of, happened, told_onto, numbered_from, newest_onto, disk_of, puts, arms, passed, cut_told, stops_with, cause_of, acts, fresh, first_world}
 use Rattle.the_run.proofs.Boots.{at_each, acts_cases, every_weaker}
 use Rattle.the_run.proofs.Events.{happened_keeps, puts_other, puts_same}
 use Rattle.the_run.proofs.Runs.{every_run}
@@ -30,6 +29,7 @@ use Rattle.make_laws.proofs.of_pack_laws.WriterAsksRun.{newest_leads}
 use Rattle.make_laws.proofs.RunningUnderway.{UnderwaySent, sent_among, underway_kept, first_underway}
 use Rattle.make_laws.specs.Made.{IsSender, NumberedSender, WorldSent}
 use Rattle.make_laws.proofs.SendersRun.{sent_kept, first_sent}
+use Rattle.make_laws.proofs.of_pack_laws.of_law_walks.FirstWorld.{first_views}
 use Rattle.calm_table_laws.specs.Shapes.{CameIn, IsRequest, IsAnswered, IsNamedIn, IsMaking, RowShape, ShapeIn, AreShaped, TablesAreShaped}
 use Rattle.calm_table_laws.proofs.Shaping.{TellsRecord, TellsNamed}
 use Rattle.calm_table_laws.proofs.Shaped.{WasSentFor, step_keeps}
@@ -244,19 +244,8 @@ shaped_kept c = record {
 
 -- ---- the first world ----
 
-none_place : (p : Place) → ◌≡◌ {A = Option Place} None (Some p) → ⊥
-none_place p e = cc
-
-first_view : (c : Config) (ss : List ℕ) (s : ℕ) (v : SiteView) → place_in (row place_site s (map (first_place c) ss)) ≡ Some (Running v) → AreShaped c s (IsNamedIn []) (CameIn []) v.epoch v.tables
-first_view c [] s v e = absurd (none_place (Running v) e)
-first_view c (t ∷ ts) s v e = over (t == s) (first_view c ts s v) e
-  where
-    over : (b : Bool) → (place_in (row place_site s (map (first_place c) ts)) ≡ Some (Running v) → AreShaped c s (IsNamedIn []) (CameIn []) v.epoch v.tables) → place_in (elim b [ true ↦ Some (first_place c t) | false ↦ row place_site s (map (first_place c) ts) ]) ≡ Some (Running v) → AreShaped c s (IsNamedIn []) (CameIn []) v.epoch v.tables
-    over true k f = subst (λ (u : SiteView). AreShaped c s (IsNamedIn []) (CameIn []) u.epoch u.tables) (running_view (fresh 1 (formatted c t)) v (some_same (Running (fresh 1 (formatted c t))) (Running v) f)) tt
-    over false k f = k f
-
 pub first_shaped : (c : Config) → Shaped c (first_world c)
-first_shaped c = record { senders = first_sent c; underway = first_underway c; tables = λ s v here. first_view c _ s v here }
+first_shaped c = record { senders = first_sent c; underway = first_underway c; tables = first_views c (λ s v. AreShaped c s (IsNamedIn []) (CameIn []) v.epoch v.tables) (λ s own. tt) }
 
 pub run_shaped : (c : Config) (lines : List ScheduleLine) → TablesAreShaped c (run_in c lines)
 run_shaped c lines = (every_run c (Shaped c) (shaped_kept c) (first_shaped c) lines).tables

@@ -8,6 +8,7 @@ use Rattle.hex.specs.Hex.{encode_with}
 use Rattle.lawful_trace.specs.Calm.{AreTogether, IsCalmRound, IsMoment}
 use Rattle.lawful_trace.specs.Places.{is_cut, lines_before, through_line}
 use Rattle.lawful_trace.specs.Samples.{epoch, file, members}
+use Rattle.locus_ids.specs.declared.config.Config.{Config}
 use Rattle.locus_ids.specs.declared.ids.EpochId.{EpochId}
 use Rattle.locus_ids.specs.declared.sites.Members.{Members}
 use Rattle.promises.specs.Convergence.{IsUndisturbed}
@@ -96,22 +97,22 @@ record Standing : Type 0 where
   epoch_1 : Option EpochId
   epoch_2 : Option EpochId
 
-abbrev standing : Trace → Standing
-standing now = record { up_1 = is_up now 1; up_2 = is_up now 2; boot_1 = boot_of now 1; boot_2 = boot_of now 2; epoch_1 = epoch_of now 1; epoch_2 = epoch_of now 2 }
+abbrev standing : Config → Trace → Standing
+standing c now = record { up_1 = is_up c now 1; up_2 = is_up c now 2; boot_1 = boot_of now 1; boot_2 = boot_of now 2; epoch_1 = epoch_of now 1; epoch_2 = epoch_of now 2 }
 
-abbrev AreBoth : Trace → Type 0
-AreBoth now = standing now ≡ record { up_1 = true; up_2 = true; boot_1 = 1; boot_2 = 1; epoch_1 = Some (epoch 1 1 1); epoch_2 = Some (epoch 1 1 1) }
+abbrev AreBoth : Config → Trace → Type 0
+AreBoth c now = standing c now ≡ record { up_1 = true; up_2 = true; boot_1 = 1; boot_2 = 1; epoch_1 = Some (epoch 1 1 1); epoch_2 = Some (epoch 1 1 1) }
 
-both_together : (lines : List ScheduleLine) (now : Trace) → ((s t : ℕ) → is_cut lines s t ≡ false) → AreBoth now → AreTogether lines now (epoch 1 1 1) both
-both_together lines now whole h = record {
+both_together : (c : Config) (lines : List ScheduleLine) (now : Trace) → ((s t : ℕ) → is_cut lines s t ≡ false) → AreBoth c now → AreTogether c lines now (epoch 1 1 1) both
+both_together c lines now whole h = record {
   up = up;
   boots = each_of_both (λ s. boot_of now s ≡ boot_in both s) (ap (λ (x : Standing). x.boot_1) h) (ap (λ (x : Standing). x.boot_2) h);
   inside = each_of_both (λ s. epoch_of now s ≡ Some (epoch 1 1 1)) (ap (λ (x : Standing). x.epoch_1) h) (ap (λ (x : Standing). x.epoch_2) h);
-  reach = λ s t m k. reached (is_up now s) (is_up now t) (s == t) (is_cut lines s t) (up s m) (up t k) (whole s t);
+  reach = λ s t m k. reached (is_up c now s) (is_up c now t) (s == t) (is_cut lines s t) (up s m) (up t k) (whole s t);
 }
   where
-    up : (s : ℕ) → is_member both s ≡ true → is_up now s ≡ true
-    up = each_of_both (λ s. is_up now s ≡ true) (ap (λ (x : Standing). x.up_1) h) (ap (λ (x : Standing). x.up_2) h)
+    up : (s : ℕ) → is_member both s ≡ true → is_up c now s ≡ true
+    up = each_of_both (λ s. is_up c now s ≡ true) (ap (λ (x : Standing). x.up_1) h) (ap (λ (x : Standing). x.up_2) h)
 
     reached : (a b same cut : Bool) → a ≡ true → b ≡ true → cut ≡ false → (a && b && (same || not cut)) ≡ true
     reached true true true cut p q r = refl
@@ -128,7 +129,7 @@ round_6 = record {
   settles = refl;
   ended = refl;
   listed = refl;
-  together = λ now m. both_together (lines_before rested_lines 6) now (λ s t. refl) (each_moment AreBoth 6 11 (omega arith) (refl, (refl, (refl, (refl, (refl, (refl, (refl, (refl, (refl, (refl, (refl, refl))))))))))) now m);
+  together = λ now m. both_together (config_of rested_lines) (lines_before rested_lines 6) now (λ s t. refl) (each_moment (AreBoth (config_of rested_lines)) 6 11 (omega arith) (refl, (refl, (refl, (refl, (refl, (refl, (refl, (refl, (refl, (refl, (refl, refl))))))))))) now m);
 }
 
 round_7 : IsCalmRound rested_lines rested_trace 7 (epoch 1 1 1) both
@@ -137,7 +138,7 @@ round_7 = record {
   settles = refl;
   ended = refl;
   listed = refl;
-  together = λ now m. both_together (lines_before rested_lines 7) now (λ s t. refl) (each_moment AreBoth 7 0 (omega arith) refl now m);
+  together = λ now m. both_together (config_of rested_lines) (lines_before rested_lines 7) now (λ s t. refl) (each_moment (AreBoth (config_of rested_lines)) 7 0 (omega arith) refl now m);
 }
 
 round_8 : IsCalmRound rested_lines rested_trace 8 (epoch 1 1 1) both
@@ -146,7 +147,7 @@ round_8 = record {
   settles = refl;
   ended = refl;
   listed = refl;
-  together = λ now m. both_together (lines_before rested_lines 8) now (λ s t. refl) (each_moment AreBoth 8 0 (omega arith) refl now m);
+  together = λ now m. both_together (config_of rested_lines) (lines_before rested_lines 8) now (λ s t. refl) (each_moment (AreBoth (config_of rested_lines)) 8 0 (omega arith) refl now m);
 }
 
 round_9 : IsCalmRound rested_lines rested_trace 9 (epoch 1 1 1) both
@@ -155,7 +156,7 @@ round_9 = record {
   settles = refl;
   ended = refl;
   listed = refl;
-  together = λ now m. both_together (lines_before rested_lines 9) now (λ s t. refl) (each_moment AreBoth 9 0 (omega arith) refl now m);
+  together = λ now m. both_together (config_of rested_lines) (lines_before rested_lines 9) now (λ s t. refl) (each_moment (AreBoth (config_of rested_lines)) 9 0 (omega arith) refl now m);
 }
 
 abbrev IsClosedAt : ℕ → Type 0

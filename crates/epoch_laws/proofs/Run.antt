@@ -1,6 +1,6 @@
 -- In every run ids are known, rounds wait, and polls name their receiver.
 use Rattle.std.proofs.lemmas.Bool.Decides.{nat_tests}
-use Rattle.std.proofs.Common.{◌≡◌, ℕ, ◌+◌, ◌≤◌, ◌==◌, ◌⊎◌, Bool, true, false, List, [], ◌∷◌, map, Option, Some, None, refl, sym, ◌∙◌, ap, subst, inl, inr, arith}
+use Rattle.std.proofs.Common.{◌≡◌, ℕ, ◌+◌, ◌≤◌, ◌⊎◌, Bool, true, false, List, [], ◌∷◌, map, Option, Some, None, refl, sym, ◌∙◌, ap, subst, inl, inr, arith}
 use Rattle.run_laws.proofs.of_role_steps.of_plain_facts.Options.{none_some, some_same}
 use Rattle.run_laws.proofs.of_role_steps.of_plain_facts.Tests.{true_false}
 use Rattle.locus_ids.specs.declared.ids.EpochId.{EpochId}
@@ -11,7 +11,6 @@ use Rattle.wire_messages.specs.declared.packet.Packet.{Packet}
 use Rattle.wire_messages.specs.declared.body.Body.{Body}
 use Rattle.wire_messages.specs.declared.body.Body.TheVariants as body
 use Rattle.run_laws.specs.of_role_steps.Own.{Every}
-use Rattle.run_laws.specs.of_role_steps.Tables.{row}
 use Rattle.run_laws.specs.of_role_steps.Views.{SiteView, Told, Shown, Outcome, Event, Calls, Receives, Ticks, Parts, Merges, GivesUp, boot_in}
 use Rattle.run_laws.specs.of_role_steps.declared.rounds.InEpoch.{InEpoch}
 use Rattle.run_laws.specs.of_role_steps.declared.rounds.Round.{Round}
@@ -22,7 +21,7 @@ use Rattle.run_laws.specs.of_the_run.Joins.{IsAtMost}
 use Rattle.run_laws.specs.of_the_run.Kept.{WasSent, IsOwn, Kept}
 use Rattle.run_laws.specs.of_the_run.Laws.{boot_on}
 use Rattle.run_laws.specs.of_the_run.Steps.{step}
-use Rattle.run_laws.specs.of_the_run.Worlds.{World, Place, Running, Stopped, Numbered, number_of, place_at, place_in, place_site, boot_of, is_cut, link_of, links_of, script_of, happened, numbered_from, disk_of, puts, arms, passed, stops_with, cut_told, cause_of, acts, fresh, first_place, formatted, first_world, no_epoch}
+use Rattle.run_laws.specs.of_the_run.Worlds.{World, Place, Running, Stopped, Numbered, number_of, place_at, boot_of, is_cut, link_of, links_of, script_of, happened, numbered_from, disk_of, puts, arms, passed, stops_with, cut_told, cause_of, acts, fresh, formatted, first_world, no_epoch}
 use Rattle.run_laws.specs.of_the_run.Runs.{boots_as, packet_record, run_in}
 use Rattle.run_laws.proofs.of_the_run.Boots.{at_each, puts_rises, Reached, boots_reached, acts_cases, every_newest, every_numbered, every_weaker}
 use Rattle.run_laws.proofs.of_the_run.Events.{happened_keeps, puts_other, puts_same}
@@ -30,6 +29,7 @@ use Rattle.run_laws.proofs.of_the_run.InsideSync.{every_without}
 use Rattle.run_laws.proofs.of_the_run.Joining.{same_at_most}
 use Rattle.run_laws.proofs.of_the_run.Runs.{every_run}
 use Rattle.run_laws.proofs.Run.{found_among}
+use Rattle.run_laws.proofs.of_law_walks.FirstWorld.{first_views}
 use Rattle.epoch_laws.specs.Forming.{TableFormless}
 use Rattle.epoch_laws.specs.Known.{Places, boots_on, IsKnown, NamesKnown, IdsAreKnown, IsOwnRound, RoundsWait, NamesReceiver, PollsNameTheirReceiver, FormFact, PacketFact, NumberedFact, ViewFact, Good}
 use Rattle.epoch_laws.proofs.Boots.{at_most_trans, boots_bounded, cond_at_most}
@@ -103,9 +103,6 @@ running_view v u e = cc
 
 pub stopped_never : (d : Disk) (v : SiteView) → Stopped d ≡ Running v → ⊥
 stopped_never d v e = cc
-
-pub none_never : (v : SiteView) → ◌≡◌ {A = Option Place} None (Some (Running v)) → ⊥
-none_never v e = cc
 
 pub place_there : (s : ℕ) (new : Place) (w : World) (u : SiteView) → place_at (puts s new w) s ≡ Some (Running u) → new ≡ Running u
 place_there s new w u h = some_same new (Running u) (sym (puts_same s new w) ∙ h)
@@ -264,16 +261,8 @@ good_kept c = record {
 
 -- ---- the first world ----
 
-first_views : (c : Config) (at : Places) (ss : List ℕ) (s : ℕ) (v : SiteView) → place_in (row place_site s (map (first_place c) ss)) ≡ Some (Running v) → ViewFact at s v
-first_views c at [] s v e = absurd (none_never v e)
-first_views c at (t ∷ ts) s v e =
-    (elim (t == s) as (λ b. place_in (elim b [ true ↦ Some (first_place c t) | false ↦ row place_site s (map (first_place c) ts) ]) ≡ Some (Running v) → ViewFact at s v) [
-      | true ↦ λ f. subst (λ (y : SiteView). ViewFact at s y) (running_view (fresh 1 (formatted c t)) v (some_same (Running (fresh 1 (formatted c t))) (Running v) f)) (fresh_fact at s (fresh 1 (formatted c t)) refl refl refl refl (omega arith))
-      | false ↦ λ f. first_views c at ts s v f
-    ]) e
-
 pub first_good : (c : Config) → Good (first_world c)
-first_good c = record { packets = tt; underway = tt; views = λ s v e. first_views c (place_at (first_world c)) _ s v e }
+first_good c = record { packets = tt; underway = tt; views = first_views c (ViewFact (place_at (first_world c))) (λ s own. fresh_fact (place_at (first_world c)) s (fresh 1 (formatted c s)) refl refl refl refl (omega arith)) }
 
 -- ---- the laws ----
 

@@ -119,7 +119,7 @@ late_brings_nothing c before few rows packs line z d m may e site f started = ap
     named = (tree_named c e f.group before).0
 
     unpacked : d ≡ (tree_of c e f.group before).epoch → has_pack c f.group z ≡ false
-    unpacked p = no_pack_comes c before few rows e f.group z m started (subst (λ (y : EpochId). MayJoin before z y m) (p ∙ named) may)
+    unpacked p = no_pack_comes c before few rows e f.group z m started (subst (λ (y : EpochId). MayJoin c before z y m) (p ∙ named) may)
 
     none : (o : Option HeldCopy) → copy_of (tree_of c e f.group before).copies z f.ino ≡ o → has_pack c f.group z ≡ false → o ≡ None
     none None k q = refl

@@ -253,7 +253,7 @@ module _ (c : Config) (e : EpochId) (g : ℕ) (before : Trace) (rows : RowsAreLa
 
   -- ---- joins and grants ----
 
-  join_seats : (z : ℕ) (d : EpochId) (m : Members) → MayJoin before z d m → Then (says.Join z d m)
+  join_seats : (z : ℕ) (d : EpochId) (m : Members) → MayJoin c before z d m → Then (says.Join z d m)
   join_seats z d m may = subst (λ (xs : List Instance). AllByRecursion (After (says.Join z d m)) xs) (sym (same (same_epoch d t.epoch))) (all_then (Seat e g before t) (After (says.Join z d m)) (λ x k. moves (says.Join z d m) x (held_next (says.Join z d m) x.grant.ss x.grant.file.ino ∙ over x k (same_epoch d t.epoch) refl) k) t.instances old)
     where
       same : (b : Bool) → (cond b (joined z m t) (left z t)).instances ≡ t.instances

@@ -125,9 +125,9 @@ apart_of c older s t x h ne (inr (inr (inr (inr (inr u))))) = promised c older t
 
 -- ---- one line ----
 
-up_apart : (n : ℕ) (x : Told) (older : List Line) (t : ℕ) → (IsOfSite t x → ⊥) → is_up (entries (more n x older)) t ≡ is_up (entries older) t
-up_apart n (Shown r) older t h = up_same n r (entries older) t h
-up_apart n _ older t h = refl
+up_apart : (c : Config) (n : ℕ) (x : Told) (older : List Line) (t : ℕ) → (IsOfSite t x → ⊥) → is_up c (entries (more n x older)) t ≡ is_up c (entries older) t
+up_apart c n (Shown r) older t h = up_same c n r (entries older) t h
+up_apart c n _ older t h = refl
 
 epoch_apart : (n : ℕ) (x : Told) (older : List Line) (t : ℕ) → (IsOfSite t x → ⊥) → epoch_of (entries (more n x older)) t ≡ epoch_of (entries older) t
 epoch_apart n (Shown r) older t h = epoch_same n r (entries older) t h
@@ -150,7 +150,7 @@ all_facts c f trace (t ∷ ts) h = (h.0 tt, all_facts c f trace ts h.1)
 
 site_apart : (c : Config) → RolesDo c → (n t : ℕ) (x : Told) (older : List Line) (o : Option InEpoch) (v : SiteView) → Comes c older x → Apart c older t x → SiteIn c t older v o → SiteIn c t (more n x older) v o
 site_apart c roles n t x older None v k a h = record {
-  up = up_apart n x older t a.site ∙ h.up;
+  up = up_apart c n x older t a.site ∙ h.up;
   outside = epoch_apart n x older t a.site ∙ h.outside;
   users = record {
     always = outside_frame c n x older t v.boot v.users k a.users a.site h.users.always;
@@ -184,7 +184,7 @@ site_apart c roles n t x older (Some e) v k a h =
 pub place_apart : (c : Config) → RolesDo c → (n t : ℕ) (p : Place) (x : Told) (older : List Line) → Comes c older x → Apart c older t x → PlaceFact c t older p → PlaceFact c t (more n x older) p
 place_apart c roles n t (Running v) x older k a h = site_apart c roles n t x older v.epoch v k a h
 place_apart c roles n t (Stopped d) x older k a h = record {
-  stopped = up_apart n x older t a.site ∙ h.stopped;
+  stopped = up_apart c n x older t a.site ∙ h.stopped;
   outside = epoch_apart n x older t a.site ∙ h.outside;
   idle = idle_stays c n x older t a.users a.site h.idle;
   descriptors = λ process fd. descriptors_stay n t process fd x older a.users a.site ∙ h.descriptors process fd;

@@ -58,21 +58,21 @@ pub boot_same : (n : ℕ) (r : Record) (before : Trace) (me : ℕ) → (IsSiteRe
 boot_same n (says.Up s boot) before me h = cond_apart s me boot (boot_of before me) h
 boot_same n _ before me h = refl
 
-pub up_same : (n : ℕ) (r : Record) (before : Trace) (me : ℕ) → (IsSiteRecord me r → ⊥) → is_up (With n r before) me ≡ is_up before me
-up_same n (says.Up s boot) before me h = or_apart s me (is_up before me) h
-up_same n (says.Stopped s cause) before me h = and_apart s me (is_up before me) h
-up_same n _ before me h = refl
+pub up_same : (c : Config) (n : ℕ) (r : Record) (before : Trace) (me : ℕ) → (IsSiteRecord me r → ⊥) → is_up c (With n r before) me ≡ is_up c before me
+up_same c n (says.Up s boot) before me h = or_apart s me (is_up c before me) h
+up_same c n (says.Stopped s cause) before me h = and_apart s me (is_up c before me) h
+up_same c n _ before me h = refl
 
 -- ---- the frame ----
 
-pub frame_by : (c : Config) (old new : List Line) (f : Frame) → epoch_of (entries new) f.me ≡ epoch_of (entries old) f.me → members_of (entries new) f.epoch ≡ members_of (entries old) f.epoch → boot_of (entries new) f.me ≡ boot_of (entries old) f.me → is_up (entries new) f.me ≡ is_up (entries old) f.me →
+pub frame_by : (c : Config) (old new : List Line) (f : Frame) → epoch_of (entries new) f.me ≡ epoch_of (entries old) f.me → members_of (entries new) f.epoch ≡ members_of (entries old) f.epoch → boot_of (entries new) f.me ≡ boot_of (entries old) f.me → is_up c (entries new) f.me ≡ is_up c (entries old) f.me →
     FrameFact c old f → FrameFact c new f
 frame_by c old new f e m b u h = record { config_is = h.config_is; inside = e ∙ h.inside; members_are = m ∙ h.members_are; up = u ∙ h.up; boot_is = h.boot_is ∙ sym b; is_member = h.is_member }
 
 pub frame_stays : (c : Config) (n : ℕ) (x : Told) (older : List Line) (f : Frame) → Comes c older x → (IsOfSite f.me x → ⊥) → FrameFact c older f → FrameFact c (more n x older) f
 frame_stays c n (Shown r) older f k other h =
     frame_by c older (more n (Shown r) older) f (epoch_same n r (entries older) f.me other) (members_same c n r (entries older) f.epoch k.may.row (epoch_listed older f.me f.epoch h.inside))
-    (boot_same n r (entries older) f.me other) (up_same n r (entries older) f.me other) h
+    (boot_same n r (entries older) f.me other) (up_same c n r (entries older) f.me other) h
 frame_stays c n _ older f k other h = record { config_is = h.config_is; inside = h.inside; members_are = h.members_are; up = h.up; boot_is = h.boot_is; is_member = h.is_member }
 
 -- ---- a site at which nobody waits ----

@@ -29,13 +29,13 @@ use Rattle.one_tree_laws.proofs.Sorts.{users_store, users_site, users_adopted}
 
 -- what doesn't hang on using sites, of a site in no epoch
 pub record Out (c : Config) (me : ℕ) (s : Store) (t : List Line) : Type 0 where
-  pub up : is_up (entries t) me ≡ true
+  pub up : is_up c (entries t) me ≡ true
   pub outside : epoch_of (entries t) me ≡ None
   pub copies : CopiesAreHeld c t me s
 
-up_told : (n : ℕ) (x : Told) (older : List Line) (me : ℕ) → IsOfUsers me x → is_up (entries (more n x older)) me ≡ is_up (entries older) me
-up_told n (Shown r) older me u = up_same n r (entries older) me (λ s. users_site me me (Shown r) u s)
-up_told n _ older me u = refl
+up_told : (c : Config) (n : ℕ) (x : Told) (older : List Line) (me : ℕ) → IsOfUsers me x → is_up c (entries (more n x older)) me ≡ is_up c (entries older) me
+up_told c n (Shown r) older me u = up_same c n r (entries older) me (λ s. users_site me me (Shown r) u s)
+up_told c n _ older me u = refl
 
 epoch_told : (n : ℕ) (x : Told) (older : List Line) (me : ℕ) → IsOfUsers me x → epoch_of (entries (more n x older)) me ≡ epoch_of (entries older) me
 epoch_told n (Shown r) older me u = epoch_same n r (entries older) me (λ s. users_site me me (Shown r) u s)
@@ -43,7 +43,7 @@ epoch_told n _ older me u = refl
 
 out_told : (c : Config) → RolesDo c → (n me : ℕ) (s : Store) (x : Told) (older : List Line) → Comes c older x → IsOfUsers me x → Out c me s older → Out c me s (more n x older)
 out_told c roles n me s x older k u h = record {
-  up = up_told n x older me u ∙ h.up;
+  up = up_told c n x older me u ∙ h.up;
   outside = epoch_told n x older me u ∙ h.outside;
   copies = copies_frame c n x older me s k (λ e w. users_store me me older e x u w) (λ a. users_adopted me me x u a) h.copies;
 }

@@ -87,7 +87,7 @@ process_above sites me process words e = over (is_site sites me) (is_between 1 8
     over true false d p q z = absurd (true_false (sym z))
     over false b d p q z = absurd (true_false (sym z))
 
-pub plain_row : (c : Config) (t : List Line) (s process : ℕ) (d : CallId) (words : Call) → (IsMend words → ⊥) → MayAccept (entries t) s process d → CallRow c (entries t) s process d words
+pub plain_row : (c : Config) (t : List Line) (s process : ℕ) (d : CallId) (words : Call) → (IsMend words → ⊥) → MayAccept c (entries t) s process d → CallRow c (entries t) s process d words
 plain_row c t s process d (call.Mend file) none k = absurd (none tt)
 plain_row c t s process d _ none k = k
 

@@ -158,7 +158,7 @@ leaves_users f w (reply.No why) v plain k = plain_hope w.words why v plain
 leaves_users f w (reply.Closed stamp) v plain k = refl
 leaves_users f w _ v plain k = absurd k
 
-module _ (c : Config) (n : ℕ) (t : List Line) (me boot process : ℕ) (words : Call) (u : Users) (h : IsFollowed c t) (up : is_up (entries t) me ≡ true) (outside : epoch_of (entries t) me ≡ None) (k : UsersOutside c me boot t u) (plain : IsMend words → ⊥) (low : IsNumbered words) where
+module _ (c : Config) (n : ℕ) (t : List Line) (me boot process : ℕ) (words : Call) (u : Users) (h : IsFollowed c t) (up : is_up c (entries t) me ≡ true) (outside : epoch_of (entries t) me ≡ None) (k : UsersOutside c me boot t u) (plain : IsMend words → ⊥) (low : IsNumbered words) where
   abbrev f : Frame
   f = call_frame c me boot None
 
@@ -346,7 +346,7 @@ module _ (c : Config) (n : ℕ) (t : List Line) (me boot process : ℕ) (words :
   pub call_fine : Fine Users c n t (IsOfUsers me) (UsersOutside c me boot) NoWrite (on_call f None process words u)
   call_fine = subst (λ (o : Outcome Users). Fine Users c n t (IsOfUsers me) (UsersOutside c me boot) NoWrite o) (sym does) done_fine
 
-pub calls_outside : (c : Config) (n : ℕ) (t : List Line) (me boot process : ℕ) (words : Call) (u : Users) → Past c t → is_up (entries t) me ≡ true → epoch_of (entries t) me ≡ None → UsersOutside c me boot t u → MayCall c me process words u →
+pub calls_outside : (c : Config) (n : ℕ) (t : List Line) (me boot process : ℕ) (words : Call) (u : Users) → Past c t → is_up c (entries t) me ≡ true → epoch_of (entries t) me ≡ None → UsersOutside c me boot t u → MayCall c me process words u →
     Fine Users c n t (IsOfUsers me) (UsersOutside c me boot) NoWrite (on_call (call_frame c me boot None) None process words u)
 calls_outside c n t me boot process words u past up outside k may = (let fits : (1 ≤ process) × (fits_call c.sites words ≡ true) = process_above c.sites me process words may.fits in
     call_fine c n t me boot process words u past.followed up outside k (no_mend c.sites words fits.1) (words_low c.sites words fits.1))

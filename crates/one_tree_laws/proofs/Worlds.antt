@@ -189,7 +189,7 @@ none_left s (x ∷ xs) = over (x.site == s) refl (none_left s xs)
 -- a site whose disk is as it holds it has just stopped
 stopped_now : (c : Config) → RolesDo c → (n s : ℕ) (why : StopCause) (trace : List Line) (d : Disk) → Comes c trace (Shown (says.Stopped s why)) → CopiesAreHeld c trace s (record { copies = d.copies; instances = []; steps = [] }) → StoppedFact c s (more n (Shown (says.Stopped s why)) trace) d
 stopped_now c roles n s why trace d k copies = record {
-  stopped = down_own s (is_up (entries trace) s);
+  stopped = down_own s (is_up c (entries trace) s);
   outside = cond_own s None (epoch_of (entries trace) s);
   idle = record { none_waits = none_left s (waiting (entries trace)); has_none = cond_own s [] (had c trace s) };
   descriptors = λ process fd. cond_own s None (descriptor (entries trace) s process fd);
@@ -274,7 +274,7 @@ stop_holds c roles stays n s v w here g = stops_holds c roles stays n s cause.As
 -- a site has just booted
 booted_now : (c : Config) → RolesDo c → (n s boot : ℕ) (trace : List Line) (copies : List FileCopy) → Comes c trace (Shown (says.Up s boot)) → IsIdle c trace s → ((process fd : ℕ) → descriptor (entries trace) s process fd ≡ None) → CopiesAreHeld c trace s (record { copies = copies; instances = []; steps = [] }) → SiteFact c s (more n (Shown (says.Up s boot)) trace) (fresh boot copies)
 booted_now c roles n s boot trace copies k idle none held = record {
-  up = up_own s (is_up (entries trace) s);
+  up = up_own s (is_up c (entries trace) s);
   outside = cond_own s None (epoch_of (entries trace) s);
   users = record {
     always = booted_users c n s boot trace none;

@@ -70,7 +70,7 @@ pub record UsersOutside (c : Config) (me boot : ℕ) (trace : List Line) (u : Us
   pub descriptors_ascend : Ascends descriptor_key u.descriptors
 
 pub record OutsideFact (c : Config) (me : ℕ) (trace : List Line) (v : SiteView) : Type 0 where
-  pub up : is_up (entries trace) me ≡ true
+  pub up : is_up c (entries trace) me ≡ true
   pub outside : epoch_of (entries trace) me ≡ None
   pub users : UsersOutside c me v.boot trace v.users
   pub copies : CopiesAreHeld c trace me v.store
@@ -90,7 +90,7 @@ SiteFact c me trace v = SiteIn c me trace v v.epoch
 -- ---- stopped ----
 
 pub record StoppedFact (c : Config) (me : ℕ) (trace : List Line) (d : Disk) : Type 0 where
-  pub stopped : is_up (entries trace) me ≡ false
+  pub stopped : is_up c (entries trace) me ≡ false
   pub outside : epoch_of (entries trace) me ≡ None
   pub idle : IsIdle c trace me
   pub descriptors : (process fd : ℕ) → descriptor (entries trace) me process fd ≡ None

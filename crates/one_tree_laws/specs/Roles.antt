@@ -90,7 +90,7 @@ CallsFine c n trace f o = Fine Users c n trace (IsOfUsers f.me) (UsersOf c f) No
 pub record UsersDo (c : Config) : Type 0 where
   pub calls : (n : ℕ) (trace : List Line) (f : Frame) (process : ℕ) (words : Call) (u : Users) → Ready c trace f → UsersOf c f trace u → MayCall c f.me process words u → AllRest c n trace (on_call f (Some f.epoch) process words u).told → CallsFine c n trace f (on_call f (Some f.epoch) process words u)
   -- in no epoch a call is answered at once
-  pub calls_outside : (n : ℕ) (trace : List Line) (me boot process : ℕ) (words : Call) (u : Users) → Past c trace → is_up (entries trace) me ≡ true → epoch_of (entries trace) me ≡ None → UsersOutside c me boot trace u → MayCall c me process words u → AllRest c n trace (on_call (call_frame c me boot None) None process words u).told →
+  pub calls_outside : (n : ℕ) (trace : List Line) (me boot process : ℕ) (words : Call) (u : Users) → Past c trace → is_up c (entries trace) me ≡ true → epoch_of (entries trace) me ≡ None → UsersOutside c me boot trace u → MayCall c me process words u → AllRest c n trace (on_call (call_frame c me boot None) None process words u).told →
       Fine Users c n trace (IsOfUsers me) (UsersOutside c me boot) NoWrite (on_call (call_frame c me boot None) None process words u)
   pub opened : (n : ℕ) (trace : List Line) (f : Frame) (p : Packet) (serial : ℕ) (a : Granted) (v : SiteView) → Ready c trace f → InsideFact c f trace v → Came c trace f p (body.OpenDone serial a) → AllRest c n trace (on_open_done f (kept_stamps v) serial a v.users).told → CallsFine c n trace f (on_open_done f (kept_stamps v) serial a v.users)
   pub acted : (n : ℕ) (trace : List Line) (f : Frame) (p : Packet) (serial k : ℕ) (r : Result) (u : Users) → Ready c trace f → UsersOf c f trace u → Came c trace f p (body.OpDone serial k r) → AllRest c n trace (on_op_done f serial k r u).told → CallsFine c n trace f (on_op_done f serial k r u)

@@ -36,6 +36,6 @@ pub fn user_steps_are_fine()
 /// A call that a line asks of a site in no epoch is accepted and ends at once, refused or with the close of what no instance holds: both come
 /// as they may, nothing is sent, and the site has then what it had, but for the descriptor that the call closes.
 pub fn calls_outside_end_at_once()
-    ensures { (c : Config) (n : ℕ) (trace : List Line) (me boot process : ℕ) (words : Call) (u : Users) → Past c trace → is_up (entries trace) me ≡ true → epoch_of (entries trace) me ≡ None → UsersOutside c me boot trace u → MayCall c me process words u → AllRest c n trace (on_call (call_frame c me boot None) None process words u).told →
+    ensures { (c : Config) (n : ℕ) (trace : List Line) (me boot process : ℕ) (words : Call) (u : Users) → Past c trace → is_up c (entries trace) me ≡ true → epoch_of (entries trace) me ≡ None → UsersOutside c me boot trace u → MayCall c me process words u → AllRest c n trace (on_call (call_frame c me boot None) None process words u).told →
         Fine Users c n trace (IsOfUsers me) (UsersOutside c me boot) NoWrite (on_call (call_frame c me boot None) None process words u) }
 {}

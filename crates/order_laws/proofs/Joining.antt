@@ -72,8 +72,8 @@ no_members : (m : Members) → ◌≡◌ {A = Option Members} None (Some m) → 
 no_members m e = cc
 
 -- every member that joins has the same list
-same_members : (before : Trace) (e : EpochId) (site : ℕ) (m old : Members) → MayJoin before site e m → members_of before e ≡ Some old → m ≡ old
-same_members before e site m old may are = ⊎_elim (λ (none : members_of before e ≡ None). absurd (no_members old (sym none ∙ are))) (λ (is : members_of before e ≡ Some m). some_same m old (sym is ∙ are)) may.same
+same_members : (c : Config) (before : Trace) (e : EpochId) (site : ℕ) (m old : Members) → MayJoin c before site e m → members_of before e ≡ Some old → m ≡ old
+same_members c before e site m old may are = ⊎_elim (λ (none : members_of before e ≡ None). absurd (no_members old (sym none ∙ are))) (λ (is : members_of before e ≡ Some m). some_same m old (sym is ∙ are)) may.same
 
 whole_next : (c : Config) (line : ℕ) (r : Record) (before : Trace) (e : EpochId) (g : ℕ) → MayCome c before r → Whole c before e g → Whole c (record { line = line; what = r } ∷ before) e g
 whole_next c line (says.Join s d m) before e g may w = record {
@@ -83,7 +83,7 @@ whole_next c line (says.Join s d m) before e g may w = record {
 }
   where
     over : (b : Bool) → same_epoch d e ≡ b → cond b (Some m) (members_of before e) ≡ Some w.members
-    over true k = (let is : d ≡ e = same_epoch_eq d e k in ap (λ (x : Members). Some x) (same_members before e s m w.members (subst (λ (x : EpochId). MayJoin before s x m) is may) w.are))
+    over true k = (let is : d ≡ e = same_epoch_eq d e k in ap (λ (x : Members). Some x) (same_members c before e s m w.members (subst (λ (x : EpochId). MayJoin c before s x m) is may) w.are))
     over false k = w.are
 whole_next c line r before e g may w = record { members = w.members; are = w.are; joined = w.joined }
 
@@ -183,5 +183,5 @@ no_pack_comes c before few rows e g site m started may = at (has_pack c g site) 
     at true k =
         let low : 1 ≤ boot_of before site = boot_low c before rows site in
         let least : 1 ≤ site = no_place (boot_of before site) m site may.member low in
-        let member : is_member whole.members site ≡ true = subst (λ (x : Members). is_member x site ≡ true) (same_members before e site m whole.members may whole.are) (is_place (boot_of before site) m site may.member low) in
+        let member : is_member whole.members site ≡ true = subst (λ (x : Members). is_member x site ≡ true) (same_members c before e site m whole.members may whole.are) (is_place (boot_of before site) m site may.member low) in
         absurd (true_false (sym (whole.joined site least (few_sites c g site few least k) member k) ∙ may.new))

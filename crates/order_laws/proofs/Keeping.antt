@@ -243,7 +243,7 @@ module _ (c : Config) (before : Trace) (few : PacksAreOfSites c) (rows : RowsAre
     where
       brings : same_epoch d t.epoch ≡ true → has_pack t.config t.group s ≡ false
       brings b = subst (λ (k : Config). has_pack k t.group s ≡ false) (sym (tree_config c e f.group before)) (subst (λ (g : ℕ). has_pack c g s ≡ false) (sym named.1)
-          (no_pack_comes c before few rows e f.group s m started (subst (λ (y : EpochId). MayJoin before s y m) (same_epoch_eq d t.epoch b ∙ named.0) may)))
+          (no_pack_comes c before few rows e f.group s m started (subst (λ (y : EpochId). MayJoin c before s y m) (same_epoch_eq d t.epoch b ∙ named.0) may)))
 
       over : (b : Bool) → same_epoch d t.epoch ≡ b → known_stamps f (cond b (joined s m t) (left s t)) ≡ known_stamps f t
       over true b = ap (λ (k : Bool). stamps_of (cond k (with_all (filter (λ (y : HeldCopy). y.site == s) (with_root t s)) t.known) t.known) f.ino) (brings b)

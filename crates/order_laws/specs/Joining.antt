@@ -15,4 +15,4 @@ PacksAreOfSites c = (group : ℕ) → (packs_of c group).0 < set_span
 
 -- a site that may still join an epoch in which the group has started has no pack of the group
 abbrev pub NoPackComes : Config → Trace → Type 0
-NoPackComes c before = (e : EpochId) (group site : ℕ) (members : Members) → (tree_of c e group before).started ≡ true → MayJoin before site e members → has_pack c group site ≡ false
+NoPackComes c before = (e : EpochId) (group site : ℕ) (members : Members) → (tree_of c e group before).started ≡ true → MayJoin c before site e members → has_pack c group site ≡ false

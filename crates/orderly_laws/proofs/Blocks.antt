@@ -1,5 +1,5 @@
 -- A block of lines by which sites start, and the round after it.
-use Rattle.std.proofs.Common.{◌≡◌, ◌≢◌, ℕ, ◌+◌, ◌≤◌, ◌==◌, ◌⊎◌, Bool, true, false, not, List, [], ◌∷◌, length, map, Option, Some, None, refl, sym, ◌∙◌, ap, subst, inl, inr, ◌<◌}
+use Rattle.std.proofs.Common.{◌≡◌, ◌≢◌, ℕ, ◌+◌, ◌⊎◌, Bool, true, false, not, List, [], ◌∷◌, length, Option, Some, None, refl, sym, ◌∙◌, ap, subst, inl, inr, ◌<◌}
 use Rattle.locus_ids.specs.declared.sites.Links.{Links}
 use Rattle.locus_ids.specs.declared.config.Config.{Config}
 use Rattle.locus_ids.specs.Sizes.{sites_max}
@@ -12,13 +12,12 @@ use Rattle.wire_messages.specs.declared.body.Body.TheVariants as body
 use Rattle.trace_book.specs.declared.record.Record.TheVariants as says
 use Rattle.std.specs.Option.{is_some}
 use Rattle.role_steps.proofs.of_plain_facts.Options.{none_some}
-use Rattle.role_steps.specs.Tables.{row}
 use Rattle.role_steps.specs.Views.{SiteView, DiskWrite, Outcome, Event, Receives, Ticks, Parts, Merges, GivesUp, Shown, boot_in}
 use Rattle.role_steps.specs.Epochs.{boots_where, merge_boot, part_boot}
 use Rattle.role_steps.specs.declared.rounds.InEpoch.{InEpoch}
 use Rattle.the_run.specs.Kept.{IsOwn}
 use Rattle.the_run.specs.Steps.{step}
-use Rattle.the_run.specs.Worlds.{World, Limit, Place, Running, Stopped, place_at, links_of, happened, puts, arms, passed, stops_with, acts_of, acts, happens, happens_at, place_in, place_site, fresh, first_place, formatted, first_world}
+use Rattle.the_run.specs.Worlds.{World, Limit, Place, Running, Stopped, place_at, links_of, happened, puts, arms, passed, stops_with, acts_of, acts, happens, happens_at, first_world}
 use Rattle.the_run.specs.Runs.{is_stopped, is_in_no_epoch, unless_void, settles, acts_line, run_from, run_in}
 use Rattle.the_run.proofs.Boots.{every_weaker}
 use Rattle.the_run.proofs.Events.{acts_keeps, puts_other, puts_same}
@@ -26,6 +25,7 @@ use Rattle.the_run.proofs.Runs.{every_run}
 use Rattle.epoch_laws.specs.Known.{Places, Good}
 use Rattle.epoch_laws.proofs.Boots.{boot_nowhere}
 use Rattle.epoch_laws.proofs.Run.{good_kept, run_good}
+use Rattle.epoch_laws.proofs.of_law_walks.FirstWorld.{first_views}
 use Rattle.orderly_laws.specs.Agreeing.{Agrees}
 use Rattle.orderly_laws.specs.Blocks.{asked_by_merge, asked_inside, asked_at, asked_by_part, StartsBy, IsInBlock, IsBlock, starts_of, StandApart, AreLinesApart, BlocksAgree, StartsNobody, QuietLasts}
 use Rattle.orderly_laws.specs.Numbers.{NumbersAscend}
@@ -35,7 +35,7 @@ use Rattle.orderly_laws.specs.Settling.{Starts, reaches, AreApart, IsLive, PollO
 use Rattle.orderly_laws.specs.Turn.{Turn}
 use Rattle.orderly_laws.proofs.ApartStarts.{Join, Within, apart_same, settling_same, with_apart, merge_others, part_others, merge_linked, part_linked}
 use Rattle.orderly_laws.proofs.Numbers.{ascend_kept, first_ascends}
-use Rattle.orderly_laws.proofs.Places.{view_eq, links_same}
+use Rattle.orderly_laws.proofs.Places.{links_same}
 use Rattle.orderly_laws.proofs.Quiet.{Still, act_still}
 use Rattle.orderly_laws.proofs.Rounds.{happened_cases, RoundKept, settles_kept}
 use Rattle.orderly_laws.proofs.Settles.{round_settles}
@@ -302,16 +302,8 @@ blocks_agree c before block most quiet is apart whole = block_agrees c (1 + leng
 
 -- ---- quiet lasts ----
 
-first_rounds : (c : Config) (ss : List ℕ) (s : ℕ) (v : SiteView) → place_in (row place_site s (map (first_place c) ss)) ≡ Some (Running v) → v.round ≡ None
-first_rounds c [] s v e = absurd (none_some (Running v) e)
-first_rounds c (t ∷ ts) s v e =
-    (elim (t == s) as (λ b. place_in (elim b [ true ↦ Some (first_place c t) | false ↦ row place_site s (map (first_place c) ts) ]) ≡ Some (Running v) → v.round ≡ None) [
-      | true ↦ λ f. ap (λ (y : SiteView). y.round) (sym (view_eq (Some (Running (fresh 1 (formatted c t)))) (fresh 1 (formatted c t)) v refl f))
-      | false ↦ λ f. first_rounds c ts s v f
-    ]) e
-
 pub first_quiet : (c : Config) → IsQuiet (first_world c)
-first_quiet c = record { rounds = λ s v e. first_rounds c _ s v e; sent = tt; underway = tt }
+first_quiet c = record { rounds = first_views c (λ s v. v.round ≡ None) (λ s own. refl); sent = tt; underway = tt }
 
 line_still : (c : Config) (n : ℕ) (x : ScheduleLine) (w : World) → StartsNobody x w → Still w → Still (acts_line c n x w)
 line_still c n Passed w none h = h

@@ -1,7 +1,6 @@
 -- At every moment of a run no site has counted many calls or opens.
-use Rattle.std.proofs.Common.{◌≡◌, ◌≤◌, ℕ, ◌+◌, ◌==◌, Bool, true, false, cond, ◌&&◌, not, List, [], ◌∷◌, ◌++◌, length, map, Option, Some, None, refl, sym, ◌∙◌, ap, subst, arith}
+use Rattle.std.proofs.Common.{◌≡◌, ◌≤◌, ℕ, ◌+◌, Bool, true, false, cond, ◌&&◌, not, List, [], ◌∷◌, ◌++◌, length, Option, Some, None, refl, sym, ◌∙◌, ap, subst, arith}
 use Rattle.std.proofs.lemmas.Bool.Decides.{nat_tests}
-use Rattle.role_steps.proofs.of_plain_facts.Options.{some_same}
 use Rattle.locus_ids.specs.declared.ids.EpochId.{EpochId}
 use Rattle.locus_ids.specs.declared.sites.Sites.{Sites}
 use Rattle.locus_ids.specs.declared.sites.Members.{Members}
@@ -29,12 +28,13 @@ use Rattle.role_steps.specs.declared.synchronizing.FileRow.{FileRow}
 use Rattle.the_run.specs.Disks.{Disk, Booted, Whole, CutOff, boots, cut_disk}
 use Rattle.the_run.specs.Kept.{Kept}
 use Rattle.the_run.specs.Steps.{in_order, at_table_of, is_opened_in, takes_inside, is_dropped, takes_framed, takes, adopts_of, tries_at, adopts_in, starts_mends_of, ends_event, whole, repeats, ticks_after, call_frame, epoch_id, takes_call, step}
-use Rattle.the_run.specs.Worlds.{World, Place, Running, Stopped, Limit, place_at, place_in, place_site, links_of, script_of, happened, happened_of, unless_over, limit_passed, told_size, packet_size, disk_of, puts, arms, passed, stops_with, cut_told, acts, fresh, formatted, first_place, first_world}
+use Rattle.the_run.specs.Worlds.{World, Place, Running, Stopped, Limit, place_at, links_of, script_of, happened, happened_of, unless_over, limit_passed, told_size, packet_size, disk_of, puts, arms, passed, stops_with, cut_told, acts, fresh, first_world}
 use Rattle.the_run.specs.Runs.{boots_as, run_in}
 use Rattle.the_run.proofs.Boots.{at_each, acts_cases}
 use Rattle.the_run.proofs.Events.{puts_other}
 use Rattle.the_run.proofs.Runs.{every_run}
-use Rattle.epoch_laws.proofs.Run.{running_view, stopped_never, none_never, place_there}
+use Rattle.epoch_laws.proofs.Run.{running_view, stopped_never, place_there}
+use Rattle.law_walks.proofs.FirstWorld.{first_views}
 use Rattle.packet_fit_laws.specs.Counts.{CountsAreLow}
 use Rattle.packet_fit_laws.proofs.Costs.{order_length, append_length, append_total}
 use Rattle.packet_fit_laws.proofs.Counts.{spent, Rises, spent_both, rises_then, same_counts, call_rise, open_done_rise, op_done_rise, close_done_rise, look_done_rise, as_held_rise}
@@ -333,16 +333,8 @@ counted_kept c = record {
   booting = λ n s d w here g. boots_counted n s (boots (script_of w s) d) w g;
 }
 
-first_counts : (c : Config) (ss : List ℕ) (s : ℕ) (v : SiteView) → place_in (row place_site s (map (first_place c) ss)) ≡ Some (Running v) → Counts 0 v
-first_counts c [] s v e = absurd (none_never v e)
-first_counts c (t ∷ ts) s v e =
-    (elim (t == s) as (λ b. place_in (elim b [ true ↦ Some (first_place c t) | false ↦ row place_site s (map (first_place c) ts) ]) ≡ Some (Running v) → Counts 0 v) [
-      | true ↦ λ f. subst (λ (y : SiteView). Counts 0 y) (running_view (fresh 1 (formatted c t)) v (some_same (Running (fresh 1 (formatted c t))) (Running v) f)) (omega arith, omega arith)
-      | false ↦ λ f. first_counts c ts s v f
-    ]) e
-
 pub first_counted : (c : Config) → Counted (first_world c)
-first_counted c = record { views = λ s v e. first_counts c _ s v e; room = omega arith }
+first_counted c = record { views = first_views c (λ s. Counts 0) (λ s own. (omega arith, omega arith)); room = omega arith }
 
 pub counts_low : (w : World) → Counted w → CountsAreLow w
 counts_low w g s v here = let k : Counts (size w) v = g.views s v here in record { calls = omega (arith, k.0, g.room); serials = omega (arith, k.1, g.room) }

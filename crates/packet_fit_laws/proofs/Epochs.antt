@@ -1,7 +1,7 @@
 -- Each new number of an epoch costs a packet or a record, and there is room for so many: so none is great.
-use Rattle.std.proofs.Common.{◌≡◌, ◌≤◌, ℕ, ◌+◌, ◌==◌, ◌⊎◌, true, false, List, [], ◌∷◌, length, map, Option, Some, None, refl, sym, ◌∙◌, ap, subst, inl, inr, arith}
+use Rattle.std.proofs.Common.{◌≡◌, ◌≤◌, ℕ, ◌+◌, ◌⊎◌, true, false, List, [], length, Option, Some, None, refl, sym, ◌∙◌, ap, subst, inl, inr, arith}
 use Rattle.std.proofs.lemmas.Bool.Decides.{nat_tests}
-use Rattle.role_steps.proofs.of_plain_facts.Options.{none_some, some_same}
+use Rattle.role_steps.proofs.of_plain_facts.Options.{none_some}
 use Rattle.locus_ids.specs.declared.ids.EpochId.{EpochId}
 use Rattle.locus_ids.specs.declared.sites.Links.{Links}
 use Rattle.locus_ids.specs.declared.config.Config.{Config}
@@ -11,7 +11,7 @@ use Rattle.wire_messages.specs.declared.packet.Packet.{Packet}
 use Rattle.wire_messages.specs.declared.body.Body.{Body}
 use Rattle.wire_messages.specs.declared.body.Body.TheVariants as body
 use Rattle.role_steps.specs.Own.{Every}
-use Rattle.role_steps.specs.Tables.{row, total}
+use Rattle.role_steps.specs.Tables.{total}
 use Rattle.role_steps.specs.Views.{SiteView, Told, Outcome, Event, Calls, Receives, Ticks, Parts, Merges, GivesUp}
 use Rattle.role_steps.specs.Epochs.{unanswered}
 use Rattle.role_steps.specs.declared.rounds.InEpoch.{InEpoch}
@@ -20,7 +20,7 @@ use Rattle.role_steps.proofs.Sending.{every_append}
 use Rattle.the_run.specs.Disks.{Disk, Booted, Whole, CutOff, boots, cut_disk}
 use Rattle.the_run.specs.Kept.{WasSent, IsOwn, Kept}
 use Rattle.the_run.specs.Steps.{is_dropped, step}
-use Rattle.the_run.specs.Worlds.{first_world, World, Place, Running, Stopped, Limit, Numbered, number_of, no_epoch, place_at, place_in, place_site, links_of, script_of, happened, happened_of, unless_over, limit_passed, numbered_from, told_size, packet_size, disk_of, puts, arms, passed, stops_with, cut_told, acts, fresh, formatted, first_place}
+use Rattle.the_run.specs.Worlds.{first_world, World, Place, Running, Stopped, Limit, Numbered, number_of, no_epoch, place_at, links_of, script_of, happened, happened_of, unless_over, limit_passed, numbered_from, told_size, packet_size, disk_of, puts, arms, passed, stops_with, cut_told, acts, fresh, formatted}
 use Rattle.the_run.specs.Runs.{boots_as, run_in}
 use Rattle.the_run.proofs.Boots.{at_each, acts_cases, every_newest, every_numbered, every_weaker}
 use Rattle.the_run.proofs.Events.{puts_other}
@@ -29,7 +29,8 @@ use Rattle.the_run.proofs.Runs.{every_run}
 use Rattle.run_laws.specs.Naming.{MayCome}
 use Rattle.run_laws.proofs.Run.{found_among}
 use Rattle.epoch_laws.specs.Forming.{TableFormless}
-use Rattle.epoch_laws.proofs.Run.{running_view, stopped_never, none_never, place_there}
+use Rattle.epoch_laws.proofs.Run.{running_view, stopped_never, place_there}
+use Rattle.law_walks.proofs.FirstWorld.{first_views}
 use Rattle.packet_fit_laws.specs.Fields.{IsSite, IsBoot}
 use Rattle.packet_fit_laws.proofs.Places.{Placed, placed_kept, first_placed, own_place}
 use Rattle.packet_fit_laws.specs.Epochs.{IsUpTo, NamesUpTo, PacketIsUpTo, NumberedIsUpTo, EpochsAreLow, NextEpochsAreLow}
@@ -249,16 +250,8 @@ counted_kept c = record {
 
 -- ---- the first world ----
 
-first_views : (c : Config) (ss : List ℕ) (s : ℕ) (v : SiteView) → place_in (row place_site s (map (first_place c) ss)) ≡ Some (Running v) → Site (IdFits 0) v
-first_views c [] s v e = absurd (none_never v e)
-first_views c (t ∷ ts) s v e =
-    (elim (t == s) as (λ b. place_in (elim b [ true ↦ Some (first_place c t) | false ↦ row place_site s (map (first_place c) ts) ]) ≡ Some (Running v) → Site (IdFits 0) v) [
-      | true ↦ λ f. subst (λ (y : SiteView). Site (IdFits 0) y) (running_view (fresh 1 (formatted c t)) v (some_same (Running (fresh 1 (formatted c t))) (Running v) f)) (fresh_site 0 (fresh 1 (formatted c t)) refl refl refl tt)
-      | false ↦ λ f. first_views c ts s v f
-    ]) e
-
 pub first_counted : (c : Config) → Counted (first_world c)
-first_counted c = record { placed = first_placed c; sent = tt; underway = tt; views = λ s v e. first_views c _ s v e; room = omega arith }
+first_counted c = record { placed = first_placed c; sent = tt; underway = tt; views = first_views c (λ s. Site (IdFits 0)) (λ s own. fresh_site 0 (fresh 1 (formatted c s)) refl refl refl tt); room = omega arith }
 
 pub run_counted : (c : Config) (lines : List ScheduleLine) → Counted (run_in c lines)
 run_counted c lines = every_run c Counted (counted_kept c) (first_counted c) lines

@@ -1,6 +1,6 @@
 -- In every run, packets are of the format: those by which sites agree on an epoch as a whole, and of others what says from whom and to whom they are.
-use Rattle.std.proofs.Common.{◌≡◌, ◌≤◌, ℕ, suc, ◌+◌, ◌==◌, true, false, List, [], ◌∷◌, map, Some, None, refl, sym, ◌∙◌, ap, subst, inl, inr, arith}
-use Rattle.role_steps.proofs.of_plain_facts.Options.{none_some, some_same}
+use Rattle.std.proofs.Common.{◌≡◌, ◌≤◌, ℕ, suc, ◌+◌, List, [], Some, None, refl, sym, ◌∙◌, ap, subst, inl, inr, arith}
+use Rattle.role_steps.proofs.of_plain_facts.Options.{none_some}
 use Rattle.locus_ids.specs.declared.ids.EpochId.{EpochId}
 use Rattle.locus_ids.specs.declared.config.Config.{Config}
 use Rattle.locus_ids.specs.Sizes.{sites_max}
@@ -14,14 +14,13 @@ use Rattle.wire_messages.specs.declared.body.Body.TheVariants as body
 use Rattle.wire_messages.specs.Bodies.{FitsBody}
 use Rattle.wire_messages.specs.Packets.{FitsPacket}
 use Rattle.role_steps.specs.Own.{Every, IsOwn as IsOwnPacket}
-use Rattle.role_steps.specs.Tables.{row}
 use Rattle.role_steps.specs.Views.{SiteView, Told, Outcome, Event, Calls, Receives, Ticks, Parts, Merges, GivesUp, boot_in}
 use Rattle.role_steps.proofs.Sending.{every_append}
 use Rattle.the_run.specs.Disks.{Disk, Booted, Whole, CutOff, boots, cut_disk}
 use Rattle.the_run.specs.Laws.{boot_on, boot_number}
 use Rattle.the_run.specs.Kept.{WasSent, IsOwn, Kept}
 use Rattle.the_run.specs.Steps.{step}
-use Rattle.the_run.specs.Worlds.{first_world, World, Place, Running, Stopped, Numbered, number_of, place_at, place_in, place_site, links_of, script_of, happened, numbered_from, disk_of, puts, arms, passed, stops_with, cut_told, acts, fresh, formatted, first_place}
+use Rattle.the_run.specs.Worlds.{first_world, World, Place, Running, Stopped, Numbered, number_of, place_at, links_of, script_of, happened, numbered_from, disk_of, puts, arms, passed, stops_with, cut_told, acts, fresh, formatted}
 use Rattle.the_run.specs.Runs.{boots_as, run_in}
 use Rattle.the_run.proofs.Boots.{Reached, boots_reached, at_each, acts_cases, every_newest, every_numbered}
 use Rattle.the_run.proofs.Events.{happened_keeps, puts_other}
@@ -32,10 +31,11 @@ use Rattle.run_laws.specs.Naming.{MayCome}
 use Rattle.run_laws.proofs.Run.{found_among}
 use Rattle.epoch_laws.specs.Forming.{TableFormless}
 use Rattle.epoch_laws.proofs.Parts.{every_both}
-use Rattle.epoch_laws.proofs.Run.{running_view, stopped_never, none_never, place_there}
+use Rattle.epoch_laws.proofs.Run.{running_view, stopped_never, place_there}
 use Rattle.packet_fit.proofs.Boots.{boots_fit}
 use Rattle.packet_fit.proofs.ShortBodies.{short}
 use Rattle.run_laws.specs.Boots.{booted_number}
+use Rattle.law_walks.proofs.FirstWorld.{first_views}
 use Rattle.packet_fit_laws.specs.Fields.{IsSite, IsBoot, AreBoots, StartFits, EndFits, GoesBack, Agrees, FitsInPart, PacketsFitInPart, NextPacketsFit}
 use Rattle.run_laws.proofs.Boots.{boots_most}
 use Rattle.packet_fit_laws.proofs.Places.{Placed, low_boot, placed_kept, first_placed, own_place, links_low}
@@ -219,16 +219,8 @@ good_kept c = record {
 
 -- ---- the first world ----
 
-first_views : (c : Config) (ss : List ℕ) (s : ℕ) (v : SiteView) → place_in (row place_site s (map (first_place c) ss)) ≡ Some (Running v) → Site v
-first_views c [] s v e = absurd (none_never v e)
-first_views c (t ∷ ts) s v e =
-    (elim (t == s) as (λ b. place_in (elim b [ true ↦ Some (first_place c t) | false ↦ row place_site s (map (first_place c) ts) ]) ≡ Some (Running v) → Site v) [
-      | true ↦ λ f. subst Site (running_view (fresh 1 (formatted c t)) v (some_same (Running (fresh 1 (formatted c t))) (Running v) f)) (fresh_site (fresh 1 (formatted c t)) (omega arith, omega arith) refl refl tt tt)
-      | false ↦ λ f. first_views c ts s v f
-    ]) e
-
 pub first_good : (c : Config) → Good (first_world c)
-first_good c = record { placed = first_placed c; sent = tt; underway = tt; views = λ s v e. first_views c _ s v e }
+first_good c = record { placed = first_placed c; sent = tt; underway = tt; views = first_views c (λ s. Site) (λ s own. fresh_site (fresh 1 (formatted c s)) (omega arith, omega arith) refl refl tt tt) }
 
 run_good : (c : Config) (lines : List ScheduleLine) → Good (run_in c lines)
 run_good c lines = every_run c Good (good_kept c) (first_good c) lines

@@ -1,24 +1,21 @@
 -- Who runs is one of sixteen sites, in a boot that isn't great.
-use Rattle.std.proofs.Common.{◌≡◌, ◌≤◌, ℕ, ◌+◌, ◌==◌, nat_lt, Bool, true, false, List, [], ◌∷◌, map, filter, Option, Some, None, refl, sym, ◌∙◌, ap, subst, arith}
+use Rattle.std.proofs.Common.{◌≡◌, ◌≤◌, ℕ, ◌+◌, List, [], Some, None, sym, ◌∙◌, ap, subst, arith}
 use Rattle.locus_ids.specs.declared.config.Config.{Config}
 use Rattle.wire_messages.specs.declared.packet.Packet.{Packet}
-use Rattle.role_steps.specs.Own.{Every}
-use Rattle.role_steps.specs.Tables.{row}
-use Rattle.role_steps.specs.Views.{SiteView, Told, Outcome, Receives, boot_in, all_sites}
-use Rattle.role_steps.proofs.Counted.{every_site}
+use Rattle.role_steps.specs.Views.{SiteView, Told, Outcome, Receives, boot_in}
 use Rattle.the_run.specs.Disks.{Disk, Booted, Whole, CutOff, boots, cut_disk}
 use Rattle.the_run.specs.Kept.{Kept}
 use Rattle.the_run.specs.Laws.{boot_on, boot_number}
 use Rattle.the_run.specs.Steps.{step}
-use Rattle.the_run.specs.Worlds.{World, Place, PlaceRow, Running, Stopped, place_at, place_in, place_site, links_of, script_of, happened, disk_of, puts, arms, passed, stops_with, cut_told, acts, first_place, first_world}
+use Rattle.the_run.specs.Worlds.{World, Place, Running, Stopped, place_at, links_of, script_of, happened, disk_of, puts, arms, passed, stops_with, cut_told, acts, first_world}
 use Rattle.the_run.specs.Runs.{boots_as}
 use Rattle.the_run.proofs.Boots.{at_each, acts_cases}
 use Rattle.the_run.proofs.Events.{happened_keeps, puts_other}
 use Rattle.epoch_laws.specs.Known.{Good as Known, ViewFact}
 use Rattle.epoch_laws.proofs.Run.{good_kept, first_good, links_had}
+use Rattle.law_walks.proofs.FirstWorld.{first_places}
 use Rattle.packet_fit_laws.specs.Fields.{IsSite, IsBoot}
 use Rattle.run_laws.proofs.Boots.{Low, low_kept, first_low}
-use Rattle.packet_fit_laws.proofs.Lists.{every_kept}
 
 -- ---- sites ----
 
@@ -60,22 +57,8 @@ sites_kept c = record {
 
 -- ---- the first world ----
 
-first_of : (c : Config) (ss : List ℕ) → Every IsSite ss → (s : ℕ) (p : Place) → place_in (row place_site s (map (first_place c) ss)) ≡ Some p → IsSite s
-first_of c [] h s p e = absurd (none_some p e)
-  where
-    none_some : (p : Place) → ◌≡◌ {A = Option Place} None (Some p) → ⊥
-    none_some p e = cc
-first_of c (t ∷ ts) h s p e = by_test (t == s) refl e (first_of c ts h.1 s p)
-  where
-    same_site : (a b : ℕ) → (a == b) ≡ true → a ≡ b
-    same_site a b f = grind arith
-
-    by_test : (b : Bool) → (t == s) ≡ b → place_in (elim b as (λ (x : Bool). Option PlaceRow) [ true ↦ Some (first_place c t) | false ↦ row place_site s (map (first_place c) ts) ]) ≡ Some p → (place_in (row place_site s (map (first_place c) ts)) ≡ Some p → IsSite s) → IsSite s
-    by_test true f g rest = subst IsSite (same_site t s f) h.0
-    by_test false f g rest = rest g
-
 first_sites : (c : Config) → AreSites (first_world c)
-first_sites c = first_of c (filter (λ (t : ℕ). nat_lt t (c.sites + 1)) all_sites) (every_kept IsSite (λ (t : ℕ). nat_lt t (c.sites + 1)) all_sites (every_site IsSite (λ s low high. (low, high))))
+first_sites c = first_places c (λ s p. IsSite s) (λ s own. own.0)
 
 -- ---- all of it ----
 

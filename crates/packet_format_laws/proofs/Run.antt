@@ -1,5 +1,5 @@
 -- In every run, all that sites have and have sent is of the format.
-use Rattle.std.proofs.Common.{◌≡◌, ◌≤◌, ◌<◌, ◌^◌, ◌⊎◌, ℕ, ◌+◌, ◌*◌, ◌-◌, ◌==◌, nat_lt, Bool, true, false, cond, not, List, [], ◌∷◌, ◌++◌, length, map, filter, Option, None, Some, refl, sym, ◌∙◌, ap, subst, arith, inl, inr}
+use Rattle.std.proofs.Common.{◌≡◌, ◌≤◌, ◌<◌, ◌^◌, ◌⊎◌, ℕ, ◌+◌, ◌*◌, ◌-◌, ◌==◌, Bool, true, false, cond, not, List, [], ◌∷◌, ◌++◌, length, map, filter, Option, None, Some, refl, sym, ◌∙◌, ap, subst, arith, inl, inr}
 use Rattle.std.proofs.lemmas.Bool.Decides.{nat_tests}
 use Rattle.std.proofs.lemmas.Nat.Bits.{bit_at-zero}
 use Rattle.role_steps.proofs.of_plain_facts.Tests.{true_false}
@@ -18,8 +18,8 @@ use Rattle.wire_fields.proofs.Members.{in_range}
 use Rattle.wire_messages.specs.declared.packet.Packet.{Packet}
 use Rattle.role_steps.specs.Own.{Every}
 use Rattle.role_steps.specs.Storage.{copy_key}
-use Rattle.role_steps.specs.Tables.{row, with_row}
-use Rattle.role_steps.specs.Views.{Calls, DiskWrite, Event, GivesUp, Merges, Outcome, Parts, Receives, Shown, SiteView, Ticks, Told, all_groups, all_sites, pack_sites}
+use Rattle.role_steps.specs.Tables.{with_row}
+use Rattle.role_steps.specs.Views.{Calls, DiskWrite, Event, GivesUp, Merges, Outcome, Parts, Receives, Shown, SiteView, Ticks, Told, all_groups, pack_sites}
 use Rattle.role_steps.specs.declared.copies.FileCopy.{FileCopy}
 use Rattle.role_steps.specs.declared.rounds.InEpoch.{InEpoch}
 use Rattle.role_steps.proofs.Sending.{every_append}
@@ -27,7 +27,7 @@ use Rattle.the_run.specs.Disks.{Armed, Booted, CutOff, Disk, Whole, boots, cut_d
 use Rattle.the_run.specs.Kept.{IsOwn}
 use Rattle.the_run.specs.Runs.{boots_as, packet_record, rearms, run_in}
 use Rattle.the_run.specs.Steps.{step}
-use Rattle.the_run.specs.Worlds.{CutCircuit, Line, Numbered, Place, PlaceRow, Running, Stopped, World, acts, arms, cut_told, disk_of, first_place, first_world, formatted, fresh, happened, links_of, is_between, loses, newest_onto, number_of, numbered_from, passed, place_at, place_in, place_site, puts, root_copy, script_of, stops_with, told_onto}
+use Rattle.the_run.specs.Worlds.{CutCircuit, Line, Numbered, Place, Running, Stopped, World, acts, arms, cut_told, disk_of, first_world, formatted, fresh, happened, links_of, is_between, loses, newest_onto, number_of, numbered_from, passed, place_at, puts, root_copy, script_of, stops_with, told_onto}
 use Rattle.the_run.proofs.Boots.{acts_cases, at_each, every_newest, every_numbered, every_weaker}
 use Rattle.the_run.proofs.Events.{happened_keeps, puts_other, puts_same}
 use Rattle.the_run.proofs.InsideSync.{every_without}
@@ -47,7 +47,6 @@ use Rattle.rest_laws.specs.of_one_tree_laws.Places.{SiteIn, WorldFact}
 use Rattle.rest_laws.specs.of_one_tree_laws.Rest.{IsRest, Past}
 use Rattle.rest_laws.specs.of_one_tree_laws.Roles.{EventFact, RolesDo}
 use Rattle.rest_laws.proofs.of_one_tree_laws.Composing.{rest_before}
-use Rattle.rest_laws.proofs.of_one_tree_laws.Rising.{every_among, row_key}
 use Rattle.rest_laws.proofs.of_one_tree_laws.Run.{arrives_fact, event_fact, first_holds, kept}
 use Rattle.rest_laws.proofs.of_one_tree_laws.Staying.{stays}
 use Rattle.rest_laws.proofs.of_one_tree_laws.Worlds.{Holds}
@@ -64,6 +63,7 @@ use Rattle.packet_value_laws.specs.Bodies.{NamesNone}
 use Rattle.packet_value_laws.specs.Values.{CopiesFit, CopyFits, RisesFrom, SiteValues}
 use Rattle.packet_value_laws.proofs.Fields.{every_some, ino_fits, none_fits, nothing_fits, size_fits}
 use Rattle.packet_value_laws.proofs.Steps.{Done, NamesIn, Sent}
+use Rattle.rest_laws.proofs.of_vector_laws.of_law_walks.FirstWorld.{first_places}
 use Rattle.packet_format_laws.proofs.Standing.{EventStands, NamesKnown, NumberedStands, PacketStands, PlaceStands, ValuesStand, next_done, next_packets, sent_stands}
 
 -- ---- the members of an epoch stay known ----
@@ -315,24 +315,13 @@ formatted_fits c packs s = record {
     test : ℕ → Bool
     test g = has (pack_sites c g) s
 
-first_rows : (c : Config) → PacksAreOfSites c → (ss : List ℕ) → Every (λ (r : PlaceRow). PlaceStands c r.place) (map (first_place c) ss)
-first_rows c packs [] = tt
-first_rows c packs (s ∷ ss) = (fresh_values c 1 (formatted c s) (formatted_fits c packs s), first_rows c packs ss)
-
-none_place : (p : Place) → ◌≡◌ {A = Option Place} None (Some p) → ⊥
-none_place p e = cc
-
-place_found : (c : Config) (xs : List PlaceRow) (s : ℕ) (p : Place) → Every (λ (r : PlaceRow). PlaceStands c r.place) xs → (o : Option PlaceRow) → row place_site s xs ≡ o → place_in o ≡ Some p → PlaceStands c p
-place_found c xs s p h None e k = absurd (none_place p k)
-place_found c xs s p h (Some r) e k = subst (PlaceStands c) (some_place r.place p k) (every_among (λ (x : PlaceRow). PlaceStands c x.place) r xs (row_key place_site s xs r e).0 h)
-
 pub first_stand : (c : Config) → RolesDo c → PacketsStand c (first_world c)
 first_stand c roles = record {
   holds = first_holds c roles;
   good = first_good c;
   counts = first_counted c;
   calling = first_calling c;
-  values = λ r fo. ((λ s p e. place_found c (first_world c).places s p (first_rows c r.packs (filter (λ (t : ℕ). nat_lt t (c.sites + 1)) all_sites)) (row place_site s (first_world c).places) refl e), tt, tt);
+  values = λ r fo. (first_places c (λ s. PlaceStands c) (λ s own. fresh_values c 1 (formatted c s) (formatted_fits c r.packs s)), tt, tt);
 }
 
 -- ---- every run, and every moment ----

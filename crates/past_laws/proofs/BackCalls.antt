@@ -46,7 +46,7 @@ none_of : (site process : ℕ) (ks : List CallSoFar) → list_any (waits_at site
 none_of site process ks h = find_mapped waiting_as (is_of site process) (filter (λ (k : CallSoFar). k.waits) ks)
     ∙ (ap (option_map waiting_as) (find_both (λ (k : CallSoFar). is_of site process (waiting_as k)) (λ (k : CallSoFar). k.waits) ks ∙ none_finds (waits_at site process) ks h))
 
-pub back_accept : (c : Config) (before : Trace) (p : Past) (site process : ℕ) (id : CallId) → Agrees c before p → is_of_cluster c site ≡ true → may_accept p site process id ≡ true → MayAccept before site process id
+pub back_accept : (c : Config) (before : Trace) (p : Past) (site process : ℕ) (id : CallId) → Agrees c before p → is_of_cluster c site ≡ true → may_accept p site process id ≡ true → MayAccept c before site process id
 back_accept c before p site process id a ours h =
     let there = of_cluster_there c p.sites site a.sites.numbers ours in
     let up = both_parts (site_at p site).up _ h in

@@ -39,7 +39,7 @@ pub not_so : (b : Bool) → not b ≡ true → b ≡ false
 not_so true h = sym h
 not_so false h = refl
 
-pub back_up : (c : Config) (before : Trace) (p : Past) (site boot : ℕ) → Agrees c before p → may_follow c p (rec.Up site boot) ≡ true → MayBoot before site boot
+pub back_up : (c : Config) (before : Trace) (p : Past) (site boot : ℕ) → Agrees c before p → may_follow c p (rec.Up site boot) ≡ true → MayBoot c before site boot
 back_up c before p site boot a h =
     let parts = both_parts (is_there p site) _ h in
     let more = both_parts (not (site_at p site).up) _ parts.1 in
@@ -48,7 +48,7 @@ back_up c before p site boot a h =
       above = ap (λ n. nat_lt n boot) (sym (a.sites.boot site parts.0)) ∙ more.1;
     }
 
-pub back_stopped : (c : Config) (before : Trace) (p : Past) (site : ℕ) (why : StopCause) → Agrees c before p → is_of_cluster c site ≡ true → may_follow c p (rec.Stopped site why) ≡ true → StopRow before site why
+pub back_stopped : (c : Config) (before : Trace) (p : Past) (site : ℕ) (why : StopCause) → Agrees c before p → is_of_cluster c site ≡ true → may_follow c p (rec.Stopped site why) ≡ true → StopRow c before site why
 back_stopped c before p site cause.Asked a ours h = record { up = sym (a.sites.up site (site_there c before p site a ours)) ∙ h }
 back_stopped c before p site cause.Fuse a ours h = tt
 back_stopped c before p site cause.Fault a ours h = tt
@@ -74,7 +74,7 @@ members_back c before p e members a h = over (find (is_epoch e) p.epochs) refl
     over (Some t) f = inr (sym (a.epochs.members e) ∙ (ap (option_map (λ (x : Epoch). x.members)) f ∙ ap (λ bs. Some (record { boot = bs }))
         ((bytes_eq-Decides t.members.boot members.boot).0 (both_parts (bytes_eq t.members.boot members.boot) true (subst (λ (ts : List Epoch). list_all (λ (x : Epoch). bytes_eq x.members.boot members.boot) ts ≡ true) (only_one (is_epoch e) p.epochs t (a.epochs.once e) f) h)).0)))
 
-pub back_join : (c : Config) (before : Trace) (p : Past) (site : ℕ) (e : EpochId) (members : Members) → Agrees c before p → is_of_cluster c site ≡ true → may_follow c p (rec.Join site e members) ≡ true → MayJoin before site e members
+pub back_join : (c : Config) (before : Trace) (p : Past) (site : ℕ) (e : EpochId) (members : Members) → Agrees c before p → is_of_cluster c site ≡ true → may_follow c p (rec.Join site e members) ≡ true → MayJoin c before site e members
 back_join c before p site e members a ours h =
     let there = site_there c before p site a ours in
     let up = both_parts (site_at p site).up _ h in

@@ -59,7 +59,7 @@ site_number p site h = (let f = any_finds (λ (s : Site). s.number == site) p.si
 pub next_same : (c : Config) (before : Trace) (p : Past) (site : ℕ) → Agrees c before p → is_there p site ≡ true → next_call (site_at p site) ≡ next_of before site
 next_same c before p site a there = λ i. record { site = site_number p site there i; boot = a.sites.boot site there i; n = a.sites.accepted site i + 1 }
 
-pub row_accept : (c : Config) (before : Trace) (p : Past) (site process : ℕ) (id : CallId) → Agrees c before p → is_of_cluster c site ≡ true → MayAccept before site process id → may_accept p site process id ≡ true
+pub row_accept : (c : Config) (before : Trace) (p : Past) (site process : ℕ) (id : CallId) → Agrees c before p → is_of_cluster c site ≡ true → MayAccept c before site process id → may_accept p site process id ≡ true
 row_accept c before p site process id a ours may = (let there = of_cluster_there c p.sites site a.sites.numbers ours in
     both (site_at p site).up _ (a.sites.up site there ∙ may.up)
     (both (not (list_any (waits_at site process) p.calls)) _ (ap not (none_waits site process p.calls (ap (waiting_of site process) a.calls.waits ∙ may.idle)))

@@ -26,13 +26,13 @@ use Rattle.past_laws.proofs.Sites.{of_cluster_there}
 pub site_there : (c : Config) (before : Trace) (p : Past) (site : ℕ) → Agrees c before p → is_of_cluster c site ≡ true → is_there p site ≡ true
 site_there c before p site a ours = of_cluster_there c p.sites site a.sites.numbers ours
 
-pub row_up : (c : Config) (before : Trace) (p : Past) (site boot : ℕ) → Agrees c before p → is_of_cluster c site ≡ true → MayBoot before site boot → may_follow c p (rec.Up site boot) ≡ true
+pub row_up : (c : Config) (before : Trace) (p : Past) (site boot : ℕ) → Agrees c before p → is_of_cluster c site ≡ true → MayBoot c before site boot → may_follow c p (rec.Up site boot) ≡ true
 row_up c before p site boot a ours may =
     let there = site_there c before p site a ours in
     both (is_there p site) _ there
     (both (not (site_at p site).up) _ (ap not (a.sites.up site there ∙ may.stopped)) (ap (λ n. nat_lt n boot) (a.sites.boot site there) ∙ may.above))
 
-pub row_stopped : (c : Config) (before : Trace) (p : Past) (site : ℕ) (why : StopCause) → Agrees c before p → is_of_cluster c site ≡ true → StopRow before site why → may_follow c p (rec.Stopped site why) ≡ true
+pub row_stopped : (c : Config) (before : Trace) (p : Past) (site : ℕ) (why : StopCause) → Agrees c before p → is_of_cluster c site ≡ true → StopRow c before site why → may_follow c p (rec.Stopped site why) ≡ true
 row_stopped c before p site cause.Asked a ours may = a.sites.up site (site_there c before p site a ours) ∙ may.up
 row_stopped c before p site cause.Fuse a ours may = site_there c before p site a ours
 row_stopped c before p site cause.Fault a ours may = site_there c before p site a ours
@@ -58,7 +58,7 @@ same_members c before p e members a same = over (find (is_epoch e) p.epochs) ref
     over (Some t) f (inr h) = all_of_one (λ (x : Epoch). bytes_eq x.members.boot members.boot) (filter (is_epoch e) p.epochs) t (only_one (is_epoch e) p.epochs t (a.epochs.once e) f)
         ((bytes_eq-Decides t.members.boot members.boot).1 (ap (λ (m : Members). m.boot) (some_same t.members members (sym (own t f) ∙ h))))
 
-pub row_join : (c : Config) (before : Trace) (p : Past) (site : ℕ) (e : EpochId) (members : Members) → Agrees c before p → is_of_cluster c site ≡ true → MayJoin before site e members → may_follow c p (rec.Join site e members) ≡ true
+pub row_join : (c : Config) (before : Trace) (p : Past) (site : ℕ) (e : EpochId) (members : Members) → Agrees c before p → is_of_cluster c site ≡ true → MayJoin c before site e members → may_follow c p (rec.Join site e members) ≡ true
 row_join c before p site e members a ours may =
     let there = site_there c before p site a ours in
     both (site_at p site).up _ (a.sites.up site there ∙ may.up)

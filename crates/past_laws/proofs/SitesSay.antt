@@ -33,14 +33,14 @@ table_in s process fd = option_map (λ (d : Named). d.names) (find (λ (d : Name
 
 pub record SitesSay (c : Config) (trace : Trace) (sites : List Site) : Type 0 where
   pub numbers : map (λ (s : Site). s.number) sites ≡ numbers_from 1 c.sites
-  pub up : (z : ℕ) → is_there_in sites z ≡ true → (site_in sites z).up ≡ is_up trace z
+  pub up : (z : ℕ) → is_there_in sites z ≡ true → (site_in sites z).up ≡ is_up c trace z
   pub boot : (z : ℕ) → is_there_in sites z ≡ true → (site_in sites z).boot ≡ boot_of trace z
   pub epoch : (z : ℕ) → (site_in sites z).epoch ≡ epoch_of trace z
   pub joined : (z : ℕ) → (site_in sites z).joined ≡ last_joined trace z
   pub accepted : (z : ℕ) → (site_in sites z).accepted ≡ calls_accepted trace z
   pub held : (z : ℕ) → is_there_in sites z ≡ true → (f : FileId) → stamp_in (site_in sites z).held f ≡ held_by c trace z f
   pub table : (z process fd : ℕ) → table_in (site_in sites z) process fd ≡ descriptor trace z process fd
-  pub down : (z : ℕ) → is_up trace z ≡ false → epoch_of trace z ≡ None
+  pub down : (z : ℕ) → is_up c trace z ≡ false → epoch_of trace z ≡ None
 
 pub said_of_past : (c : Config) (trace : Trace) (p : Past) → SitesAgree c trace p → SitesSay c trace p.sites
 said_of_past c trace p s = record { numbers = s.numbers; up = s.up; boot = s.boot; epoch = s.epoch; joined = s.joined; accepted = s.accepted; held = s.held; table = s.table; down = s.down }

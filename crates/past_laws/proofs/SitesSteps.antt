@@ -29,18 +29,18 @@ entry line what = record { line = line; what = what }
 abbrev pub booted : ℕ → Site → Site
 booted boot x = record x { up = true; boot = boot; joined = None; accepted = 0 }
 
-pub sites_up : (c : Config) (line s boot : ℕ) (before : Trace) (sites : List Site) → SitesSay c before sites → is_there_in sites s ≡ true → is_up before s ≡ false
+pub sites_up : (c : Config) (line s boot : ℕ) (before : Trace) (sites : List Site) → SitesSay c before sites → is_there_in sites s ≡ true → is_up c before s ≡ false
     → SitesSay c (entry line (Up s boot) ∷ before) (change (has_number s) (booted boot) sites)
 sites_up c line s boot before sites say there stopped = record {
   numbers = numbers_still s (booted boot) (λ x. refl) sites ∙ say.numbers;
-  up = λ z h. part_step (λ (x : Site). x.up) (λ b. true) s z (booted boot) (λ x. refl) (λ x. refl) sites there (is_up before z) (say.up z (was z h)) ∙ or_choice (s == z) (is_up before z);
+  up = λ z h. part_step (λ (x : Site). x.up) (λ b. true) s z (booted boot) (λ x. refl) (λ x. refl) sites there (is_up c before z) (say.up z (was z h)) ∙ or_choice (s == z) (is_up c before z);
   boot = λ z h. part_step (λ (x : Site). x.boot) (λ n. boot) s z (booted boot) (λ x. refl) (λ x. refl) sites there (boot_of before z) (say.boot z (was z h));
   epoch = λ z. part_still (λ (x : Site). x.epoch) s z (booted boot) (λ x. refl) (λ x. refl) sites ∙ (say.epoch z ∙ chosen_old (s == z) None (epoch_of before z) (λ e. subst (λ n. epoch_of before n ≡ None) (number_eq s z e) (say.down s stopped)));
   joined = λ z. part_step (λ (x : Site). x.joined) (λ o. None) s z (booted boot) (λ x. refl) (λ x. refl) sites there (last_joined before z) (say.joined z);
   accepted = λ z. part_step (λ (x : Site). x.accepted) (λ n. 0) s z (booted boot) (λ x. refl) (λ x. refl) sites there (calls_accepted before z) (say.accepted z);
   held = λ z h f. part_still (λ (x : Site). stamp_in x.held f) s z (booted boot) (λ x. refl) (λ x. refl) sites ∙ say.held z (was z h) f;
   table = λ z process fd. part_still (λ (x : Site). table_in x process fd) s z (booted boot) (λ x. refl) (λ x. refl) sites ∙ say.table z process fd;
-  down = λ z h. chosen_none (s == z) (epoch_of before z) (say.down z (other (s == z) (is_up before z) h));
+  down = λ z h. chosen_none (s == z) (epoch_of before z) (say.down z (other (s == z) (is_up c before z) h));
 }
   where
     was : (z : ℕ) → is_there_in (change (has_number s) (booted boot) sites) z ≡ true → is_there_in sites z ≡ true
@@ -59,14 +59,14 @@ pub sites_stopped : (c : Config) (line s : ℕ) (why : StopCause) (before : Trac
     → SitesSay c (entry line (Stopped s why) ∷ before) (change (has_number s) halted sites)
 sites_stopped c line s why before sites say there = record {
   numbers = numbers_still s halted (λ x. refl) sites ∙ say.numbers;
-  up = λ z h. part_step (λ (x : Site). x.up) (λ b. false) s z halted (λ x. refl) (λ x. refl) sites there (is_up before z) (say.up z (was z h)) ∙ not_choice (s == z) (is_up before z);
+  up = λ z h. part_step (λ (x : Site). x.up) (λ b. false) s z halted (λ x. refl) (λ x. refl) sites there (is_up c before z) (say.up z (was z h)) ∙ not_choice (s == z) (is_up c before z);
   boot = λ z h. part_still (λ (x : Site). x.boot) s z halted (λ x. refl) (λ x. refl) sites ∙ say.boot z (was z h);
   epoch = λ z. part_step (λ (x : Site). x.epoch) (λ o. None) s z halted (λ x. refl) (λ x. refl) sites there (epoch_of before z) (say.epoch z);
   joined = λ z. part_still (λ (x : Site). x.joined) s z halted (λ x. refl) (λ x. refl) sites ∙ say.joined z;
   accepted = λ z. part_still (λ (x : Site). x.accepted) s z halted (λ x. refl) (λ x. refl) sites ∙ say.accepted z;
   held = λ z h f. part_still (λ (x : Site). stamp_in x.held f) s z halted (λ x. refl) (λ x. refl) sites ∙ say.held z (was z h) f;
   table = λ z process fd. part_step (λ (x : Site). table_in x process fd) (λ o. None) s z halted (λ x. refl) (λ x. refl) sites there (descriptor before z process fd) (say.table z process fd);
-  down = λ z h. by (s == z) (is_up before z) (epoch_of before z) (say.down z) h;
+  down = λ z h. by (s == z) (is_up c before z) (epoch_of before z) (say.down z) h;
 }
   where
     was : (z : ℕ) → is_there_in (change (has_number s) halted sites) z ≡ true → is_there_in sites z ≡ true
@@ -103,7 +103,7 @@ sites_left c line s e before sites say there = record {
 abbrev pub within : EpochId → Site → Site
 within e x = record x { epoch = Some e; joined = Some e }
 
-pub sites_joined : (c : Config) (line s : ℕ) (e : EpochId) (members : Members) (before : Trace) (sites : List Site) → SitesSay c before sites → is_there_in sites s ≡ true → is_up before s ≡ true
+pub sites_joined : (c : Config) (line s : ℕ) (e : EpochId) (members : Members) (before : Trace) (sites : List Site) → SitesSay c before sites → is_there_in sites s ≡ true → is_up c before s ≡ true
     → SitesSay c (entry line (Join s e members) ∷ before) (change (has_number s) (within e) sites)
 sites_joined c line s e members before sites say there running = record {
   numbers = numbers_still s (within e) (λ x. refl) sites ∙ say.numbers;
@@ -114,7 +114,7 @@ sites_joined c line s e members before sites say there running = record {
   accepted = λ z. part_still (λ (x : Site). x.accepted) s z (within e) (λ x. refl) (λ x. refl) sites ∙ say.accepted z;
   held = λ z h f. part_still (λ (x : Site). stamp_in x.held f) s z (within e) (λ x. refl) (λ x. refl) sites ∙ say.held z (was z h) f;
   table = λ z process fd. part_still (λ (x : Site). table_in x process fd) s z (within e) (λ x. refl) (λ x. refl) sites ∙ say.table z process fd;
-  down = λ z h. sym (chosen_old (s == z) (Some e) (epoch_of before z) (λ k. false_true (sym h ∙ subst (λ n. is_up before n ≡ true) (number_eq s z k) running))) ∙ say.down z h;
+  down = λ z h. sym (chosen_old (s == z) (Some e) (epoch_of before z) (λ k. false_true (sym h ∙ subst (λ n. is_up c before n ≡ true) (number_eq s z k) running))) ∙ say.down z h;
 }
   where
     was : (z : ℕ) → is_there_in (change (has_number s) (within e) sites) z ≡ true → is_there_in sites z ≡ true
@@ -146,7 +146,7 @@ and_choice false true new old = refl
 and_choice false false new old = refl
 
 pub sites_had : (c : Config) (r : Entry) (s : ℕ) (new : Copy) (before : Trace) (sites : List Site)
-    → ((z : ℕ) → is_up (r ∷ before) z ≡ is_up before z) → ((z : ℕ) → boot_of (r ∷ before) z ≡ boot_of before z)
+    → ((z : ℕ) → is_up c (r ∷ before) z ≡ is_up c before z) → ((z : ℕ) → boot_of (r ∷ before) z ≡ boot_of before z)
     → ((z : ℕ) → epoch_of (r ∷ before) z ≡ epoch_of before z) → ((z : ℕ) → last_joined (r ∷ before) z ≡ last_joined before z)
     → ((z : ℕ) → calls_accepted (r ∷ before) z ≡ calls_accepted before z)
     → ((z : ℕ) (f : FileId) → held_by c (r ∷ before) z f ≡ cond (same_file new.file f && (s == z)) (Some new.stamp) (held_by c before z f))

@@ -67,7 +67,7 @@ SaysGiven c before _ = Unit {0}
 
 pub record SitesAgree (c : Config) (trace : Trace) (p : Past) : Type 0 where
   pub numbers : map (λ (s : Site). s.number) p.sites ≡ numbers_from 1 c.sites
-  pub up : (site : ℕ) → is_there p site ≡ true → (site_at p site).up ≡ is_up trace site
+  pub up : (site : ℕ) → is_there p site ≡ true → (site_at p site).up ≡ is_up c trace site
   pub boot : (site : ℕ) → is_there p site ≡ true → (site_at p site).boot ≡ boot_of trace site
   pub epoch : (site : ℕ) → (site_at p site).epoch ≡ epoch_of trace site
   pub joined : (site : ℕ) → (site_at p site).joined ≡ last_joined trace site
@@ -75,7 +75,7 @@ pub record SitesAgree (c : Config) (trace : Trace) (p : Past) : Type 0 where
   pub held : (site : ℕ) → is_there p site ≡ true → (f : FileId) → held p site f ≡ held_by c trace site f
   pub table : (site process fd : ℕ) → table p site process fd ≡ descriptor trace site process fd
   -- a stopped site is in no epoch
-  pub down : (site : ℕ) → is_up trace site ≡ false → epoch_of trace site ≡ None
+  pub down : (site : ℕ) → is_up c trace site ≡ false → epoch_of trace site ≡ None
 
 -- Epochs, their members and who joined them; versions and what files are.
 

@@ -12,12 +12,12 @@ use Rattle.the_run.specs.Runs.{run_in}
 use Rattle.the_run.specs.Worlds.{Place, place_at}
 use Rattle.record_text_laws.specs.Texts.{BootsAreLow}
 
-rises : (site : ℕ) (trace : Trace) → EachRecord IsSiteRow trace → boot_of trace site ≤ 134217729 → EachRecord (BootsAreLow site) trace
-rises site [] rows low = tt
-rises site (r ∷ before) rows low =
-    let step : boot_of before site ≤ boot_of (r ∷ before) site = boot_step before r.what site rows.0 in
+rises : (c : Config) (site : ℕ) (trace : Trace) → EachRecord (IsSiteRow c) trace → boot_of trace site ≤ 134217729 → EachRecord (BootsAreLow site) trace
+rises c site [] rows low = tt
+rises c site (r ∷ before) rows low =
+    let step : boot_of before site ≤ boot_of (r ∷ before) site = boot_step c before r.what site rows.0 in
     let earlier : boot_of before site ≤ 134217729 = omega arith in
-    (record { before_it = earlier; after_it = low }, rises site before rows.1 earlier)
+    (record { before_it = earlier; after_it = low }, rises c site before rows.1 earlier)
 
 pub run_boots : (c : Config) (lines : List ScheduleLine) (site : ℕ) (p : Place) → place_at (run_in c lines) site ≡ Some p → EachRecord (BootsAreLow site) (trace_of (run_in c lines))
-run_boots c lines site p here = rises site (trace_of (run_in c lines)) (run_sites c lines) (run_boots_told c lines site p here)
+run_boots c lines site p here = rises c site (trace_of (run_in c lines)) (run_sites c lines) (run_boots_told c lines site p here)

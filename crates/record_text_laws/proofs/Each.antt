@@ -64,13 +64,13 @@ next_counted before site id few e =
     let k = accepted_few before site in
     counted id.n (omega arith) (omega (arith, n, k))
 
-accepted_counted : (before : Trace) (site process : ℕ) (id : CallId) (words : Call) → length before ≤ 134217728 → AcceptedAs before site process id words → is_counted id.n ≡ true
-accepted_counted before site process id (call.Mend file) few h = next_counted before site id few h
-accepted_counted before site process id _ few h = next_counted before site id few h.numbered
+accepted_counted : (c : Config) (before : Trace) (site process : ℕ) (id : CallId) (words : Call) → length before ≤ 134217728 → AcceptedAs c before site process id words → is_counted id.n ≡ true
+accepted_counted c before site process id (call.Mend file) few h = next_counted before site id few h
+accepted_counted c before site process id _ few h = next_counted before site id few h.numbered
 
-calls_counted : (before : Trace) (r : Record) → length before ≤ 134217728 → AcceptRecord before r → CountsRecord r
-calls_counted before (says.Accept site process id words) few h = accepted_counted before site process id words few h
-calls_counted before _ few h = tt
+calls_counted : (c : Config) (before : Trace) (r : Record) → length before ≤ 134217728 → AcceptRecord c before r → CountsRecord r
+calls_counted c before (says.Accept site process id words) few h = accepted_counted c before site process id words few h
+calls_counted c before _ few h = tt
 
 pub run_calls_counted : (c : Config) (lines : List ScheduleLine) → LinesFit c lines → EachRecord IsCountedCall (trace_of (run_in c lines))
-run_calls_counted c lines fit = each_few IsAcceptRow IsCountedCall 134217728 (λ before r few k. calls_counted before r.what few k) (trace_of (run_in c lines)) (run_few c lines) (run_accepts c lines fit)
+run_calls_counted c lines fit = each_few (IsAcceptRow c) IsCountedCall 134217728 (λ before r few k. calls_counted c before r.what few k) (trace_of (run_in c lines)) (run_few c lines) (run_accepts c lines fit)

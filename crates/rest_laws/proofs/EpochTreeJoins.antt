@@ -98,7 +98,7 @@ module _ (c : Config) (n : ℕ) (trace : List Line) (me : ℕ) (e : EpochId) (me
   abbrev f : Frame
   f = frame_in c me v.boot (record { id = e; members = members })
 
-  joining : MayJoin (entries trace) me e members
+  joining : MayJoin c (entries trace) me e members
   joining = rest.row
 
   may : MayTell c trace x

@@ -56,13 +56,13 @@ accepted_few (x ∷ older) s = over x.told (accepted_few older s)
 abbrev pub BootsLow : Config → Trace → Type 0
 BootsLow c t = (s : ℕ) → is_site c.sites s ≡ true → boot_of t s ≤ 134217729
 
-boot_before : (lines : List ScheduleLine) (n : ℕ) (x : Told) (older : Trace) (s : ℕ) → EachRecord (IsRow lines) (onto_entries n x older) → boot_of older s ≤ boot_of (onto_entries n x older) s
-boot_before lines n (Shown r) older s h = boot_step older r s h.0.site
-boot_before lines n _ older s h = omega arith
+boot_before : (c : Config) (lines : List ScheduleLine) (n : ℕ) (x : Told) (older : Trace) (s : ℕ) → EachRecord (IsRow c lines) (onto_entries n x older) → boot_of older s ≤ boot_of (onto_entries n x older) s
+boot_before c lines n (Shown r) older s h = boot_step c older r s h.0.site
+boot_before c lines n _ older s h = omega arith
 
-pub boots_before : (c : Config) (lines : List ScheduleLine) (n : ℕ) (x : Told) (older : Trace) → EachRecord (IsRow lines) (onto_entries n x older) → BootsLow c (onto_entries n x older) → BootsLow c older
+pub boots_before : (c : Config) (lines : List ScheduleLine) (n : ℕ) (x : Told) (older : Trace) → EachRecord (IsRow c lines) (onto_entries n x older) → BootsLow c (onto_entries n x older) → BootsLow c older
 boots_before c lines n x older h low s k =
-    let before : boot_of older s ≤ boot_of (onto_entries n x older) s = boot_before lines n x older s h in
+    let before : boot_of older s ≤ boot_of (onto_entries n x older) s = boot_before c lines n x older s h in
     let now : boot_of (onto_entries n x older) s ≤ 134217729 = low s k in
     omega (arith, before, now)
 
@@ -80,6 +80,6 @@ low_name c lines n older s process id words fit h numbered low few = record {
   n = count_fits id.n (calls_accepted (entries older) s) (calls_in (past_of older)) (ap (λ (d : CallId). d.n) numbered) (accepted_few older s) few;
 }
 
-pub name_low : (c : Config) (lines : List ScheduleLine) (n : ℕ) (older : List Line) (s process : ℕ) (id : CallId) (words : Call) → LinesFit c lines → CallLine lines n s process words → AcceptedAs (entries older) s process id words → BootsLow c (entries older) → calls_in (past_of older) ≤ 134217728 → IsNumberedLow id words
+pub name_low : (c : Config) (lines : List ScheduleLine) (n : ℕ) (older : List Line) (s process : ℕ) (id : CallId) (words : Call) → LinesFit c lines → CallLine lines n s process words → AcceptedAs c (entries older) s process id words → BootsLow c (entries older) → calls_in (past_of older) ≤ 134217728 → IsNumberedLow id words
 name_low c lines n older s process id (call.Mend f) fit h row low few = tt
 name_low c lines n older s process id words fit h row low few = low_name c lines n older s process id _ fit h row.numbered low few

@@ -29,18 +29,18 @@ use Rattle.rest_laws.proofs.Shown.{IsRow}
 above_none : (a b : ℕ) → nat_lt a b ≡ true → 1 ≤ b
 above_none a b h = grind (arith, nat_tests)
 
-boot_next : (r : Record) (before : Trace) (s : ℕ) → SiteRecordRow before r → 1 ≤ boot_of before s → 1 ≤ boot_after r s (boot_of before s)
-boot_next (says.Up t boot) before s row h = over (t == s)
+boot_next : (c : Config) (r : Record) (before : Trace) (s : ℕ) → SiteRecordRow c before r → 1 ≤ boot_of before s → 1 ≤ boot_after r s (boot_of before s)
+boot_next c (says.Up t boot) before s row h = over (t == s)
   where
     over : (b : Bool) → 1 ≤ cond b boot (boot_of before s)
     over true = above_none (boot_of before t) boot row.above
     over false = h
-boot_next _ before s row h = h
+boot_next c _ before s row h = h
 
 -- boot numbers begin at 1
-pub boots_begin : (lines : List ScheduleLine) (t : Trace) → EachRecord (IsRow lines) t → (s : ℕ) → 1 ≤ boot_of t s
-boots_begin lines [] h s = omega arith
-boots_begin lines (r ∷ before) h s = boot_next r.what before s h.0.site (boots_begin lines before h.1 s)
+pub boots_begin : (c : Config) (lines : List ScheduleLine) (t : Trace) → EachRecord (IsRow c lines) t → (s : ℕ) → 1 ≤ boot_of t s
+boots_begin c lines [] h s = omega arith
+boots_begin c lines (r ∷ before) h s = boot_next c r.what before s h.0.site (boots_begin c lines before h.1 s)
 
 -- ---- joins ----
 

@@ -42,7 +42,7 @@ use Rattle.rest_laws.proofs.Shown.{IsRow, run_rows, shown_entries}
 
 -- what the laws of every run give of a trace
 record Gives (c : Config) (lines : List ScheduleLine) (t : List Line) : Type 0 where
-  rows : EachRecord (IsRow lines) (entries t)
+  rows : EachRecord (IsRow c lines) (entries t)
   low : CountersAreLow t
   fit : NumbersFit (past_of t)
   packed : Every (ToldPacked c) (past_of t)
@@ -53,33 +53,33 @@ record Gives (c : Config) (lines : List ScheduleLine) (t : List Line) : Type 0 w
   boots : BootsLow c (entries t)
   calls : calls_in (past_of t) ≤ 134217728
 
-rows_before : (lines : List ScheduleLine) (n : ℕ) (x : Told) (t : Trace) → EachRecord (IsRow lines) (onto_entries n x t) → EachRecord (IsRow lines) t
-rows_before lines n (Shown r) t h = h.1
-rows_before lines n _ t h = h
+rows_before : (c : Config) (lines : List ScheduleLine) (n : ℕ) (x : Told) (t : Trace) → EachRecord (IsRow c lines) (onto_entries n x t) → EachRecord (IsRow c lines) t
+rows_before c lines n (Shown r) t h = h.1
+rows_before c lines n _ t h = h
 
 gives_before : (c : Config) (lines : List ScheduleLine) (x : Line) (older : List Line) → Gives c lines (x ∷ older) → Gives c lines older
-gives_before c lines x older g = record { rows = rows_before lines x.number x.told (entries older) g.rows; low = g.low.1; fit = g.fit.1; packed = g.packed.1; numbered = g.numbered.1; once = once_before x older g.once; sited = g.sited.1; rooted = g.rooted.1; boots = boots_before c lines x.number x.told (entries older) g.rows g.boots; calls = omega (arith, g.calls) }
+gives_before c lines x older g = record { rows = rows_before c lines x.number x.told (entries older) g.rows; low = g.low.1; fit = g.fit.1; packed = g.packed.1; numbered = g.numbered.1; once = once_before x older g.once; sited = g.sited.1; rooted = g.rooted.1; boots = boots_before c lines x.number x.told (entries older) g.rows g.boots; calls = omega (arith, g.calls) }
 
 -- ---- one line ----
 
-row_record : (c : Config) (lines : List ScheduleLine) (n : ℕ) (older : List Line) (r : Record) → IsRow lines (entries older) (record { line = n; what = r }) → RowTold c older (Shown r)
+row_record : (c : Config) (lines : List ScheduleLine) (n : ℕ) (older : List Line) (r : Record) → IsRow c lines (entries older) (record { line = n; what = r }) → RowTold c older (Shown r)
 row_record c lines n older (says.Up s boot) h = h.site
 row_record c lines n older (says.Stopped s cause) h = h.site
 row_record c lines n older (says.Join s e members) h = record { up = h.site.up; outside = h.site.outside; new = h.site.new; later = h.site.later; same = h.site.same; member = h.member }
 row_record c lines n older _ h = tt
 
-range_record : (c : Config) (lines : List ScheduleLine) (n : ℕ) (older : List Line) (r : Record) → LinesFit c lines → Gives c lines older → IsRow lines (entries older) (record { line = n; what = r }) → FitTold (Shown r) → LowTold (Shown r) → RangeTold c (Shown r)
-range_record c lines n older (says.Join s e members) fit g h k low = listed_site members s _ h.member (boots_begin lines (entries older) g.rows s) h.short
+range_record : (c : Config) (lines : List ScheduleLine) (n : ℕ) (older : List Line) (r : Record) → LinesFit c lines → Gives c lines older → IsRow c lines (entries older) (record { line = n; what = r }) → FitTold (Shown r) → LowTold (Shown r) → RangeTold c (Shown r)
+range_record c lines n older (says.Join s e members) fit g h k low = listed_site members s _ h.member (boots_begin c lines (entries older) g.rows s) h.short
 range_record c lines n older (says.Accept s process id words) fit g h k low = (call_range c lines n s process words fit h.asked, name_low c lines n older s process id words fit h.asked h.accept g.boots g.calls)
 range_record c lines n older (says.Commit f s stamp parents content) fit g h k low = (k, low)
 range_record c lines n older (says.Act e i m o r) fit g h k low = low
 range_record c lines n older _ fit g h k low = tt
 
-row_told : (c : Config) (lines : List ScheduleLine) (n : ℕ) (older : List Line) (x : Told) → EachRecord (IsRow lines) (onto_entries n x (entries older)) → RowTold c older x
+row_told : (c : Config) (lines : List ScheduleLine) (n : ℕ) (older : List Line) (x : Told) → EachRecord (IsRow c lines) (onto_entries n x (entries older)) → RowTold c older x
 row_told c lines n older (Shown r) h = row_record c lines n older r h.0
 row_told c lines n older _ h = tt
 
-range_told : (c : Config) (lines : List ScheduleLine) (n : ℕ) (older : List Line) (x : Told) → LinesFit c lines → Gives c lines older → EachRecord (IsRow lines) (onto_entries n x (entries older)) → FitTold x → LowTold x → RangeTold c x
+range_told : (c : Config) (lines : List ScheduleLine) (n : ℕ) (older : List Line) (x : Told) → LinesFit c lines → Gives c lines older → EachRecord (IsRow c lines) (onto_entries n x (entries older)) → FitTold x → LowTold x → RangeTold c x
 range_told c lines n older (Shown r) fit g h k low = range_record c lines n older r fit g h.0 k low
 range_told c lines n older _ fit g h k low = tt
 

@@ -27,17 +27,17 @@ shown_entries (x ∷ older) = over x.told (shown_entries older)
     over _ e = e
 
 -- what the laws of rows say of one record
-pub record IsRow (lines : List ScheduleLine) (before : Trace) (r : Entry) : Type 0 where
-  pub site : IsSiteRow before r
+pub record IsRow (c : Config) (lines : List ScheduleLine) (before : Trace) (r : Entry) : Type 0 where
+  pub site : IsSiteRow c before r
   pub member : IsMemberRow before r
   pub short : IsShortRow before r
   pub asked : IsAskedFor lines before r
-  pub accept : IsAcceptRow before r
+  pub accept : IsAcceptRow c before r
 
-all_rows : (lines : List ScheduleLine) (t : Trace) → EachRecord IsSiteRow t → EachRecord IsMemberRow t → EachRecord IsShortRow t → EachRecord (IsAskedFor lines) t → EachRecord IsAcceptRow t → EachRecord (IsRow lines) t
-all_rows lines [] a b d e f = tt
-all_rows lines (r ∷ before) a b d e f = (record { site = a.0; member = b.0; short = d.0; asked = e.0; accept = f.0 }, all_rows lines before a.1 b.1 d.1 e.1 f.1)
+all_rows : (c : Config) (lines : List ScheduleLine) (t : Trace) → EachRecord (IsSiteRow c) t → EachRecord IsMemberRow t → EachRecord IsShortRow t → EachRecord (IsAskedFor lines) t → EachRecord (IsAcceptRow c) t → EachRecord (IsRow c lines) t
+all_rows c lines [] a b d e f = tt
+all_rows c lines (r ∷ before) a b d e f = (record { site = a.0; member = b.0; short = d.0; asked = e.0; accept = f.0 }, all_rows c lines before a.1 b.1 d.1 e.1 f.1)
 
-pub run_rows : (c : Config) (lines : List ScheduleLine) → LinesFit c lines → EachRecord (IsRow lines) (entries (run_in c lines).trace)
-run_rows c lines fit = subst (EachRecord (IsRow lines)) (shown_entries (run_in c lines).trace)
-    (all_rows lines (shown (run_in c lines).trace) (run_sites c lines) (run_members c lines (cuts_none c lines fit)) (run_lists c lines) (run_asked c lines) (run_accepts c lines fit))
+pub run_rows : (c : Config) (lines : List ScheduleLine) → LinesFit c lines → EachRecord (IsRow c lines) (entries (run_in c lines).trace)
+run_rows c lines fit = subst (EachRecord (IsRow c lines)) (shown_entries (run_in c lines).trace)
+    (all_rows c lines (shown (run_in c lines).trace) (run_sites c lines) (run_members c lines (cuts_none c lines fit)) (run_lists c lines) (run_asked c lines) (run_accepts c lines fit))

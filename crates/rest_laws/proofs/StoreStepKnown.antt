@@ -62,7 +62,7 @@ inside_site c (x ∷ older) h s e k = over x.told h.0.range k (inside_site c old
 
 -- ---- who calls ----
 
-plain_known : (c : Config) (older : List Line) (s process : ℕ) (id : CallId) (words : Call) → AskedCall c s process words → RangeCall c s process words → IsNumberedLow id words → MayAccept (entries older) s process id → IsKnownCall c id (accepted_as (entries older) s process id words)
+plain_known : (c : Config) (older : List Line) (s process : ℕ) (id : CallId) (words : Call) → AskedCall c s process words → RangeCall c s process words → IsNumberedLow id words → MayAccept c (entries older) s process id → IsKnownCall c id (accepted_as (entries older) s process id words)
 plain_known c older s process id words asked range name row = record {
   site = subst IsSite (sym its) asked.site;
   small = asked.process_high;

@@ -222,8 +222,8 @@ pub disk_step : (pages : List ℕ) (c : Config) (before : Trace) (p : Past) → 
 disk_step pages c before p a (rec.Up s boot) may ours site d = either (s == site) _ _ _ _ (λ e. booted_same d) refl
 disk_step pages c before p a (rec.Stopped s why) may ours site d = either (s == site) _ _ _ _ stops refl
   where
-    stops : (s == site) ≡ true → stopped (site_at p site).up (disk_as d) ≡ disk_as (disk_stopped (is_up before site) d)
-    stops e = ap (λ (b : Bool). stopped b (disk_as d)) (a.sites.up site (there_of c before p a site s ours e)) ∙ stopped_same (is_up before site) d
+    stops : (s == site) ≡ true → stopped (site_at p site).up (disk_as d) ≡ disk_as (disk_stopped (is_up c before site) d)
+    stops e = ap (λ (b : Bool). stopped b (disk_as d)) (a.sites.up site (there_of c before p a site s ours e)) ∙ stopped_same (is_up c before site) d
 disk_step pages c before p a (rec.Commit f s stamp parents content) may ours site d = over (committer c before p f s stamp parents content may a)
   where
     told : (one : Instance) → instance_of one ≡ may.instance → one.grant.file ≡ f → committing c before f s ≡ Some may.instance → (b : Bool) → (s == site) ≡ b

@@ -97,10 +97,10 @@ exact_cut : (wrote : ℕ → List ℕ) (c : Config) (lines : List ScheduleLine) 
 exact_cut wrote c lines before n site fault true agreed a ours k = cut_while_up wrote c lines before n site fault agreed a ours k
 exact_cut wrote c lines before n site fault false agreed a ours k = cut_booting wrote c lines before n site fault agreed k
 
-is_cut : (wrote : ℕ → List ℕ) (c : Config) (lines : List ScheduleLine) (before : Trace) (n site : ℕ) (fault : Bool) → EachAgreed c before → Agrees c before (past c before) → is_of_cluster c site ≡ true → CutOf wrote c lines before n site fault (is_up before site) → IsCut wrote c lines (reverse before) n site fault
+is_cut : (wrote : ℕ → List ℕ) (c : Config) (lines : List ScheduleLine) (before : Trace) (n site : ℕ) (fault : Bool) → EachAgreed c before → Agrees c before (past c before) → is_of_cluster c site ≡ true → CutOf wrote c lines before n site fault (is_up c before site) → IsCut wrote c lines (reverse before) n site fault
 is_cut wrote c lines before n site fault agreed a ours k = record {
-  armed = ap (λ (d : Disk). list_any (λ (x : Arming). is_none x.leaves) d.armed) (disk_printed wrote c lines before agreed n site) ∙ armed_fault fault (armed_at wrote c lines before n site) (cut_armed wrote c lines before n site fault (is_up before site) k);
-  exact = ap (is_exact wrote c lines (reverse before) n site) (ap (λ (p : Past). (site_at p site).up) (past_reversed c before) ∙ a.sites.up site (of_cluster_there c (past c before).sites site a.sites.numbers ours)) ∙ exact_cut wrote c lines before n site fault (is_up before site) agreed a ours k;
+  armed = ap (λ (d : Disk). list_any (λ (x : Arming). is_none x.leaves) d.armed) (disk_printed wrote c lines before agreed n site) ∙ armed_fault fault (armed_at wrote c lines before n site) (cut_armed wrote c lines before n site fault (is_up c before site) k);
+  exact = ap (is_exact wrote c lines (reverse before) n site) (ap (λ (p : Past). (site_at p site).up) (past_reversed c before) ∙ a.sites.up site (of_cluster_there c (past c before).sites site a.sites.numbers ours)) ∙ exact_cut wrote c lines before n site fault (is_up c before site) agreed a ours k;
 }
 
 -- ---- each record ----

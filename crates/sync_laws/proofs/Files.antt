@@ -91,7 +91,7 @@ module _ (c : Config) (n : ℕ) (older : List Line) (h : IsFollowed c older) (f 
     without (says.Join s e m) may = λ same.
         subst (λ (k : Config). has_pack k t.group s ≡ false) (sym (tree_config c f.epoch group (entries older)))
         (subst (λ (g : ℕ). has_pack c g s ≡ false) (sym (tree_group_is c f.epoch group (entries older)))
-        (no_pack_comes c (entries older) packs (followed_rows c older h) f.epoch group s m started (subst (λ (y : EpochId). MayJoin (entries older) s y m) (same_epoch_eq e t.epoch same ∙ tree_epoch_is c f.epoch group (entries older)) may.row)))
+        (no_pack_comes c (entries older) packs (followed_rows c older h) f.epoch group s m started (subst (λ (y : EpochId). MayJoin c (entries older) s y m) (same_epoch_eq e t.epoch same ∙ tree_epoch_is c f.epoch group (entries older)) may.row)))
     without _ may = tt
 
     known_told : (x : Told) → MayTell c older x → (Releases f group x → ⊥) → (tree_of c f.epoch group (entries (More n x older))).known ≡ t.known

@@ -59,27 +59,27 @@ IsCurrent before w = (w.call.site ≡ w.site) × (w.call.boot ≡ boot_of before
 abbrev NotAt : ℕ → Waiting → Type 0
 NotAt s w = w.site ≡ s → ⊥
 
-record Waits (before : Trace) : Type 0 where
+record Waits (c : Config) (before : Trace) : Type 0 where
   current : Every (IsCurrent before) (waiting before)
-  down : (s : ℕ) → is_up before s ≡ false → Every (NotAt s) (waiting before)
-  out : (s : ℕ) → is_up before s ≡ false → epoch_of before s ≡ None
+  down : (s : ℕ) → is_up c before s ≡ false → Every (NotAt s) (waiting before)
+  out : (s : ℕ) → is_up c before s ≡ false → epoch_of before s ≡ None
 
-runs : (c : Config) (before : Trace) (s process : ℕ) (d : CallId) (words : Call) → Waits before → CallRow c before s process d words → is_up before s ≡ false → ⊥
+runs : (c : Config) (before : Trace) (s process : ℕ) (d : CallId) (words : Call) → Waits c before → CallRow c before s process d words → is_up c before s ≡ false → ⊥
 runs c before s process d (call.Mend file) w h down = none_some h.epoch (sym (w.out s down) ∙ h.inside)
 runs c before s process d _ w h down = true_false (sym h.up ∙ down)
 
-waits_accept : (c : Config) (n s process : ℕ) (d : CallId) (words : Call) (before : Trace) → CallRow c before s process d words → Waits before → Waits (record { line = n; what = says.Accept s process d words } ∷ before)
+waits_accept : (c : Config) (n s process : ℕ) (d : CallId) (words : Call) (before : Trace) → CallRow c before s process d words → Waits c before → Waits c (record { line = n; what = says.Accept s process d words } ∷ before)
 waits_accept c n s process d words before may w = record {
   current = ((ap (λ (x : CallId). x.site) is, ap (λ (x : CallId). x.boot) is), w.current);
-  down = λ t down. (λ same. runs c before s process d words w may (subst (λ (m : ℕ). is_up before m ≡ false) (sym same) down), w.down t down);
+  down = λ t down. (λ same. runs c before s process d words w may (subst (λ (m : ℕ). is_up c before m ≡ false) (sym same) down), w.down t down);
   out = w.out;
 }
   where
     is : d ≡ next_call before s
     is = numbered c before s process d words may
 
-waits_stop : (n s : ℕ) (cause : _) (before : Trace) → Waits before → Waits (record { line = n; what = says.Stopped s cause } ∷ before)
-waits_stop n s cause before w = record {
+waits_stop : (c : Config) (n s : ℕ) (cause : _) (before : Trace) → Waits c before → Waits c (record { line = n; what = says.Stopped s cause } ∷ before)
+waits_stop c n s cause before w = record {
   current = every_filter (IsCurrent before) (λ (x : Waiting). not (x.site == s)) (waiting before) w.current;
   down = λ t. down t (s == t) refl;
   out = λ t. out t (s == t) refl;
@@ -88,16 +88,16 @@ waits_stop n s cause before w = record {
     apart : (x : Waiting) → not (x.site == s) ≡ true → NotAt s x
     apart x k same = true_false (sym k ∙ ap not (subst (λ (m : ℕ). (m == s) ≡ true) (sym same) (equal_self s)))
 
-    down : (t : ℕ) (b : Bool) → (s == t) ≡ b → not b && is_up before t ≡ false → Every (NotAt t) (filter (λ (x : Waiting). not (x.site == s)) (waiting before))
+    down : (t : ℕ) (b : Bool) → (s == t) ≡ b → not b && is_up c before t ≡ false → Every (NotAt t) (filter (λ (x : Waiting). not (x.site == s)) (waiting before))
     down t true e k = subst (λ (m : ℕ). Every (NotAt m) (filter (λ (x : Waiting). not (x.site == s)) (waiting before))) (equal s t e) (every_passes (NotAt s) (λ (x : Waiting). not (x.site == s)) apart (waiting before))
     down t false e k = every_filter (NotAt t) (λ (x : Waiting). not (x.site == s)) (waiting before) (w.down t k)
 
-    out : (t : ℕ) (b : Bool) → (s == t) ≡ b → not b && is_up before t ≡ false → cond b None (epoch_of before t) ≡ None
+    out : (t : ℕ) (b : Bool) → (s == t) ≡ b → not b && is_up c before t ≡ false → cond b None (epoch_of before t) ≡ None
     out t true e k = refl
     out t false e k = w.out t k
 
-waits_up : (n s boot : ℕ) (before : Trace) → is_up before s ≡ false → Waits before → Waits (record { line = n; what = says.Up s boot } ∷ before)
-waits_up n s boot before down_now w = record {
+waits_up : (c : Config) (n s boot : ℕ) (before : Trace) → is_up c before s ≡ false → Waits c before → Waits c (record { line = n; what = says.Up s boot } ∷ before)
+waits_up c n s boot before down_now w = record {
   current = every_pair (IsCurrent before) (NotAt s) (IsCurrent (record { line = n; what = says.Up s boot } ∷ before)) (waiting before) still w.current (w.down s down_now);
   down = λ t. down t (s == t) refl;
   out = λ t. out t (s == t) refl;
@@ -110,18 +110,18 @@ waits_up n s boot before down_now w = record {
     still : (x : Waiting) → IsCurrent before x → NotAt s x → IsCurrent (record { line = n; what = says.Up s boot } ∷ before) x
     still x k away = (k.0, at_boot x (s == x.site) refl away k.1)
 
-    down : (t : ℕ) (b : Bool) → (s == t) ≡ b → b || is_up before t ≡ false → Every (NotAt t) (waiting before)
+    down : (t : ℕ) (b : Bool) → (s == t) ≡ b → b || is_up c before t ≡ false → Every (NotAt t) (waiting before)
     down t true e k = absurd (true_false k)
     down t false e k = w.down t k
 
-    out : (t : ℕ) (b : Bool) → (s == t) ≡ b → b || is_up before t ≡ false → cond b None (epoch_of before t) ≡ None
+    out : (t : ℕ) (b : Bool) → (s == t) ≡ b → b || is_up c before t ≡ false → cond b None (epoch_of before t) ≡ None
     out t true e k = refl
     out t false e k = w.out t k
 
-waits_record : (c : Config) (n : ℕ) (r : Record) (before : Trace) → MayCome c before r → Waits before → Waits (record { line = n; what = r } ∷ before)
+waits_record : (c : Config) (n : ℕ) (r : Record) (before : Trace) → MayCome c before r → Waits c before → Waits c (record { line = n; what = r } ∷ before)
 waits_record c n (says.Accept s process d words) before may w = waits_accept c n s process d words before may w
-waits_record c n (says.Stopped s cause) before may w = waits_stop n s cause before w
-waits_record c n (says.Up s boot) before may w = waits_up n s boot before may.stopped w
+waits_record c n (says.Stopped s cause) before may w = waits_stop c n s cause before w
+waits_record c n (says.Up s boot) before may w = waits_up c n s boot before may.stopped w
 waits_record c n (says.Answer s process d reply) before may w = record {
   current = every_filter (IsCurrent before) (λ (x : Waiting). not (same_call x.call d)) (waiting before) w.current;
   down = λ t k. every_filter (NotAt t) (λ (x : Waiting). not (same_call x.call d)) (waiting before) (w.down t k);
@@ -129,21 +129,21 @@ waits_record c n (says.Answer s process d reply) before may w = record {
 }
 waits_record c n (says.Join s e members) before may w = record { current = w.current; down = w.down; out = λ t. out t (s == t) refl }
   where
-    out : (t : ℕ) (b : Bool) → (s == t) ≡ b → is_up before t ≡ false → cond b (Some e) (epoch_of before t) ≡ None
-    out t true k down = absurd (true_false (sym (subst (λ (m : ℕ). is_up before m ≡ true) (equal s t k) may.up) ∙ down))
+    out : (t : ℕ) (b : Bool) → (s == t) ≡ b → is_up c before t ≡ false → cond b (Some e) (epoch_of before t) ≡ None
+    out t true k down = absurd (true_false (sym (subst (λ (m : ℕ). is_up c before m ≡ true) (equal s t k) may.up) ∙ down))
     out t false k down = w.out t down
 waits_record c n (says.Leave s e) before may w = record { current = w.current; down = w.down; out = λ t. out t (s == t) }
   where
-    out : (t : ℕ) (b : Bool) → is_up before t ≡ false → cond b None (epoch_of before t) ≡ None
+    out : (t : ℕ) (b : Bool) → is_up c before t ≡ false → cond b None (epoch_of before t) ≡ None
     out t true down = refl
     out t false down = w.out t down
 waits_record c n _ before may w = record { current = w.current; down = w.down; out = w.out }
 
-waits_told : (c : Config) (n : ℕ) (x : Told) (older : List Line) → MayTell c older x → Waits (entries older) → Waits (onto_entries n x (entries older))
+waits_told : (c : Config) (n : ℕ) (x : Told) (older : List Line) → MayTell c older x → Waits c (entries older) → Waits c (onto_entries n x (entries older))
 waits_told c n (Shown r) older may w = waits_record c n r (entries older) may.row w
 waits_told c n _ older may w = w
 
-waits : (c : Config) (trace : List Line) → IsFollowed c trace → Waits (entries trace)
+waits : (c : Config) (trace : List Line) → IsFollowed c trace → Waits c (entries trace)
 waits c [] h = record { current = tt; down = λ s k. tt; out = λ s k. refl }
 waits c (x ∷ older) h = waits_told c x.number x.told older h.0 (waits c older h.1)
 

@@ -41,7 +41,7 @@ pub record FrameFact (c : Config) (trace : List Line) (f : Frame) : Type 0 where
   pub config_is : f.config ≡ c
   pub inside : epoch_of (entries trace) f.me ≡ Some f.epoch
   pub members_are : members_of (entries trace) f.epoch ≡ Some f.members
-  pub up : is_up (entries trace) f.me ≡ true
+  pub up : is_up c (entries trace) f.me ≡ true
   pub boot_is : f.boot ≡ boot_of (entries trace) f.me
   pub is_member : boot_in f.members.boot f.me ≡ f.boot
 

@@ -46,16 +46,16 @@ record IsDown (before : Trace) (s : ℕ) : Type 0 where
   epoch : epoch_of before s ≡ None
   descriptors : (process fd : ℕ) → descriptor before s process fd ≡ None
 
-abbrev AllDown : Trace → Type 0
-AllDown before = (s : ℕ) → is_up before s ≡ false → IsDown before s
+abbrev AllDown : Config → Trace → Type 0
+AllDown c before = (s : ℕ) → is_up c before s ≡ false → IsDown before s
 
-runs : (c : Config) (before : Trace) (s process : ℕ) (d : CallId) (words : Call) → AllDown before → CallRow c before s process d words → is_up before s ≡ false → ⊥
+runs : (c : Config) (before : Trace) (s process : ℕ) (d : CallId) (words : Call) → AllDown c before → CallRow c before s process d words → is_up c before s ≡ false → ⊥
 runs c before s process d (call.Mend file) k row down = none_some row.epoch (sym (k s down).epoch ∙ row.inside)
 runs c before s process d _ k row down = true_false (sym row.up ∙ down)
 
-down_accept : (c : Config) (n s process : ℕ) (d : CallId) (words : Call) (before : Trace) → CallRow c before s process d words → AllDown before → AllDown (More n (says.Accept s process d words) before)
+down_accept : (c : Config) (n s process : ℕ) (d : CallId) (words : Call) (before : Trace) → CallRow c before s process d words → AllDown c before → AllDown c (More n (says.Accept s process d words) before)
 down_accept c n s process d words before row k t down = record {
-  waits = ((λ (same : s ≡ t). runs c before s process d words k row (subst (λ (m : ℕ). is_up before m ≡ false) (sym same) down)), (k t down).waits);
+  waits = ((λ (same : s ≡ t). runs c before s process d words k row (subst (λ (m : ℕ). is_up c before m ≡ false) (sym same) down)), (k t down).waits);
   epoch = (k t down).epoch;
   descriptors = λ user fd. over ((s == t) && (process == user)) words fd ((k t down).descriptors user fd);
 }
@@ -72,13 +72,13 @@ down_accept c n s process d words before row k t down = record {
     over true words fd {old} e = closed words fd old e
     over false words fd e = e
 
-down_stop : (n s : ℕ) (cause : StopCause) (before : Trace) → AllDown before → AllDown (More n (says.Stopped s cause) before)
-down_stop n s cause before k t = at (s == t) refl
+down_stop : (c : Config) (n s : ℕ) (cause : StopCause) (before : Trace) → AllDown c before → AllDown c (More n (says.Stopped s cause) before)
+down_stop c n s cause before k t = at (s == t) refl
   where
     apart : (x : Waiting) → not (x.site == s) ≡ true → NotAt s x
     apart x p same = true_false (sym p ∙ ap not (subst (λ (m : ℕ). (m == s) ≡ true) (sym same) (equal_self s)))
 
-    at : (b : Bool) → (s == t) ≡ b → not b && is_up before t ≡ false → IsDown (More n (says.Stopped s cause) before) t
+    at : (b : Bool) → (s == t) ≡ b → not b && is_up c before t ≡ false → IsDown (More n (says.Stopped s cause) before) t
     at true e down = record {
       waits = subst (λ (m : ℕ). Every (NotAt m) (filter (λ (x : Waiting). not (x.site == s)) (waiting before))) (equal s t e) (every_passes (NotAt s) (λ (x : Waiting). not (x.site == s)) apart (waiting before));
       epoch = ap (λ (b : Bool). cond b None (epoch_of before t)) e;
@@ -90,21 +90,21 @@ down_stop n s cause before k t = at (s == t) refl
       descriptors = λ process fd. ap (λ (b : Bool). cond b None (descriptor before t process fd)) e ∙ (k t down).descriptors process fd;
     }
 
-down_up : (n s boot : ℕ) (before : Trace) → AllDown before → AllDown (More n (says.Up s boot) before)
-down_up n s boot before k t = at (s == t) refl
+down_up : (c : Config) (n s boot : ℕ) (before : Trace) → AllDown c before → AllDown c (More n (says.Up s boot) before)
+down_up c n s boot before k t = at (s == t) refl
   where
-    at : (b : Bool) → (s == t) ≡ b → b || is_up before t ≡ false → IsDown (More n (says.Up s boot) before) t
+    at : (b : Bool) → (s == t) ≡ b → b || is_up c before t ≡ false → IsDown (More n (says.Up s boot) before) t
     at true e down = absurd (true_false down)
     at false e down = record { waits = (k t down).waits; epoch = ap (λ (b : Bool). cond b None (epoch_of before t)) e ∙ (k t down).epoch; descriptors = (k t down).descriptors }
 
-down_record : (c : Config) (n : ℕ) (r : Record) (before : Trace) → MayCome c before r → AllDown before → AllDown (More n r before)
+down_record : (c : Config) (n : ℕ) (r : Record) (before : Trace) → MayCome c before r → AllDown c before → AllDown c (More n r before)
 down_record c n (says.Accept s process d words) before may k = down_accept c n s process d words before may k
-down_record c n (says.Stopped s cause) before may k = down_stop n s cause before k
-down_record c n (says.Up s boot) before may k = down_up n s boot before k
+down_record c n (says.Stopped s cause) before may k = down_stop c n s cause before k
+down_record c n (says.Up s boot) before may k = down_up c n s boot before k
 down_record c n (says.Join s e members) before may k = λ t down. record { waits = (k t down).waits; epoch = at t down (s == t) refl; descriptors = (k t down).descriptors }
   where
-    at : (t : ℕ) → is_up before t ≡ false → (b : Bool) → (s == t) ≡ b → cond b (Some e) (epoch_of before t) ≡ None
-    at t down true p = absurd (true_false (sym (subst (λ (m : ℕ). is_up before m ≡ true) (equal s t p) may.up) ∙ down))
+    at : (t : ℕ) → is_up c before t ≡ false → (b : Bool) → (s == t) ≡ b → cond b (Some e) (epoch_of before t) ≡ None
+    at t down true p = absurd (true_false (sym (subst (λ (m : ℕ). is_up c before m ≡ true) (equal s t p) may.up) ∙ down))
     at t down false p = (k t down).epoch
 down_record c n (says.Leave s e) before may k = λ t down. record { waits = (k t down).waits; epoch = at (s == t) (epoch_of before t) (k t down).epoch; descriptors = (k t down).descriptors }
   where
@@ -121,19 +121,19 @@ down_record c n (says.Answer s process d reply) before may k = λ t down. record
     first true q b z = refl
     first false q b z = absurd (true_false (sym z))
 
-    found : (t : ℕ) → is_up before t ≡ false → NotAt t may.caller × (is_this s process d may.caller ≡ true)
+    found : (t : ℕ) → is_up c before t ≡ false → NotAt t may.caller × (is_this s process d may.caller ≡ true)
     found t down = found_every (NotAt t) (is_this s process d) (waiting before) may.caller may.waits (k t down).waits
 
-    at : (t : ℕ) → is_up before t ≡ false → (b : Bool) → (s == t) ≡ b → (user fd : ℕ) → cond (b && (process == user)) (opened_by reply before d fd (descriptor before t user fd)) (descriptor before t user fd) ≡ None
+    at : (t : ℕ) → is_up c before t ≡ false → (b : Bool) → (s == t) ≡ b → (user fd : ℕ) → cond (b && (process == user)) (opened_by reply before d fd (descriptor before t user fd)) (descriptor before t user fd) ≡ None
     at t down true p user fd = absurd ((found t down).0 (equal may.caller.site s (first (may.caller.site == s) (may.caller.process == process) (same_call may.caller.call d) (found t down).1) ∙ equal s t p))
     at t down false p user fd = (k t down).descriptors user fd
 down_record c n _ before may k = λ t down. record { waits = (k t down).waits; epoch = (k t down).epoch; descriptors = (k t down).descriptors }
 
-down_told : (c : Config) (n : ℕ) (x : Told) (older : List Line) → MayTell c older x → AllDown (entries older) → AllDown (onto_entries n x (entries older))
+down_told : (c : Config) (n : ℕ) (x : Told) (older : List Line) → MayTell c older x → AllDown c (entries older) → AllDown c (onto_entries n x (entries older))
 down_told c n (Shown r) older may k = down_record c n r (entries older) may.row k
 down_told c n _ older may k = k
 
-all_down : (c : Config) (t : List Line) → IsFollowed c t → AllDown (entries t)
+all_down : (c : Config) (t : List Line) → IsFollowed c t → AllDown c (entries t)
 all_down c [] h s down = absurd (true_false down)
 all_down c (x ∷ older) h s down = down_told c x.number x.told older h.0 (all_down c older h.1) s down
 

@@ -65,7 +65,7 @@ wrote_then c s e v w wrote = wrote_next (length (trace_of w)) (step c s (links_o
 pub wrote_it : (n : ℕ) (o : Option DiskWrite) (wrote : ℕ → List ℕ) (d : DiskWrite) → o ≡ Some d → wrote_next n o wrote n ≡ d.pages
 wrote_it n o wrote d e = ap (λ (x : Option DiskWrite). wrote_next n x wrote n) e ∙ next_told n d wrote
 
-pub does_counts : (wrote : ℕ → List ℕ) (c : Config) → RolesDo c → (lines : List ScheduleLine) (m s : ℕ) (e : Event) (v : SiteView) (w : World) → place_at w s ≡ Some (Running v) → is_up (trace_of w) s ≡ true → Every (SiteTold s (causes_of s (links_of w s) v e)) (step c s (links_of w s) v e).told →
+pub does_counts : (wrote : ℕ → List ℕ) (c : Config) → RolesDo c → (lines : List ScheduleLine) (m s : ℕ) (e : Event) (v : SiteView) (w : World) → place_at w s ≡ Some (Running v) → is_up c (trace_of w) s ≡ true → Every (SiteTold s (causes_of s (links_of w s) v e)) (step c s (links_of w s) v e).told →
     (Past c w.trace → EventFact c w.trace s v e) → Holds c w → Counts wrote c lines m w → Counts (wrote_then c s e v w wrote) c lines m (acts m s v (step c s (links_of w s) v e) w)
 does_counts wrote c roles lines m s e v w here up told fact holds g = acts_counts (wrote_then c s e v w wrote) c lines m s (causes_of s (links_of w s) v e) v (step c s (links_of w s) v e) w here up told (step_writes_first c s (links_of w s) v e)
     (λ past f. step_writes c roles m s (links_of w s) w.trace v e past (f.places s (Running v) here) (fact past)) (wrote_it (length (trace_of w)) (step c s (links_of w s) v e).written wrote) holds

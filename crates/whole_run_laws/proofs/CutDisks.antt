@@ -87,11 +87,11 @@ up_here pages c s boot before d = here_cond s s (disk_booted d) d refl
 pub up_there : (pages : List ℕ) (c : Config) (s t boot : ℕ) (before : Trace) (d : Disk) → s ≢ t → disk_after pages (says.Up s boot) c before t d ≡ d
 up_there pages c s t boot before d ne = there_cond s t s (disk_booted d) d refl ne
 
-pub stop_here : (pages : List ℕ) (c : Config) (s : ℕ) (why : StopCause) (up : Bool) (before : Trace) (d : Disk) → is_up before s ≡ up → disk_after pages (says.Stopped s why) c before s d ≡ disk_stopped up d
-stop_here pages c s why up before d e = here_cond s s (disk_stopped (is_up before s) d) d refl ∙ ap (λ (b : Bool). disk_stopped b d) e
+pub stop_here : (pages : List ℕ) (c : Config) (s : ℕ) (why : StopCause) (up : Bool) (before : Trace) (d : Disk) → is_up c before s ≡ up → disk_after pages (says.Stopped s why) c before s d ≡ disk_stopped up d
+stop_here pages c s why up before d e = here_cond s s (disk_stopped (is_up c before s) d) d refl ∙ ap (λ (b : Bool). disk_stopped b d) e
 
 pub stop_there : (pages : List ℕ) (c : Config) (s t : ℕ) (why : StopCause) (before : Trace) (d : Disk) → s ≢ t → disk_after pages (says.Stopped s why) c before t d ≡ d
-stop_there pages c s t why before d ne = there_cond s t s (disk_stopped (is_up before t) d) d refl ne
+stop_there pages c s t why before d ne = there_cond s t s (disk_stopped (is_up c before t) d) d refl ne
 
 -- ---- what later records wrote changes nothing before them ----
 

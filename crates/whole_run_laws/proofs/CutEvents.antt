@@ -73,11 +73,11 @@ lawful_up_here c s boot before d = ap (λ (b : Bool). cond b (booted_with d d.ar
 lawful_up_there : (c : Config) (s t boot : ℕ) (before : Trace) (d : lawful.Disk) → s ≢ t → lawful.disk_after (says.Up s boot) c before t d ≡ d
 lawful_up_there c s t boot before d ne = ap (λ (b : Bool). cond b (booted_with d d.armed) d) (apart_test s t ne)
 
-lawful_stop_here : (c : Config) (s : ℕ) (why : StopCause) (up : Bool) (before : Trace) (d : lawful.Disk) → is_up before s ≡ up → lawful.disk_after (says.Stopped s why) c before s d ≡ stopped_with up d d.armed
-lawful_stop_here c s why up before d e = ap (λ (b : Bool). cond b (stopped_with (is_up before s) d d.armed) d) (equal_self s) ∙ ap (λ (b : Bool). stopped_with b d d.armed) e
+lawful_stop_here : (c : Config) (s : ℕ) (why : StopCause) (up : Bool) (before : Trace) (d : lawful.Disk) → is_up c before s ≡ up → lawful.disk_after (says.Stopped s why) c before s d ≡ stopped_with up d d.armed
+lawful_stop_here c s why up before d e = ap (λ (b : Bool). cond b (stopped_with (is_up c before s) d d.armed) d) (equal_self s) ∙ ap (λ (b : Bool). stopped_with b d d.armed) e
 
 lawful_stop_there : (c : Config) (s t : ℕ) (why : StopCause) (before : Trace) (d : lawful.Disk) → s ≢ t → lawful.disk_after (says.Stopped s why) c before t d ≡ d
-lawful_stop_there c s t why before d ne = ap (λ (b : Bool). cond b (stopped_with (is_up before t) d d.armed) d) (apart_test s t ne)
+lawful_stop_there c s t why before d ne = ap (λ (b : Bool). cond b (stopped_with (is_up c before t) d d.armed) d) (apart_test s t ne)
 
 -- ---- versions ----
 
@@ -166,7 +166,7 @@ module _ (wrote : ℕ → List ℕ) where
   abbrev StopTo : Config → List ScheduleLine → ℕ → ℕ → Bool → DiskLeft → World → Type 0
   StopTo c lines m s up d w = SiteAs (stopped_with up (lawful.disk_at c lines (trace_of w) m s) (lawful.armed_at c lines (trace_of w) m s)) (disk_stopped up (disk_at wrote c lines (trace_of w) m s)) None (Some (Stopped d))
 
-  stop_site : (c : Config) (lines : List ScheduleLine) (m s : ℕ) (why : StopCause) (up : Bool) (d : DiskLeft) (w : World) → Rises w.armed → is_up (trace_of w) s ≡ up → StopTo c lines m s up d w →
+  stop_site : (c : Config) (lines : List ScheduleLine) (m s : ℕ) (why : StopCause) (up : Bool) (d : DiskLeft) (w : World) → Rises w.armed → is_up c (trace_of w) s ≡ up → StopTo c lines m s up d w →
       SiteTo c lines m (Shown (says.Stopped s why) ∷ []) w s (script_of (stops_with s d w) s) (place_at (stops_with s d w) s)
   stop_site c lines m s why up d w rises is h =
       let least : lawful.Disk = lawful.disk_at c lines (trace_of w) m s in
@@ -177,7 +177,7 @@ module _ (wrote : ℕ → List ℕ) where
       (lawful_more c lines m s (says.Stopped s why) (trace_of w) ∙ lawful_stop_here c s why up (trace_of w) least is)
       (disk_more wrote c lines m s (says.Stopped s why) (trace_of w) ∙ stop_here (wrote (length (trace_of w))) c s why up (trace_of w) old is) (gone_script s w.armed rises) (puts_same s (Stopped d) w) h
 
-  stop_counts : (c : Config) (lines : List ScheduleLine) (m s : ℕ) (why : StopCause) (up : Bool) (d : DiskLeft) (w : World) → is_up (trace_of w) s ≡ up →
+  stop_counts : (c : Config) (lines : List ScheduleLine) (m s : ℕ) (why : StopCause) (up : Bool) (d : DiskLeft) (w : World) → is_up c (trace_of w) s ≡ up →
       (CountsAreTheRuns wrote c lines m w → CountedRecord c lines m (trace_of w) (says.Stopped s why)) → (CountsAreTheRuns wrote c lines m w → StopTo c lines m s up d w) → Counts c lines m w → Counts c lines m (happened m [] (Shown (says.Stopped s why) ∷ []) (stops_with s d) w)
   stop_counts c lines m s why up d w is row site g = happened_counts c lines m [] (Shown (says.Stopped s why) ∷ []) (stops_with s d) w
       (λ r f. record {
@@ -196,7 +196,7 @@ module _ (wrote : ℕ → List ℕ) where
       by_armed None = record { calls = tt; gates = (h.gates.0, none_open) }
       by_armed (Some a) = record { calls = tt; gates = (h.gates.0, none_open) }
 
-  pub asked_counts : (c : Config) (lines : List ScheduleLine) (m s : ℕ) (v : SiteView) (w : World) → place_at w s ≡ Some (Running v) → is_up (trace_of w) s ≡ true → Counts c lines m w → Counts c lines m (asked_stop m s v w)
+  pub asked_counts : (c : Config) (lines : List ScheduleLine) (m s : ℕ) (v : SiteView) (w : World) → place_at w s ≡ Some (Running v) → is_up c (trace_of w) s ≡ true → Counts c lines m w → Counts c lines m (asked_stop m s v w)
   asked_counts c lines m s v w here up g = stop_counts c lines m s cause.Asked true (disk_of v) w up (λ f. tt)
       (λ f. (let k : SiteTo c lines m [] w s (script_of w s) (Some (Running v)) = site_by c lines m s (script_of w s) (Some (Running v)) w refl here f in
       record { counts = asked_site (disk_at wrote c lines (trace_of w) m s) (script_of w s) v k.counts; least = stop_least true (lawful.disk_at c lines (trace_of w) m s) (disk_at wrote c lines (trace_of w) m s) k.least })) g
@@ -234,7 +234,7 @@ module _ (wrote : ℕ → List ℕ) where
       told : List Told
       told = Shown (says.Up s boot) ∷ []
 
-  as_counts : (c : Config) (lines : List ScheduleLine) (m s : ℕ) (a : Script) (b : Booted) (w : World) → is_up (trace_of w) s ≡ false → script_of w s ≡ Some a → GoesOn a b → (CountsAreTheRuns wrote c lines m w → BootCounts (disk_at wrote c lines (trace_of w) m s) a b) →
+  as_counts : (c : Config) (lines : List ScheduleLine) (m s : ℕ) (a : Script) (b : Booted) (w : World) → is_up c (trace_of w) s ≡ false → script_of w s ≡ Some a → GoesOn a b → (CountsAreTheRuns wrote c lines m w → BootCounts (disk_at wrote c lines (trace_of w) m s) a b) →
       (CountsAreTheRuns wrote c lines m w → IsLeast true (lawful.disk_at c lines (trace_of w) m s) (disk_at wrote c lines (trace_of w) m s)) → Counts c lines m w → Counts c lines m (boots_as m s b w)
   as_counts c lines m s a (Whole y None) w down e goes h least g = absurd goes
   as_counts c lines m s a (Whole y (Some z)) w down e goes h least g =
@@ -252,7 +252,7 @@ module _ (wrote : ℕ → List ℕ) where
       stop_counts c lines m s (cause_of how) false y w down (λ f. cut_counted c lines m s how (trace_of w) (may_now c lines m s (trace_of w) (calls_left c lines m s a w e f)))
       (λ f. record { counts = h f; least = stop_least false (lawful.disk_at c lines (trace_of w) m s) (disk_at wrote c lines (trace_of w) m s) (least f) }) g
 
-  pub boot_counts_as : (c : Config) (lines : List ScheduleLine) (m s : ℕ) (d : DiskLeft) (w : World) → place_at w s ≡ Some (Stopped d) → is_up (trace_of w) s ≡ false → Counts c lines m w → Counts c lines m (boots_as m s (boots (script_of w s) d) w)
+  pub boot_counts_as : (c : Config) (lines : List ScheduleLine) (m s : ℕ) (d : DiskLeft) (w : World) → place_at w s ≡ Some (Stopped d) → is_up c (trace_of w) s ≡ false → Counts c lines m w → Counts c lines m (boots_as m s (boots (script_of w s) d) w)
   boot_counts_as c lines m s d w here down g = by_script (script_of w s) refl
     where
       by_script : (x : Option Script) → script_of w s ≡ x → Counts c lines m (boots_as m s (boots x d) w)
@@ -324,7 +324,7 @@ module _ (wrote : ℕ → List ℕ) where
       }) g
 
   -- a version is written, and the site is stopped in it
-  cut_counts : (c : Config) (lines : List ScheduleLine) (m s : ℕ) (r : Record) (y : Writing) (a : Script) (v : SiteView) (d : DiskLeft) (w : World) → place_at w s ≡ Some (Running v) → VersionOf s r → is_up (trace_of w) s ≡ true → script_of w s ≡ Some a →
+  cut_counts : (c : Config) (lines : List ScheduleLine) (m s : ℕ) (r : Record) (y : Writing) (a : Script) (v : SiteView) (d : DiskLeft) (w : World) → place_at w s ≡ Some (Running v) → VersionOf s r → is_up c (trace_of w) s ≡ true → script_of w s ≡ Some a →
       (IsRest c (told_onto m (Shown r ∷ Shown (says.Stopped s (cause_of a.how)) ∷ []) w.trace) → (x : Disk) → disk_after (wrote (length (trace_of w))) r c (trace_of w) s x ≡ disk_written y x) →
       (CountsAreTheRuns wrote c lines m w → CountsAt (disk_stopped true (disk_written y (disk_at wrote c lines (trace_of w) m s))) None (Some (Stopped d))) →
       Counts c lines m w → Counts c lines m (happened m [] (Shown r ∷ Shown (says.Stopped s (cause_of a.how)) ∷ []) (stops_with s d) w)
@@ -340,8 +340,8 @@ module _ (wrote : ℕ → List ℕ) where
             })
             (site_as (lawful.disk_at c lines (told_trace m told w) m s) (stopped_with true counted counted.armed) (disk_at wrote c lines (told_trace m told w) m s) (disk_stopped true (disk_after (wrote (length (trace_of w))) r c (trace_of w) s old))
             (script_of (stops_with s d w) s) None (place_at (stops_with s d w) s) (Some (Stopped d))
-            (lawful_more c lines m s (says.Stopped s (cause_of a.how)) first ∙ (lawful_stop_here c s (cause_of a.how) true first (lawful.disk_at c lines first m s) (version_up s s m r (trace_of w) own ∙ up) ∙ ap (λ (x : lawful.Disk). stopped_with true x x.armed) (lawful_more c lines m s r (trace_of w))))
-            (disk_more wrote c lines m s (says.Stopped s (cause_of a.how)) first ∙ (stop_here (wrote (length first)) c s (cause_of a.how) true first (disk_at wrote c lines first m s) (version_up s s m r (trace_of w) own ∙ up) ∙ ap (disk_stopped true) (disk_more wrote c lines m s r (trace_of w))))
+            (lawful_more c lines m s (says.Stopped s (cause_of a.how)) first ∙ (lawful_stop_here c s (cause_of a.how) true first (lawful.disk_at c lines first m s) (version_up c s s m r (trace_of w) own ∙ up) ∙ ap (λ (x : lawful.Disk). stopped_with true x x.armed) (lawful_more c lines m s r (trace_of w))))
+            (disk_more wrote c lines m s (says.Stopped s (cause_of a.how)) first ∙ (stop_here (wrote (length first)) c s (cause_of a.how) true first (disk_at wrote c lines first m s) (version_up c s s m r (trace_of w) own ∙ up) ∙ ap (disk_stopped true) (disk_more wrote c lines m s r (trace_of w))))
             (gone_script s w.armed f.rises) (puts_same s (Stopped d) w)
             (record {
               counts = subst (λ (x : Disk). CountsAt (disk_stopped true x) None (Some (Stopped d))) (sym (so k old)) (site f);
@@ -368,7 +368,7 @@ module _ (wrote : ℕ → List ℕ) where
   abbrev pub WroteIt : World → Option DiskWrite → Type 0
   WroteIt w o = (d : DiskWrite) → o ≡ Some d → wrote (length (trace_of w)) ≡ d.pages
 
-  pub acts_counts : (c : Config) (lines : List ScheduleLine) (m s : ℕ) (k : Causes) (v : SiteView) (o : Outcome SiteView) (w : World) → place_at w s ≡ Some (Running v) → is_up (trace_of w) s ≡ true → Every (SiteTold s k) o.told → DiskFirst s o.told o.written →
+  pub acts_counts : (c : Config) (lines : List ScheduleLine) (m s : ℕ) (k : Causes) (v : SiteView) (o : Outcome SiteView) (w : World) → place_at w s ≡ Some (Running v) → is_up c (trace_of w) s ≡ true → Every (SiteTold s k) o.told → DiskFirst s o.told o.written →
       (Past c w.trace → WorldFact c w → WritesSo c m w.trace s v.store o.written) → WroteIt w o.written → Holds c w → Counts c lines m w → Counts c lines m (acts m s v o w)
   acts_counts c lines m s k v o w here up h (inl u) writes pages holds g =
       subst (λ (x : Option DiskWrite). Counts c lines m (acts_of m s v o x w)) (sym u.0) (still_counts c lines m o.sent o.told (λ now. puts s (Running o.view) now) w refl (runs_stay s v o.view w here) (no_disks s k o.told h u.1) g)

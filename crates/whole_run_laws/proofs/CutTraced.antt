@@ -25,10 +25,10 @@ use Rattle.rest_laws.specs.MendStepCounting.{CountedRecord, IsCountedRow}
 -- ---- sites ----
 
 -- a version leaves its site running
-pub version_up : (s t line : ℕ) (r : Record) (before : Trace) → VersionOf s r → is_up (record { line = line; what = r } ∷ before) t ≡ is_up before t
-version_up s t line (says.Commit f u stamp parents content) before h = refl
-version_up s t line (says.Adopt f u stamp) before h = refl
-version_up s t line _ before h = absurd h
+pub version_up : (c : Config) (s t line : ℕ) (r : Record) (before : Trace) → VersionOf s r → is_up c (record { line = line; what = r } ∷ before) t ≡ is_up c before t
+version_up c s t line (says.Commit f u stamp parents content) before h = refl
+version_up c s t line (says.Adopt f u stamp) before h = refl
+version_up c s t line _ before h = absurd h
 
 -- ---- rows ----
 

@@ -52,7 +52,7 @@ disk_stopped up d = record { rest = stopped_with up d.rest d.rest.armed; slots =
 
 abbrev pub disk_after : List ℕ → Record → Config → Trace → ℕ → Disk → Disk
 disk_after pages (Up s boot) c before site d = cond (s == site) (disk_booted d) d
-disk_after pages (Stopped s cause) c before site d = cond (s == site) (disk_stopped (is_up before site) d) d
+disk_after pages (Stopped s cause) c before site d = cond (s == site) (disk_stopped (is_up c before site) d) d
 disk_after pages (Commit f s stamp parents content) c before site d = cond (s == site) (disk_written (writing_commit c before f site) d) d
 disk_after pages (Adopt f s stamp) c before site d = cond (s == site) (disk_written (writing_adopted pages c before f site stamp) d) d
 disk_after pages _ c before site d = d
