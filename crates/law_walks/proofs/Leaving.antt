@@ -7,9 +7,9 @@ use Rattle.the_run.specs.of_role_steps.Views.{Frame, SiteView}
 use Rattle.the_run.specs.of_role_steps.Epochs.{frame_in}
 use Rattle.the_run.specs.of_role_steps.declared.rounds.InEpoch.{InEpoch}
 use Rattle.the_run.specs.Steps.{takes_framed, adopts_of, tries_at, starts_mends_of}
-use Rattle.law_walks.specs.Laws.{Law, frame_law, SiteKeeps, Leaves}
-use Rattle.law_walks.proofs.Premises.{every_unit, frame_keeps, frame_answers}
-use Rattle.law_walks.proofs.SiteWalks.{adopts_of_walk, tries_walk, mends_of_walk, framed_walk}
+use Rattle.the_run.specs.KindLaws.{Law, frame_law, SiteKeeps, Leaves}
+use Rattle.the_run.proofs.Premises.{every_unit, frame_keeps, frame_answers}
+use Rattle.the_run.proofs.SiteWalks.{adopts_of_walk, tries_walk, mends_of_walk, framed_walk}
 
 abbrev asks_nothing : Law
 asks_nothing = frame_law (λ p. Unit {0}) (λ t. Unit {0}) (λ w. Unit {0})

@@ -19,8 +19,8 @@ use Rattle.the_run.specs.of_role_steps.Epochs.{is_epoch_below, leaves_of, leaves
 use Rattle.the_run.specs.of_role_steps.declared.rounds.InEpoch.{InEpoch}
 use Rattle.the_run.specs.of_role_steps.declared.rounds.Round.{Round}
 use Rattle.the_run.specs.Steps.{is_dropped, takes_framed, takes, adopts_in, tries_at, whole, takes_call, step, adopts_of, starts_mends_of, ends_event}
-use Rattle.law_walks.specs.Laws.{Law, EventsKeep}
-use Rattle.law_walks.proofs.SiteWalks.{adopts_of_walk, tries_walk, mends_of_walk, framed_walk}
+use Rattle.the_run.specs.KindLaws.{Law, EventsKeep}
+use Rattle.the_run.proofs.SiteWalks.{adopts_of_walk, tries_walk, mends_of_walk, framed_walk}
 
 -- ---- new tables ----
 

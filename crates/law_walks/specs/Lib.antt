@@ -1,5 +1,5 @@
-pub mod Kinds
-pub mod Laws
+pub use Rattle.the_run.specs.Kinds as Kinds
+pub use Rattle.the_run.specs.KindLaws as Laws
 pub use Rattle.the_run.specs as of_the_run
 pub use Rattle.the_run.specs.of_call_rules as of_call_rules
 pub use Rattle.the_run.specs.of_role_steps as of_role_steps

@@ -3,10 +3,7 @@ pub mod Rows
 pub mod Fitting
 pub mod Counted
 pub mod Sending
-pub mod SyncSends
 pub mod HeldReads
-pub mod StoreSends
 pub mod Caching
-pub mod UserSends
 pub mod SiteSends
 pub use Rattle.plain_facts.proofs as of_plain_facts

@@ -4,7 +4,7 @@ use Rattle.std.specs.List.{flat_map}
 use Rattle.wire_messages.specs.declared.packet.Packet.{Packet}
 use Rattle.wire_messages.specs.declared.body.Body.{Body}
 use Rattle.role_steps.specs.Own.{Every}
-use Rattle.role_steps.specs.Views.{Frame, Outcome, joined_to, packet, to_some, to_sync, sync_site}
+use Rattle.role_steps.specs.Views.{Frame, Outcome, packet, to_some, to_sync, sync_site}
 
 -- ---- lists ----
 
@@ -40,6 +40,3 @@ some_sent P f h b (Some to) = (h to b, tt)
 
 pub sync_sent : (P : Packet → Type 0) (f : Frame) → OfFrame P f → (group : ℕ) (b : Body) → Every P (to_sync f group b)
 sync_sent P f h group b = some_sent P f h b (sync_site f.config f.members group)
-
-pub joined_sent : {V W : Type 0} (P : Packet → Type 0) (o : Outcome V) (p : Outcome W) → AllSent P o → AllSent P p → AllSent P (joined_to o p)
-joined_sent P o p h g = every_append P o.sent p.sent h g

@@ -1,27 +1,19 @@
 -- What a site sends is its own: from it, with its boot number; and no event changes the boot number.
-use Rattle.std.proofs.Common.{◌≡◌, ℕ, ◌+◌, ◌&&◌, not, Bool, true, false, cond, List, [], ◌∷◌, map, Option, Some, None, refl, ◌∙◌}
+use Rattle.std.proofs.Common.{◌≡◌, ℕ, ◌+◌, ◌&&◌, not, Bool, true, false, cond, List, [], ◌∷◌, map, Option, Some, None, refl}
 use Rattle.locus_ids.specs.declared.ids.EpochId.{EpochId}
 use Rattle.locus_ids.specs.declared.sites.Members.{Members}
 use Rattle.locus_ids.specs.declared.sites.Links.{Links}
 use Rattle.locus_ids.specs.declared.sites.Sites.{Sites}
 use Rattle.locus_ids.specs.declared.config.Config.{Config}
 use Rattle.wire_messages.specs.of_trace_book.Same.{same_epoch}
-use Rattle.wire_messages.specs.of_trace_book.declared.call.Call.TheVariants as call
 use Rattle.wire_messages.specs.declared.packet.Packet.{Packet}
-use Rattle.role_steps.specs.Tables.{row, without_row, first_that}
+use Rattle.role_steps.specs.Tables.{without_row}
 use Rattle.role_steps.specs.Views.{Frame, SiteView, Outcome, Promises, quiet, sends, tells, and_then}
 use Rattle.role_steps.specs.Epochs.{is_epoch_below, frame_in, leaves_of, leaves, promises, promised_view, reached, poll_packet, polled_sites, polls, round_id, begins_round, starts_merge, boots_where, merge_boot, part_boot, starts_part_of, starts_part, promise_packet, refuse_packet, on_poll, on_promise_of, on_refuse_of, report_packets, all_reports, joined_view, joins, may_install, is_in, joined_packet, on_install, on_joined, passed_over, unanswered, chosen_members, chosen_set, others_of, install_packet, installs_all, decides, decides_if, passes_over_of, passes_over, poll_repeats, install_repeats}
-use Rattle.role_steps.specs.Adoption.{notes_own_at, table_group, is_ready, fits_own, adopts_pull, without_pull, adopts_first, adopts}
-use Rattle.role_steps.specs.Storage.{copy_of}
-use Rattle.role_steps.specs.Mends.{has_mend_in, wants_mend, starts_mend_of, starts_mend, starts_mends_in, starts_mends, row_file}
-use Rattle.role_steps.specs.declared.pulls.Pull.{Pull}
 use Rattle.role_steps.specs.declared.rounds.InEpoch.{InEpoch}
 use Rattle.role_steps.specs.declared.rounds.Round.{Round}
-use Rattle.role_steps.specs.declared.synchronizing.SyncTable.{SyncTable}
-use Rattle.role_steps.specs.declared.synchronizing.FileRow.{FileRow}
 use Rattle.role_steps.specs.Own.{Every, IsOwn, Sends}
 use Rattle.role_steps.proofs.Sending.{OfFrame, every_append, every_cond, every_map, every_flat_map, sync_sent}
-use Rattle.role_steps.proofs.UserSends.{on_call_sent}
 
 pub frame_own : (c : Config) (me boot : ℕ) (v : SiteView) (e : InEpoch) → v.boot ≡ boot → OfFrame (IsOwn me boot) (frame_in c me v.boot e)
 frame_own c me boot v e b = λ to x. record { site = refl; number = b }
@@ -81,7 +73,7 @@ on_refuse_of_sends me boot links id promised (Some r) v b =
       | false ↦ quiet_sends me boot v b
     ]
 
-pub all_reports_sent : (P : Packet → Type 0) (f : Frame) → OfFrame P f → (v : SiteView) → Every P (all_reports f v)
+all_reports_sent : (P : Packet → Type 0) (f : Frame) → OfFrame P f → (v : SiteView) → Every P (all_reports f v)
 all_reports_sent P f h v = every_flat_map P (report_packets f v) v.reports (λ g. sync_sent P f h g _)
 
 joins_sends : (c : Config) (me boot : ℕ) (id : EpochId) (members : Members) (v : SiteView) → v.boot ≡ boot → Sends me boot (joins c me id members v)
@@ -129,46 +121,3 @@ poll_repeats_sent me boot v (Some r) b = every_map (IsOwn me boot) (poll_packet 
 
 pub install_repeats_sent : (me boot : ℕ) (v : SiteView) (e : InEpoch) → v.boot ≡ boot → Every (IsOwn me boot) (install_repeats me v e)
 install_repeats_sent me boot v e b = installs_sent me boot e.id e.members v.installs v b
-
--- ---- adoptions ----
-
-notes_boot : (f : Frame) (p : Pull) (o : Option SyncTable) (v : SiteView) → (notes_own_at f p o v).boot ≡ v.boot
-notes_boot f p None v = refl
-notes_boot f p (Some t) v = refl
-
-adopts_pull_sends : (me boot : ℕ) (f : Frame) (p : Pull) (v : SiteView) → OfFrame (IsOwn me boot) f → v.boot ≡ boot → Sends me boot (adopts_pull f p v)
-adopts_pull_sends me boot f p v h b = record { view = notes_boot f p (row table_group p.file.group v.tables) _ ∙ b; sent = sync_sent (IsOwn me boot) f h p.file.group _ }
-
-adopts_first_sends : (me boot : ℕ) (f : Frame) (ps : List Pull) (v : SiteView) → OfFrame (IsOwn me boot) f → v.boot ≡ boot → Sends me boot (adopts_first f ps v)
-adopts_first_sends me boot f [] v h b = quiet_sends me boot v b
-adopts_first_sends me boot f (p ∷ ps) v h b =
-    elim (is_ready v p) as (λ t. Sends me boot (elim t [ true ↦ elim (fits_own p (copy_of v.store p.file)) [ true ↦ adopts_pull f p v | false ↦ adopts_first f ps (without_pull p v) ] | false ↦ adopts_first f ps v ])) [
-      | true ↦ elim (fits_own p (copy_of v.store p.file)) as (λ t. Sends me boot (elim t [ true ↦ adopts_pull f p v | false ↦ adopts_first f ps (without_pull p v) ])) [
-        | true ↦ adopts_pull_sends me boot f p v h b
-        | false ↦ adopts_first_sends me boot f ps (without_pull p v) h b
-      ]
-      | false ↦ adopts_first_sends me boot f ps v h b
-    ]
-
-pub adopts_sends : (me boot : ℕ) (f : Frame) (v : SiteView) → OfFrame (IsOwn me boot) f → v.boot ≡ boot → Sends me boot (adopts f v)
-adopts_sends me boot f v h b = adopts_first_sends me boot f v.pulls v h b
-
--- ---- mends ----
-
-starts_mend_of_sends : (me boot : ℕ) (f : Frame) (t : SyncTable) (o : Option FileRow) (v : SiteView) → OfFrame (IsOwn me boot) f → v.boot ≡ boot → Sends me boot (starts_mend_of f t o v)
-starts_mend_of_sends me boot f t None v h b = quiet_sends me boot v b
-starts_mend_of_sends me boot f t (Some r) v h b = record { view = b; sent = on_call_sent (IsOwn me boot) f h (Some f.epoch) 0 (call.Mend (row_file t r)) v.users }
-
-starts_mend_sends : (me boot : ℕ) (f : Frame) (t : SyncTable) (v : SiteView) → OfFrame (IsOwn me boot) f → v.boot ≡ boot → Sends me boot (starts_mend f t v)
-starts_mend_sends me boot f t v h b =
-    elim (t.started && not (has_mend_in v.users t.group)) as (λ x. Sends me boot (elim x [ true ↦ starts_mend_of f t (first_that (wants_mend v t) t.files) v | false ↦ quiet v ])) [
-      | true ↦ starts_mend_of_sends me boot f t (first_that (wants_mend v t) t.files) v h b
-      | false ↦ quiet_sends me boot v b
-    ]
-
-starts_mends_in_sends : (me boot : ℕ) (f : Frame) (ts : List SyncTable) (v : SiteView) → OfFrame (IsOwn me boot) f → v.boot ≡ boot → Sends me boot (starts_mends_in f ts v)
-starts_mends_in_sends me boot f [] v h b = quiet_sends me boot v b
-starts_mends_in_sends me boot f (t ∷ ts) v h b = and_then_sends me boot (starts_mend f t v) (starts_mends_in f ts) (starts_mend_sends me boot f t v h b) (λ now e. starts_mends_in_sends me boot f ts now h e)
-
-pub starts_mends_sends : (me boot : ℕ) (f : Frame) (v : SiteView) → OfFrame (IsOwn me boot) f → v.boot ≡ boot → Sends me boot (starts_mends f v)
-starts_mends_sends me boot f v h b = starts_mends_in_sends me boot f v.tables v h b

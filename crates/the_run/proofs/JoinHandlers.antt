@@ -1,7 +1,6 @@
 -- Each handler of a site joins lawfully, and promises no lower id.
 use Rattle.std.proofs.Common.{◌≡◌, ℕ, ◌+◌, ◌≤◌, nat_lt, Bool, true, false, cond, ◌&&◌, not, List, [], ◌∷◌, ◌++◌, map, Option, Some, None, refl, sym, ◌∙◌, ap, subst, inl, inr, arith}
 use Rattle.std.proofs.lemmas.Bool.Decides.{nat_tests}
-use Rattle.std.specs.List.{flat_map}
 use Rattle.role_steps.proofs.of_plain_facts.Options.{none_some, some_same}
 use Rattle.role_steps.proofs.of_plain_facts.Tests.{both_true}
 use Rattle.locus_ids.specs.declared.ids.EpochId.{EpochId}
@@ -17,20 +16,18 @@ use Rattle.role_steps.specs.Own.{Every}
 use Rattle.role_steps.specs.Tables.{without_row}
 use Rattle.role_steps.specs.Views.{Frame, SiteView, Told, Promises, Outcome, Event, Calls, Receives, Ticks, Parts, Merges, GivesUp, quiet, sends, tells, and_then, joined_to}
 use Rattle.role_steps.specs.Using.{reply_record}
-use Rattle.role_steps.specs.Reports.{sync_repeats, new_table}
-use Rattle.role_steps.specs.Storage.{store_repeats}
-use Rattle.role_steps.specs.Pulling.{pull_repeats}
-use Rattle.role_steps.specs.Requests.{users_repeats}
-use Rattle.role_steps.specs.Epochs.{is_epoch_below, frame_in, leaves_of, leaves, promises, promised_view, reached, new_round, poll_packet, polled_sites, polls, round_id, begins_round, starts_merge, boots_where, merge_boot, part_boot, starts_part_of, starts_part, promise_packet, refuse_packet, on_poll, counts_promise, with_promise, on_promise_of, on_refuse_of, joined_view, report_packets, all_reports, joins, may_install, is_in, joined_packet, on_install, on_joined, passed_over, unanswered, chosen_members, chosen_set, others_of, install_packet, installs_all, decides, decides_if, passes_over_of, passes_over, poll_repeats, install_repeats}
+use Rattle.role_steps.specs.Reports.{new_table}
+use Rattle.role_steps.specs.Epochs.{is_epoch_below, frame_in, leaves_of, leaves, promises, promised_view, reached, new_round, poll_packet, polled_sites, polls, round_id, begins_round, starts_merge, boots_where, merge_boot, part_boot, starts_part_of, starts_part, promise_packet, refuse_packet, on_poll, counts_promise, with_promise, on_promise_of, on_refuse_of, joined_view, all_reports, joins, may_install, is_in, joined_packet, on_install, on_joined, passed_over, unanswered, chosen_members, chosen_set, others_of, install_packet, installs_all, decides, decides_if, passes_over_of, passes_over, poll_repeats, install_repeats}
 use Rattle.role_steps.specs.declared.rounds.InEpoch.{InEpoch}
 use Rattle.role_steps.specs.declared.rounds.Round.{Round}
 use Rattle.role_steps.specs.declared.users.WaitingCall.{WaitingCall}
-use Rattle.role_steps.proofs.Sending.{every_append, every_cond, every_map, every_flat_map}
+use Rattle.role_steps.proofs.Sending.{every_append, every_cond, every_map}
 use Rattle.the_run.specs.Steps.{in_order, is_dropped, takes_framed, takes, tries_at, adopts_in, starts_mends_of, ends_event, whole, repeats_inside, repeats_of, repeats, ticks_after, call_frame, epoch_id, takes_call, step}
 use Rattle.the_run.specs.Joins.{Knowledge, Now, MayJoin, BodyFact, PacketFact, Unclaimed, NoJoin, TableOk, Plain, IsAtMost, RoundOk, At, Fine}
-use Rattle.the_run.proofs.StepSends.{order_sent}
-use Rattle.the_run.proofs.InsideSync.{sync_plain, sync_repeats_plain}
-use Rattle.the_run.proofs.InsideRoles.{store_repeats_plain, pull_repeats_plain, users_repeats_plain, on_call_still}
+use Rattle.the_run.proofs.Rows.{order_sent}
+use Rattle.the_run.proofs.SiteWalks.{all_reports_walk, repeats_inside_walk}
+use Rattle.the_run.proofs.InsideSync.{joins_nothing, plain_keeps}
+use Rattle.the_run.proofs.InsideRoles.{on_call_still}
 use Rattle.the_run.proofs.InsideSites.{adopts_of_plain, tries_plain, mends_of_plain, framed_plain}
 use Rattle.the_run.proofs.Joining.{higher_at_most, below_at_most, packets_weaker, at_same, now_old, old_now, lawful_none, unclaimed_facts, joined_fine, then_fine, sends_fine, quiet_fine, plain_quiet, plain_at, plain_fine, after_plain}
 
@@ -173,7 +170,7 @@ on_refuse_fine J s boot low links id theirs (Some r) v h here le =
 -- ---- joining ----
 
 reports_plain : (f : Frame) (v : SiteView) → Every Unclaimed (all_reports f v)
-reports_plain f v = every_flat_map Unclaimed (report_packets f v) v.reports (λ g. sync_plain f g _ tt)
+reports_plain f v = all_reports_walk joins_nothing f (plain_keeps f).stores v
 
 -- a join that is lawful, of the promised id
 joins_fine : (J : Knowledge) (s boot : ℕ) (low : EpochId) (c : Config) (id : EpochId) (m : Members) (v : SiteView) → At J s boot low v → MayJoin J s boot id m → id ≡ v.promised → Fine J s boot low (joins c s id m v)
@@ -275,20 +272,12 @@ polls_ok : (J : Knowledge) (me : ℕ) (v : SiteView) (r : Option Round) → Ever
 polls_ok J me v None = tt
 polls_ok J me v (Some r) = every_map (PacketFact J) (poll_packet me v.boot r.id r.polled) (unanswered r) (λ s. tt)
 
-inside_repeats_plain : (f : Frame) (e : InEpoch) (v : SiteView) → Every Unclaimed (repeats_inside f e v)
-inside_repeats_plain f e v =
-    every_append Unclaimed (in_order (all_reports f v)) _ (order_sent Unclaimed (all_reports f v) (reports_plain f v))
-    (every_append Unclaimed (users_repeats f v.users) _ (users_repeats_plain f v.users)
-    (every_append Unclaimed (in_order (store_repeats f v.store)) _ (order_sent Unclaimed (store_repeats f v.store) (store_repeats_plain f v.store))
-    (every_append Unclaimed (in_order (pull_repeats f v.pulls)) _ (order_sent Unclaimed (pull_repeats f v.pulls) (pull_repeats_plain f v.pulls))
-    (order_sent Unclaimed (flat_map (sync_repeats f) v.tables) (every_flat_map Unclaimed (sync_repeats f) v.tables (sync_repeats_plain f))))))
-
 repeats_ok : (J : Knowledge) (c : Config) (me : ℕ) (o : Option InEpoch) (v : SiteView) → ((e : InEpoch) → o ≡ Some e → J e.id.site e.id e.members) → Every (PacketFact J) (repeats_of c me o v)
 repeats_ok J c me None v h = order_sent (PacketFact J) (poll_repeats me v v.round) (polls_ok J me v v.round)
 repeats_ok J c me (Some e) v h =
     every_append (PacketFact J) (in_order (poll_repeats me v v.round ++ install_repeats me v e)) (repeats_inside (frame_in c me v.boot e) e v)
     (order_sent (PacketFact J) (poll_repeats me v v.round ++ install_repeats me v e) (every_append (PacketFact J) (poll_repeats me v v.round) (install_repeats me v e) (polls_ok J me v v.round) (every_map (PacketFact J) (install_packet me v.boot e.id e.members) v.installs (λ t. h e refl))))
-    (unclaimed_facts J (repeats_inside (frame_in c me v.boot e) e v) (inside_repeats_plain (frame_in c me v.boot e) e v))
+    (unclaimed_facts J (repeats_inside (frame_in c me v.boot e) e v) (repeats_inside_walk joins_nothing (frame_in c me v.boot e) (plain_keeps (frame_in c me v.boot e)) e v))
 
 ticks_fine : (J : Knowledge) (s boot : ℕ) (low : EpochId) (c : Config) (links : Links) (v : SiteView) (a : Outcome SiteView) → At J s boot low v → Plain v a → Fine J s boot low (ticks_after c s links a)
 ticks_fine J s boot low c links v a h p =

@@ -16,7 +16,7 @@ use Rattle.the_run.specs.Steps.{in_order}
 use Rattle.the_run.specs.Joins.{Knowledge, IsJoin, IsJoinRecord, TellsJoin, Now, MayJoin, LawfulRecord, LawfulOne, And, LawfulTold, BodyFact, PacketFact, NoClaim, Unclaimed, NoJoinRecord, NoJoin, Still, TableOk, Plain, IsAtMost, RoundOk, ViewOk, At, Fine}
 use Rattle.the_run.proofs.Boots.{every_weaker}
 use Rattle.the_run.proofs.InsideSync.{no_first}
-use Rattle.the_run.proofs.StepSends.{order_sent}
+use Rattle.the_run.proofs.Rows.{order_sent}
 
 -- ---- ids ----
 
@@ -74,32 +74,7 @@ Leads J L = (s : ℕ) (id : EpochId) (m : Members) → J s id m → L s id m
 pub fact_weaker : (J L : Knowledge) → Leads J L → (id : EpochId) (b : Body) → BodyFact J id b → BodyFact L id b
 fact_weaker J L f id (body.Install m) h = f id.site id m h
 fact_weaker J L f id (body.Refuse theirs) h = h
-fact_weaker J L f id body.Poll h = tt
-fact_weaker J L f id (body.Promise reach) h = tt
-fact_weaker J L f id body.Joined h = tt
-fact_weaker J L f id (body.Report group copies) h = tt
-fact_weaker J L f id (body.ReportOk group) h = tt
-fact_weaker J L f id (body.Open serial call process request file how) h = tt
-fact_weaker J L f id (body.OpenSs inst file mode set kind base vector parents) h = tt
-fact_weaker J L f id (body.Opened inst answer) h = tt
-fact_weaker J L f id (body.OpenDone serial answer) h = tt
-fact_weaker J L f id (body.Op serial n o seen) h = tt
-fact_weaker J L f id (body.ReadHeld serial n at len) h = tt
-fact_weaker J L f id (body.OpDone serial n result) h = tt
-fact_weaker J L f id (body.AsHeld serial n len) h = tt
-fact_weaker J L f id (body.Close serial) h = tt
-fact_weaker J L f id (body.Closed inst made) h = tt
-fact_weaker J L f id (body.ClosedOk inst) h = tt
-fact_weaker J L f id (body.CloseDone serial answer) h = tt
-fact_weaker J L f id (body.Look call process request take file what) h = tt
-fact_weaker J L f id (body.LookSs us call process request take file what serve) h = tt
-fact_weaker J L f id (body.LookDone call request take answer) h = tt
-fact_weaker J L f id (body.Notify file kind set size stamp vector holder) h = tt
-fact_weaker J L f id (body.Pull file stamp page) h = tt
-fact_weaker J L f id (body.Want file wanted own) h = tt
-fact_weaker J L f id (body.Page file stamp page bytes) h = tt
-fact_weaker J L f id (body.Delta file wanted pages) h = tt
-fact_weaker J L f id (body.Have file stamp) h = tt
+fact_weaker J L f id _ h = tt
 
 pub packets_weaker : (J L : Knowledge) → Leads J L → (ps : List Packet) → Every (PacketFact J) ps → Every (PacketFact L) ps
 packets_weaker J L f ps h = every_weaker (PacketFact J) (PacketFact L) ps (λ p. fact_weaker J L f p.epoch p.body) h
@@ -227,16 +202,6 @@ quiet_fine J s boot low v h = sends_fine J s boot low [] v h tt
 
 pub plain_quiet : (v : SiteView) → Every TableOk v.tables → Plain v (quiet v)
 plain_quiet v h = record { boot = refl; round = refl; promised = refl; epoch = refl; tables = h; still = (tt, tt, tt) }
-
-pub plain_then : (v : SiteView) (o : Outcome SiteView) (f : SiteView → Outcome SiteView) → Plain v o → Plain o.view (f o.view) → Plain v (and_then o f)
-plain_then v o f h g = record {
-  boot = g.boot ∙ h.boot;
-  round = g.round ∙ h.round;
-  promised = g.promised ∙ h.promised;
-  epoch = g.epoch ∙ h.epoch;
-  tables = g.tables;
-  still = (every_append Unclaimed o.sent (f o.view).sent h.still.0 g.still.0, every_append NoJoin o.told (f o.view).told h.still.1 g.still.1, no_first o.written (f o.view).written h.still.2 g.still.2);
-}
 
 pub plain_at : (J : Knowledge) (s boot : ℕ) (low : EpochId) (v : SiteView) (o : Outcome SiteView) → Plain v o → At J s boot low v → At J s boot low o.view
 plain_at J s boot low v o p h = record {

@@ -1,8 +1,15 @@
 pub mod Runs
 pub mod Events
 pub mod Growing
+pub mod Rows
+pub mod Premises
+pub mod SyncWalks
+pub mod RoleWalks
+pub mod Roles
+pub mod SiteWalks
 pub mod StepSends
 pub mod Boots
+pub mod FirstWorld
 pub mod InsideSync
 pub mod InsideRoles
 pub mod Joining

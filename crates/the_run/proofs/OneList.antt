@@ -1,5 +1,5 @@
 -- In every run all joins of one epoch id have one list of members, and promised ids only rise.
-use Rattle.std.proofs.Common.{◌≡◌, ◌≢◌, ℕ, ◌+◌, ◌≤◌, ◌==◌, true, false, List, [], ◌∷◌, ◌++◌, length, map, Option, Some, None, refl, sym, ◌∙◌, ap, subst, inl, inr, arith}
+use Rattle.std.proofs.Common.{◌≡◌, ◌≢◌, ℕ, ◌+◌, ◌≤◌, List, [], ◌∷◌, ◌++◌, length, map, Option, Some, None, refl, sym, ◌∙◌, ap, subst, inl, inr, arith}
 use Rattle.role_steps.proofs.of_plain_facts.Options.{some_same}
 use Rattle.locus_ids.specs.declared.ids.EpochId.{EpochId}
 use Rattle.locus_ids.specs.declared.sites.Members.{Members}
@@ -10,7 +10,6 @@ use Rattle.role_steps.specs.of_trace_book.declared.record.Record.TheVariants as 
 use Rattle.role_steps.specs.of_trace_book.declared.record.StopCause.TheVariants as cause
 use Rattle.role_steps.specs.of_wire_messages.declared.packet.Packet.{Packet}
 use Rattle.role_steps.specs.Own.{Every}
-use Rattle.role_steps.specs.Tables.{row}
 use Rattle.role_steps.specs.Views.{SiteView, Told, Shown, DiskWrite, Outcome, Event, Calls, Receives, Ticks, Parts, Merges, GivesUp}
 use Rattle.role_steps.specs.declared.rounds.InEpoch.{InEpoch}
 use Rattle.role_steps.specs.declared.rounds.Round.{Round}
@@ -18,15 +17,16 @@ use Rattle.role_steps.specs.declared.synchronizing.SyncTable.{SyncTable}
 use Rattle.role_steps.proofs.Sending.{every_append, every_cond, every_map}
 use Rattle.the_run.specs.Disks.{Disk, Booted, Whole, CutOff, boots, cut_disk, is_on_disk}
 use Rattle.the_run.specs.Steps.{step}
-use Rattle.the_run.specs.Worlds.{World, Place, Running, Stopped, Numbered, Line, number_of, links_of, place_at, place_in, place_site, script_of, happened, numbered_from, told_onto, disk_of, puts, arms, passed, stops_with, cut_told, cause_of, acts, fresh, first_place, formatted, first_world}
+use Rattle.the_run.specs.Worlds.{World, Place, Running, Stopped, Numbered, Line, number_of, links_of, place_at, script_of, happened, numbered_from, told_onto, disk_of, puts, arms, passed, stops_with, cut_told, cause_of, acts, fresh, formatted, first_world}
 use Rattle.the_run.specs.Runs.{boots_as, packet_record, run_from, run_in}
 use Rattle.the_run.specs.Kept.{Among, WasSent, IsOwn, Kept}
 use Rattle.the_run.specs.Laws.{boot_on, boot_number, BootsRise}
 use Rattle.the_run.specs.Joins.{IsJoin, IsJoinRecord, TellsJoin, Joined, OneList, EpochsAreJoined, PromisesRise, IsAtMost, Knowledge, Now, MayJoin, LawfulRecord, LawfulOne, And, LawfulTold, PacketFact, NoJoin, NoWrite, TableOk, ViewOk, At, Fine, Lists, JoinsOf, NumberedFact, Good}
 use Rattle.the_run.proofs.Boots.{at_each, puts_rises, Reached, boots_reached, acts_cases, every_newest, every_numbered, every_weaker, stays}
 use Rattle.the_run.proofs.Events.{happened_keeps, puts_other, puts_same}
+use Rattle.the_run.proofs.FirstWorld.{first_views}
 use Rattle.the_run.proofs.Growing.{run_splits}
-use Rattle.the_run.proofs.InsideSync.{every_without}
+use Rattle.the_run.proofs.Rows.{every_without}
 use Rattle.the_run.proofs.Joining.{Leads, same_at_most, fact_weaker, view_same, now_old, old_now, lawful_none}
 use Rattle.the_run.proofs.JoinHandlers.{EventFact, step_fine}
 use Rattle.the_run.proofs.Runs.{run_from_keeps, every_run}
@@ -203,9 +203,6 @@ running_view v u e = cc
 stopped_never : (d : Disk) (v : SiteView) → Stopped d ≡ Running v → ⊥
 stopped_never d v e = cc
 
-none_never : (v : SiteView) → ◌≡◌ {A = Option Place} None (Some (Running v)) → ⊥
-none_never v e = cc
-
 place_there : (s : ℕ) (new : Place) (w : World) (u : SiteView) → place_at (puts s new w) s ≡ Some (Running u) → new ≡ Running u
 place_there s new w u h = some_same new (Running u) (sym (puts_same s new w) ∙ h)
 
@@ -232,9 +229,6 @@ no_round r e = cc
 
 no_epoch_here : (e : InEpoch) → ◌≡◌ {A = Option InEpoch} None (Some e) → ⊥
 no_epoch_here e k = cc
-
-abbrev first_view : Config → ℕ → SiteView
-first_view c t = fresh 1 (formatted c t)
 
 stops_good : (n s : ℕ) (old : Place) (d : Disk) (told : List Told) (first w : World) → place_at w s ≡ Some old → Every NoJoin told → boot_on (Some old) ≤ d.label.boot → Later first w → Later first (happened n [] told (stops_with s d) w)
 stops_good n s old d told first w here none le g =
@@ -359,18 +353,10 @@ later_kept c first = record {
 fresh_ok : (J : Knowledge) (s : ℕ) (v : SiteView) → v.round ≡ None → v.epoch ≡ None → v.tables ≡ [] → ((id : EpochId) (m : Members) → J s id m → ⊥) → ViewOk J s v
 fresh_ok J s v a b t h = record { round_ok = λ r e. absurd (no_round r (sym a ∙ e)); risen = λ id m j f g. absurd (h id m j); epoch_ok = λ e k. absurd (no_epoch_here e (sym b ∙ k)); epoch_is = λ e k. absurd (no_epoch_here e (sym b ∙ k)); tables_ok = subst (λ (ts : List SyncTable). Every TableOk ts) (sym t) tt }
 
-first_views : (c : Config) (ss : List ℕ) (s : ℕ) (v : SiteView) → place_in (row place_site s (map (first_place c) ss)) ≡ Some (Running v) → ViewOk (JoinsOf (first_world c)) s v
-first_views c [] s v e = absurd (none_never v e)
-first_views c (t ∷ ts) s v e =
-    (elim (t == s) as (λ b. place_in (elim b [ true ↦ Some (first_place c t) | false ↦ row place_site s (map (first_place c) ts) ]) ≡ Some (Running v) → ViewOk (JoinsOf (first_world c)) s v) [
-      | true ↦ λ f. (let q : first_view c t ≡ v = running_view (first_view c t) v (some_same (Running (first_view c t)) (Running v) f) in subst (λ (y : SiteView). ViewOk (JoinsOf (first_world c)) s y) q (fresh_ok (JoinsOf (first_world c)) s (first_view c t) refl refl refl (λ id m j. j)))
-      | false ↦ λ f. first_views c ts s v f
-    ]) e
-
 first_good : (c : Config) → Good (first_world c)
 first_good c = record {
   lists = record { own = λ s id m j. j; one = λ id m n j k. absurd j; low = λ id m j. absurd j };
-  views = λ s v e. first_views c _ s v e;
+  views = first_views c (ViewOk (JoinsOf (first_world c))) (λ s own. fresh_ok (JoinsOf (first_world c)) s (fresh 1 (formatted c s)) refl refl refl (λ id m j. j));
   packets = tt;
   underway = tt;
 }

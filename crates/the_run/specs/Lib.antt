@@ -7,6 +7,9 @@ pub mod Asking
 pub mod Kept
 pub mod Laws
 pub mod Joins
+pub mod Kinds
+pub mod KindLaws
+pub mod Roles
 pub use Rattle.disk_calls.specs.of_schedule_lines as of_schedule_lines
 pub use Rattle.role_steps.specs as of_role_steps
 pub use Rattle.role_steps.specs.of_call_rules as of_call_rules

@@ -4,16 +4,16 @@ use Rattle.std.specs.List.{list_any}
 use Rattle.std.proofs.lemmas.Bool.Decides.{nat_tests}
 use Rattle.locus_ids.specs.Sizes.{sites_max}
 use Rattle.locus_ids.specs.declared.config.Config.{Config}
-use Rattle.the_run.specs.of_role_steps.Own.{Every}
-use Rattle.the_run.specs.of_role_steps.Tables.{row}
-use Rattle.the_run.specs.of_role_steps.Views.{SiteView, all_sites}
+use Rattle.role_steps.specs.Own.{Every}
+use Rattle.role_steps.specs.Tables.{row}
+use Rattle.role_steps.specs.Views.{SiteView, all_sites}
 use Rattle.the_run.specs.Kept.{Among}
 use Rattle.the_run.specs.Worlds.{Place, PlaceRow, Running, place_at, place_in, place_site, fresh, formatted, first_place, first_world}
-use Rattle.the_run.proofs.of_plain_facts.Numbers.{equal}
-use Rattle.the_run.proofs.of_plain_facts.Options.{some_same}
-use Rattle.the_run.proofs.of_plain_facts.Tests.{false_true}
-use Rattle.the_run.proofs.of_role_steps.Counted.{every_site}
-use Rattle.the_run.proofs.of_role_steps.Numbers.{listed_site}
+use Rattle.role_steps.proofs.of_plain_facts.Numbers.{equal}
+use Rattle.role_steps.proofs.of_plain_facts.Options.{some_same}
+use Rattle.role_steps.proofs.of_plain_facts.Tests.{false_true}
+use Rattle.role_steps.proofs.Counted.{every_site}
+use Rattle.role_steps.proofs.Numbers.{listed_site}
 
 -- the number is that of a site, and of one of the cluster
 abbrev pub InCluster : Config → ℕ → Type 0

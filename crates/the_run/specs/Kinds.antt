@@ -1,11 +1,11 @@
 -- The kinds of what a site makes inside an epoch: which role sends which packet, and tells what.
-use Rattle.the_run.specs.of_trace_book.declared.call.Call.{Call}
-use Rattle.the_run.specs.of_trace_book.declared.call.Call.TheVariants.{Mend}
-use Rattle.the_run.specs.of_trace_book.declared.record.Record.{Record}
-use Rattle.the_run.specs.of_trace_book.declared.record.Record.TheVariants as says
-use Rattle.the_run.specs.of_wire_messages.declared.body.Body.{Body}
-use Rattle.the_run.specs.of_wire_messages.declared.body.Body.TheVariants as body
-use Rattle.the_run.specs.of_role_steps.Views.{Told, Shown, Promises, Takes, LooksAgain, Begins, Shuts, Reserves}
+use Rattle.role_steps.specs.of_trace_book.declared.call.Call.{Call}
+use Rattle.role_steps.specs.of_trace_book.declared.call.Call.TheVariants.{Mend}
+use Rattle.role_steps.specs.of_trace_book.declared.record.Record.{Record}
+use Rattle.role_steps.specs.of_trace_book.declared.record.Record.TheVariants as says
+use Rattle.role_steps.specs.of_wire_messages.declared.body.Body.{Body}
+use Rattle.role_steps.specs.of_wire_messages.declared.body.Body.TheVariants as body
+use Rattle.role_steps.specs.Views.{Told, Shown, Promises, Takes, LooksAgain, Begins, Shuts, Reserves}
 
 -- ---- packets ----
 

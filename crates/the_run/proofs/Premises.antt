@@ -1,20 +1,20 @@
 -- The premises of laws that ask the same of many kinds.
 use Rattle.std.proofs.Common.{◌≡◌, ℕ, List, [], ◌∷◌, Option, Some, None}
 use Rattle.locus_ids.specs.declared.config.Config.{Config}
-use Rattle.the_run.specs.of_trace_book.declared.record.Record.{Record}
-use Rattle.the_run.specs.of_trace_book.declared.record.Record.TheVariants as says
-use Rattle.the_run.specs.of_wire_messages.declared.packet.Packet.{Packet}
-use Rattle.the_run.specs.of_wire_messages.declared.body.Body.{Body}
-use Rattle.the_run.specs.of_wire_messages.declared.body.Body.TheVariants as body
-use Rattle.the_run.specs.of_role_steps.Own.{Every}
-use Rattle.the_run.specs.of_role_steps.Views.{Frame, Told, Shown, Promises, DiskWrite, packet, all_groups}
-use Rattle.the_run.specs.of_role_steps.Reports.{new_table}
-use Rattle.the_run.specs.of_role_steps.declared.synchronizing.LastLook.{LastLook}
-use Rattle.the_run.specs.of_role_steps.declared.synchronizing.SyncTable.{SyncTable}
-use Rattle.the_run.proofs.of_role_steps.Sending.{OfFrame}
+use Rattle.role_steps.specs.of_trace_book.declared.record.Record.{Record}
+use Rattle.role_steps.specs.of_trace_book.declared.record.Record.TheVariants as says
+use Rattle.role_steps.specs.of_wire_messages.declared.packet.Packet.{Packet}
+use Rattle.role_steps.specs.of_wire_messages.declared.body.Body.{Body}
+use Rattle.role_steps.specs.of_wire_messages.declared.body.Body.TheVariants as body
+use Rattle.role_steps.specs.Own.{Every}
+use Rattle.role_steps.specs.Views.{Frame, Told, Shown, Promises, DiskWrite, packet, all_groups}
+use Rattle.role_steps.specs.Reports.{new_table}
+use Rattle.role_steps.specs.declared.synchronizing.LastLook.{LastLook}
+use Rattle.role_steps.specs.declared.synchronizing.SyncTable.{SyncTable}
+use Rattle.role_steps.proofs.Sending.{OfFrame}
 use Rattle.the_run.specs.Joins.{NoJoinRecord, NoJoin}
-use Rattle.law_walks.specs.Kinds.{IsInside, IsOfTable, IsStoreRequest, IsOfStore, IsOfReader, IsStoreAnswer, IsUserRequest, IsOfUser, IsTableRecord, TellsTable, IsAct, TellsStore, IsCallRecord, TellsCall, IsVersion, IsPlainRecord, TellsPlain}
-use Rattle.law_walks.specs.Laws.{Law, body_law, frame_law, table_law, EventsKeep, TablesKeep, StoresKeep, UsersKeep, SiteKeeps, SiteAnswers}
+use Rattle.the_run.specs.Kinds.{IsInside, IsOfTable, IsStoreRequest, IsOfStore, IsOfReader, IsStoreAnswer, IsUserRequest, IsOfUser, IsTableRecord, TellsTable, IsAct, TellsStore, IsCallRecord, TellsCall, IsVersion, IsPlainRecord, TellsPlain}
+use Rattle.the_run.specs.KindLaws.{Law, body_law, frame_law, table_law, EventsKeep, TablesKeep, StoresKeep, UsersKeep, SiteKeeps, SiteAnswers}
 
 -- ---- what a role sends ----
 

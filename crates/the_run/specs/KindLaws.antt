@@ -2,18 +2,18 @@
 use Rattle.std.specs.Prelude.{ℕ, ◌≡◌, Option, Some, None}
 use Rattle.locus_ids.specs.declared.ids.Serial.{Serial}
 use Rattle.locus_ids.specs.declared.config.Config.{Config}
-use Rattle.the_run.specs.of_trace_book.declared.record.Record.{Record}
-use Rattle.the_run.specs.of_wire_messages.declared.packet.Packet.{Packet}
-use Rattle.the_run.specs.of_wire_messages.declared.body.Body.{Body}
-use Rattle.the_run.specs.of_wire_messages.declared.body.Body.TheVariants.{ReportOk, ClosedOk}
-use Rattle.the_run.specs.of_role_steps.Own.{Every}
-use Rattle.the_run.specs.of_role_steps.Views.{Frame, SiteView, Told, Shown, DiskWrite, Outcome, packet, sync_site, all_groups}
-use Rattle.the_run.specs.of_role_steps.Reports.{new_table}
-use Rattle.the_run.specs.of_role_steps.Epochs.{frame_in}
-use Rattle.the_run.specs.of_role_steps.declared.rounds.InEpoch.{InEpoch}
-use Rattle.the_run.specs.of_role_steps.declared.synchronizing.SyncTable.{SyncTable}
-use Rattle.the_run.specs.of_role_steps.declared.synchronizing.LastLook.{LastLook}
-use Rattle.law_walks.specs.Kinds.{IsOfTable, IsStoreRequest, IsOfStore, IsOfReader, IsStoreAnswer, IsUserRequest, IsOfUser, TellsTable, TellsStore, TellsCall, IsVersion}
+use Rattle.role_steps.specs.of_trace_book.declared.record.Record.{Record}
+use Rattle.role_steps.specs.of_wire_messages.declared.packet.Packet.{Packet}
+use Rattle.role_steps.specs.of_wire_messages.declared.body.Body.{Body}
+use Rattle.role_steps.specs.of_wire_messages.declared.body.Body.TheVariants.{ReportOk, ClosedOk}
+use Rattle.role_steps.specs.Own.{Every}
+use Rattle.role_steps.specs.Views.{Frame, SiteView, Told, Shown, DiskWrite, Outcome, packet, sync_site, all_groups}
+use Rattle.role_steps.specs.Reports.{new_table}
+use Rattle.role_steps.specs.Epochs.{frame_in}
+use Rattle.role_steps.specs.declared.rounds.InEpoch.{InEpoch}
+use Rattle.role_steps.specs.declared.synchronizing.SyncTable.{SyncTable}
+use Rattle.role_steps.specs.declared.synchronizing.LastLook.{LastLook}
+use Rattle.the_run.specs.Kinds.{IsOfTable, IsStoreRequest, IsOfStore, IsOfReader, IsStoreAnswer, IsUserRequest, IsOfUser, TellsTable, TellsStore, TellsCall, IsVersion}
 
 -- ---- a law ----
 

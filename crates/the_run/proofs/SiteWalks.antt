@@ -2,33 +2,32 @@
 use Rattle.std.specs.List.{flat_map}
 use Rattle.std.proofs.Common.{◌≡◌, ℕ, true, false, ◌&&◌, not, List, [], ◌∷◌, Option, Some, None, refl, ◌∙◌}
 use Rattle.locus_ids.specs.declared.config.Config.{Config}
-use Rattle.the_run.specs.of_trace_book.declared.call.Call.TheVariants as call
-use Rattle.the_run.specs.of_wire_messages.declared.packet.Packet.{Packet}
-use Rattle.the_run.specs.of_wire_messages.declared.body.Body.{Body}
-use Rattle.the_run.specs.of_wire_messages.declared.body.Body.TheVariants as body
-use Rattle.the_run.specs.of_role_steps.Own.{Every}
-use Rattle.the_run.specs.of_role_steps.Tables.{row, first_that}
-use Rattle.the_run.specs.of_role_steps.Views.{Frame, Store, Users, SiteView, Outcome, quiet, and_then, within}
-use Rattle.the_run.specs.of_role_steps.Reports.{on_have_of, on_report, on_closed, on_have, sync_repeats}
-use Rattle.the_run.specs.of_role_steps.Opens.{on_opened}
-use Rattle.the_run.specs.of_role_steps.Storage.{copy_of, instance_of, store_repeats}
-use Rattle.the_run.specs.of_role_steps.Pulling.{pull_repeats}
-use Rattle.the_run.specs.of_role_steps.Requests.{users_repeats}
-use Rattle.the_run.specs.of_role_steps.Epochs.{frame_in, with_users, report_packets, all_reports}
-use Rattle.the_run.specs.of_role_steps.Adoption.{notes_own_at, notes_own, with_store, table_group, is_ready, fits_own, adopts_pull, without_pull, adopts_first, with_adopted}
-use Rattle.the_run.specs.of_role_steps.Mends.{mending, kept_stamps, has_mend_in, wants_mend, starts_mend_of, starts_mend, starts_mends_in, row_file}
-use Rattle.the_run.specs.of_role_steps.Versions.{file_row}
-use Rattle.the_run.specs.of_role_steps.declared.pulls.Pull.{Pull}
-use Rattle.the_run.specs.of_role_steps.declared.rounds.InEpoch.{InEpoch}
-use Rattle.the_run.specs.of_role_steps.declared.synchronizing.SyncTable.{SyncTable}
-use Rattle.the_run.specs.of_role_steps.declared.synchronizing.FileRow.{FileRow}
-use Rattle.the_run.specs.Steps.{in_order, repeats_inside, from_user, group_of, with_pulls, at_table_of, is_opened_in, takes_inside, takes_framed, adopts_of, tries_at, starts_mends_of}
-use Rattle.the_run.proofs.InsideSync.{Found, every_row, row_found, first_found}
-use Rattle.the_run.proofs.of_role_steps.Sending.{every_append, every_flat_map}
-use Rattle.the_run.proofs.StepSends.{order_sent}
-use Rattle.law_walks.proofs.SyncWalks.{then_written, sync_repeats_walk, on_opened_walk, on_open_walk, on_look_walk, on_report_walk, on_closed_walk, have_ok, have_group, on_have_walk}
-use Rattle.law_walks.proofs.RoleWalks.{asks_walk, store_repeats_walk, pull_repeats_walk, users_repeats_walk, on_open_ss_walk, on_close_walk, on_closed_ok_walk, on_look_ss_walk, on_pull_walk, on_want_walk, on_op_walk, on_read_held_walk, on_notify_walk, on_delta_walk, on_page_walk, on_call_walk, on_open_done_walk, on_op_done_walk, on_as_held_walk, on_close_done_walk, on_look_done_walk}
-use Rattle.law_walks.specs.Laws.{Law, TablesKeep, StoresKeep, SiteKeeps, SiteAnswers, Part, KeptLooks, TablePart, Leaves, Stays}
+use Rattle.role_steps.specs.of_trace_book.declared.call.Call.TheVariants as call
+use Rattle.role_steps.specs.of_wire_messages.declared.packet.Packet.{Packet}
+use Rattle.role_steps.specs.of_wire_messages.declared.body.Body.{Body}
+use Rattle.role_steps.specs.of_wire_messages.declared.body.Body.TheVariants as body
+use Rattle.role_steps.specs.Own.{Every}
+use Rattle.role_steps.specs.Tables.{row, first_that}
+use Rattle.role_steps.specs.Views.{Frame, Store, Users, SiteView, Outcome, quiet, and_then, within}
+use Rattle.role_steps.specs.Reports.{on_have_of, sync_repeats}
+use Rattle.role_steps.specs.Storage.{copy_of, store_repeats}
+use Rattle.role_steps.specs.Pulling.{pull_repeats}
+use Rattle.role_steps.specs.Requests.{users_repeats}
+use Rattle.role_steps.specs.Epochs.{frame_in, with_users, report_packets, all_reports}
+use Rattle.role_steps.specs.Adoption.{notes_own_at, notes_own, with_store, table_group, is_ready, fits_own, adopts_pull, without_pull, adopts_first, with_adopted}
+use Rattle.role_steps.specs.Mends.{has_mend_in, wants_mend, starts_mend_of, starts_mend, starts_mends_in, row_file}
+use Rattle.role_steps.specs.Versions.{file_row}
+use Rattle.role_steps.specs.declared.pulls.Pull.{Pull}
+use Rattle.role_steps.specs.declared.rounds.InEpoch.{InEpoch}
+use Rattle.role_steps.specs.declared.synchronizing.SyncTable.{SyncTable}
+use Rattle.role_steps.specs.declared.synchronizing.FileRow.{FileRow}
+use Rattle.the_run.specs.Steps.{in_order, repeats_inside, with_pulls, at_table_of, takes_inside, takes_framed, adopts_of, tries_at, starts_mends_of}
+use Rattle.the_run.proofs.Rows.{Found, every_row, row_found, order_sent}
+use Rattle.role_steps.proofs.Sending.{every_append, every_flat_map}
+use Rattle.the_run.proofs.SyncWalks.{then_written, sync_repeats_walk, have_ok, have_group}
+use Rattle.the_run.proofs.RoleWalks.{asks_walk, store_repeats_walk, pull_repeats_walk, users_repeats_walk, on_call_walk}
+use Rattle.the_run.proofs.Roles.{by_role, tables_of, stores_by, readers_by, users_by, pulls_by}
+use Rattle.the_run.specs.KindLaws.{Law, TablesKeep, StoresKeep, SiteKeeps, SiteAnswers, Part, TablePart, Leaves, Stays}
 
 -- ---- outcomes ----
 
@@ -128,42 +127,20 @@ mends_of_walk law c me (Some e) v none kinds ok = starts_mends_walk law (frame_i
 
 -- ---- packets inside the epoch ----
 
-table_walk : (law : Law) (f : Frame) (serves : TablesKeep law f) (g : SyncTable → Outcome SyncTable) (o : Option SyncTable) (v : SiteView) → Every law.table v.tables → Found law.table o → ((t : SyncTable) → law.table t → KeptLooks law t → TablePart law t (g t)) → Stays law v (at_table_of g o v)
+table_walk : (law : Law) (f : Frame) (serves : TablesKeep law f) (g : SyncTable → Outcome SyncTable) (o : Option SyncTable) (v : SiteView) → Every law.table v.tables → Found law.table o → ((t : SyncTable) → law.table t → TablePart law t (g t)) → Stays law v (at_table_of g o v)
 table_walk law f serves g None v ok k h = quiet_walk law serves.unwritten v ok
-table_walk law f serves g (Some t) v ok k h = let r : TablePart law t (g t) = h t k (serves.looks t k) in record { leaves = record { boot = refl; round = refl; promised = refl; installed = refl; installs = refl; epoch = refl }; tables = every_row law.table table_group (g t).view v.tables (serves.tables t (g t).view k r.4 r.3) ok; part = (r.0, r.1, r.2) }
-
-group_walk : (law : Law) (f : Frame) (serves : TablesKeep law f) (g : SyncTable → Outcome SyncTable) (group : ℕ) (v : SiteView) → Every law.table v.tables → ((t : SyncTable) → law.table t → KeptLooks law t → TablePart law t (g t)) → Stays law v (at_table_of g (row table_group group v.tables) v)
-group_walk law f serves g group v ok h = table_walk law f serves g (row table_group group v.tables) v ok (row_found law.table table_group group v.tables ok) h
+table_walk law f serves g (Some t) v ok k h = let r : TablePart law t (g t) = h t k in record { leaves = record { boot = refl; round = refl; promised = refl; installed = refl; installs = refl; epoch = refl }; tables = every_row law.table table_group (g t).view v.tables (serves.tables t (g t).view k r.4 r.3) ok; part = (r.0, r.1, r.2) }
 
 inside_walk : (law : Law) (f : Frame) (kinds : SiteKeeps law f) (from : ℕ) (back : SiteAnswers law f from) (x : Body) (v : SiteView) → Every law.table v.tables → Stays law v (takes_inside f from x v)
-inside_walk law f kinds from back (body.Report group copies) v ok = group_walk law f kinds.tables (on_report f from copies) group v ok (λ t k h. on_report_walk law f kinds.tables from copies t (back.tables.reported t k) h)
-inside_walk law f kinds from back (body.ReportOk group) v ok = record { leaves = record { boot = refl; round = refl; promised = refl; installed = refl; installs = refl; epoch = refl }; tables = ok; part = (tt, tt, kinds.tables.unwritten) }
-inside_walk law f kinds from back (body.Open serial call process request file how) v ok = group_walk law f kinds.tables _ file.group v ok (λ t k. on_open_walk law f kinds.tables from (record { serial = serial; call = call; process = process; request = request; file = file; how = how }) t)
-inside_walk law f kinds from back (body.OpenSs inst file mode set kind base vector parents) v ok = store_walk law v _ ok (on_open_ss_walk law f kinds.stores _ v.store)
-inside_walk law f kinds from back (body.Opened inst answer) v ok = table_walk law f kinds.tables (on_opened f inst answer) (first_that (is_opened_in inst) v.tables) v ok (first_found law.table (is_opened_in inst) v.tables ok) (λ t k. on_opened_walk law f kinds.tables inst answer t)
-inside_walk law f kinds from back (body.OpenDone serial answer) v ok = users_walk law v _ ok (on_open_done_walk law f kinds.users (kept_stamps v) serial answer v.users)
-inside_walk law f kinds from back (body.Op serial n o seen) v ok = store_walk law v _ ok (on_op_walk law f kinds.stores kinds.versions (mending v (group_of (instance_of v.store (from_user from serial)))) (from_user from serial) n o seen v.store)
-inside_walk law f kinds from back (body.ReadHeld serial n at len) v ok = store_walk law v _ ok (on_read_held_walk law f kinds.stores (from_user from serial) n at len v.store)
-inside_walk law f kinds from back (body.OpDone serial n result) v ok = users_walk law v _ ok (on_op_done_walk law f kinds.users serial n result v.users)
-inside_walk law f kinds from back (body.AsHeld serial n len) v ok = users_walk law v _ ok (on_as_held_walk law f kinds.users serial n v.users)
-inside_walk law f kinds from back (body.Close serial) v ok = store_walk law v _ ok (on_close_walk law f kinds.stores kinds.versions (from_user from serial) v.store)
-inside_walk law f kinds from back (body.Closed inst made) v ok = table_walk law f kinds.tables (on_closed f from inst made) (first_that (is_opened_in inst) v.tables) v ok (first_found law.table (is_opened_in inst) v.tables ok) (λ t k. on_closed_walk law f kinds.tables from back.tables inst made t)
-inside_walk law f kinds from back (body.ClosedOk inst) v ok = store_walk law v _ ok (on_closed_ok_walk law f kinds.stores inst v.store)
-inside_walk law f kinds from back (body.CloseDone serial answer) v ok = users_walk law v _ ok (on_close_done_walk law f kinds.users serial answer v.users)
-inside_walk law f kinds from back (body.Look call process request take file what) v ok = group_walk law f kinds.tables _ file.group v ok (λ t k. on_look_walk law f kinds.tables from (record { call = call; process = process; request = request; take = take; file = file; what = what }) t)
-inside_walk law f kinds from back (body.LookSs us call process request take file what serve) v ok = store_walk law v _ ok (on_look_ss_walk law f kinds.stores.reads us (record { call = call; process = process; request = request; take = take; file = file; what = what }) serve v.store)
-inside_walk law f kinds from back (body.LookDone call request take answer) v ok = users_walk law v _ ok (on_look_done_walk law f kinds.users call request take answer v.users)
-inside_walk law f kinds from back (body.Notify file kind set size stamp vector holder) v ok = pulls_walk law v _ ok (on_notify_walk law f kinds.stores.reads from (copy_of v.store file) (record { file = file; kind = kind; set = set; size = size; stamp = stamp; vector = vector; holder = holder; base = None; wanted = None; content = [] }) (back.stores _ tt) v.pulls)
-inside_walk law f kinds from back (body.Pull file stamp page) v ok = store_walk law v _ ok (on_pull_walk law f kinds.stores.reads from file stamp page (λ bytes. back.stores _ tt) v.store)
-inside_walk law f kinds from back (body.Page file stamp page bytes) v ok = pulls_walk law v _ ok (on_page_walk law f kinds.stores.reads file stamp page bytes v.pulls)
-inside_walk law f kinds from back (body.Want file wanted own) v ok = store_walk law v _ ok (on_want_walk law f kinds.stores.reads from file wanted own (λ pages. back.stores _ tt) v.store)
-inside_walk law f kinds from back (body.Delta file wanted pages) v ok = pulls_walk law v _ ok (on_delta_walk law f kinds.stores.reads (copy_of v.store file) file wanted pages v.pulls)
-inside_walk law f kinds from back (body.Have file stamp) v ok = group_walk law f kinds.tables (on_have from file stamp) file.group v ok (λ t k. on_have_walk law f kinds.tables from file stamp t)
-inside_walk law f kinds from back body.Poll v ok = quiet_walk law kinds.tables.unwritten v ok
-inside_walk law f kinds from back (body.Promise reach) v ok = quiet_walk law kinds.tables.unwritten v ok
-inside_walk law f kinds from back (body.Refuse promised) v ok = quiet_walk law kinds.tables.unwritten v ok
-inside_walk law f kinds from back (body.Install members) v ok = quiet_walk law kinds.tables.unwritten v ok
-inside_walk law f kinds from back body.Joined v ok = quiet_walk law kinds.tables.unwritten v ok
+inside_walk law f kinds from back x v ok = by_role (λ y o. Stays law v o) f from v (record {
+  tables = tables_of (λ y o. Stays law v o) law f from v kinds.tables back.tables ok (λ y g o is found h. table_walk law f kinds.tables g o v ok found h);
+  stores = stores_by (λ y o. Stays law v o) law f from v kinds.stores kinds.versions (λ y o is h. store_walk law v o ok h);
+  readers = readers_by (λ y o. Stays law v o) law f from v kinds.stores.reads back.stores (λ y o is same h. store_walk law v o ok h);
+  users = users_by (λ y o. Stays law v o) law f from v kinds.users (λ y o is h. users_walk law v o ok h);
+  pulls = pulls_by (λ y o. Stays law v o) law f from v kinds.stores.reads back.stores (λ y o is h. pulls_walk law v o ok h);
+  reported = λ group. record { leaves = record { boot = refl; round = refl; promised = refl; installed = refl; installs = refl; epoch = refl }; tables = ok; part = (tt, tt, kinds.tables.unwritten) };
+  forming = λ y is. quiet_walk law kinds.tables.unwritten v ok;
+}) x
 
 pub framed_walk : (law : Law) (c : Config) (me : ℕ) (p : Packet) (e : Option InEpoch) (v : SiteView) → law.written None → ((x : InEpoch) → e ≡ Some x → SiteKeeps law (frame_in c me v.boot x)) → ((x : InEpoch) → e ≡ Some x → SiteAnswers law (frame_in c me v.boot x) p.from) → Every law.table v.tables → Stays law v (takes_framed c me p e v)
 framed_walk law c me p None v none kinds back ok = quiet_walk law none v ok

@@ -6,34 +6,34 @@ use Rattle.locus_ids.specs.declared.ids.Mode.{Mode}
 use Rattle.locus_ids.specs.declared.ids.Mode.TheVariants as mode
 use Rattle.locus_ids.specs.declared.ids.Serial.{Serial}
 use Rattle.locus_ids.specs.declared.ids.Stamp.{Stamp}
-use Rattle.the_run.specs.of_trace_book.declared.operation.What.{What}
-use Rattle.the_run.specs.of_trace_book.declared.operation.What.TheVariants as what
-use Rattle.the_run.specs.of_wire_messages.declared.body.Body.{Body}
-use Rattle.the_run.specs.of_wire_messages.declared.body.Body.TheVariants as body
-use Rattle.the_run.specs.of_wire_messages.declared.body.OpenedAs.{OpenedAs}
-use Rattle.the_run.specs.of_wire_messages.declared.body.OpenedAs.TheVariants as opened
-use Rattle.the_run.specs.of_wire_messages.declared.body.MadeVersion.{MadeVersion}
-use Rattle.the_run.specs.of_wire_messages.declared.body.ReportedCopy.{ReportedCopy}
-use Rattle.the_run.specs.of_role_steps.Own.{Every}
-use Rattle.the_run.specs.of_role_steps.Tables.{row}
-use Rattle.the_run.specs.of_role_steps.Views.{Frame, Outcome, DiskWrite, quiet, sends, and_then, first_written, packet, process_key, to_some, to_sync, sync_site}
-use Rattle.the_run.specs.of_role_steps.Versions.{holders_of, chosen_site, file_row}
-use Rattle.the_run.specs.of_role_steps.Notices.{lagging, notice, notices_of, notices_by, file_notices, notices, row_notices}
-use Rattle.the_run.specs.of_role_steps.Opens.{OpenRequest, Decision, Denies, Grants, decision, decides, asked_row, granted_row, granted_at_once, granted_at_last, repeats_open, on_open_of, takes_open, open_row, with_open, answers_open, by_stage, on_opened_of, on_opened}
-use Rattle.the_run.specs.of_role_steps.Looks.{LookRequest, Service, Denies as Unserved, Serves, service, letter, serving_letter, last_look, is_look_before, is_same_look, new_look, after_last, takes_look, look_key}
-use Rattle.the_run.specs.of_role_steps.Reports.{waits_early, on_open, on_look, takes_early, takes_all_early, starts, starts_if, have_all_reported, counts_report, with_reported, with_all_reported, with_report, on_report, published, published_notices, closed_ok, releases_into, closes_at, on_closed_of, on_closed, on_have_of, on_have, sync_repeats}
-use Rattle.the_run.specs.of_role_steps.declared.synchronizing.SyncTable.{SyncTable}
-use Rattle.the_run.specs.of_role_steps.declared.synchronizing.FileRow.{FileRow}
-use Rattle.the_run.specs.of_role_steps.declared.synchronizing.VersionRow.{VersionRow}
-use Rattle.the_run.specs.of_role_steps.declared.synchronizing.OpenRow.{OpenRow}
-use Rattle.the_run.specs.of_role_steps.declared.synchronizing.OpenStage.{OpenStage}
-use Rattle.the_run.specs.of_role_steps.declared.synchronizing.OpenStage.TheVariants as stage
-use Rattle.the_run.specs.of_role_steps.declared.synchronizing.LastLook.{LastLook}
-use Rattle.the_run.specs.of_role_steps.declared.synchronizing.Early.{Early}
-use Rattle.the_run.proofs.of_role_steps.Sending.{every_append, every_cond, every_map, every_flat_map}
-use Rattle.the_run.proofs.InsideSync.{Found, every_row, row_found}
-use Rattle.law_walks.specs.Kinds.{IsOfTable}
-use Rattle.law_walks.specs.Laws.{Law, TablesKeep, TableAnswers, KeptLooks, TablePart}
+use Rattle.role_steps.specs.of_trace_book.declared.operation.What.{What}
+use Rattle.role_steps.specs.of_trace_book.declared.operation.What.TheVariants as what
+use Rattle.role_steps.specs.of_wire_messages.declared.body.Body.{Body}
+use Rattle.role_steps.specs.of_wire_messages.declared.body.Body.TheVariants as body
+use Rattle.role_steps.specs.of_wire_messages.declared.body.OpenedAs.{OpenedAs}
+use Rattle.role_steps.specs.of_wire_messages.declared.body.OpenedAs.TheVariants as opened
+use Rattle.role_steps.specs.of_wire_messages.declared.body.MadeVersion.{MadeVersion}
+use Rattle.role_steps.specs.of_wire_messages.declared.body.ReportedCopy.{ReportedCopy}
+use Rattle.role_steps.specs.Own.{Every}
+use Rattle.role_steps.specs.Tables.{row}
+use Rattle.role_steps.specs.Views.{Frame, Outcome, DiskWrite, quiet, sends, and_then, first_written, packet, process_key, to_some, to_sync, sync_site}
+use Rattle.role_steps.specs.Versions.{holders_of, chosen_site, file_row}
+use Rattle.role_steps.specs.Notices.{lagging, notice, notices_of, notices_by, file_notices, notices, row_notices}
+use Rattle.role_steps.specs.Opens.{OpenRequest, Decision, Denies, Grants, decision, decides, asked_row, granted_row, granted_at_once, granted_at_last, repeats_open, on_open_of, takes_open, open_row, with_open, answers_open, by_stage, on_opened_of, on_opened}
+use Rattle.role_steps.specs.Looks.{LookRequest, Service, Denies as Unserved, Serves, service, letter, serving_letter, last_look, is_look_before, is_same_look, new_look, after_last, takes_look, look_key}
+use Rattle.role_steps.specs.Reports.{waits_early, on_open, on_look, takes_early, takes_all_early, starts, starts_if, have_all_reported, counts_report, with_reported, with_all_reported, with_report, on_report, published, published_notices, closed_ok, releases_into, closes_at, on_closed_of, on_closed, on_have_of, on_have, sync_repeats}
+use Rattle.role_steps.specs.declared.synchronizing.SyncTable.{SyncTable}
+use Rattle.role_steps.specs.declared.synchronizing.FileRow.{FileRow}
+use Rattle.role_steps.specs.declared.synchronizing.VersionRow.{VersionRow}
+use Rattle.role_steps.specs.declared.synchronizing.OpenRow.{OpenRow}
+use Rattle.role_steps.specs.declared.synchronizing.OpenStage.{OpenStage}
+use Rattle.role_steps.specs.declared.synchronizing.OpenStage.TheVariants as stage
+use Rattle.role_steps.specs.declared.synchronizing.LastLook.{LastLook}
+use Rattle.role_steps.specs.declared.synchronizing.Early.{Early}
+use Rattle.role_steps.proofs.Sending.{every_append, every_cond, every_map, every_flat_map}
+use Rattle.the_run.proofs.Rows.{Found, every_row, row_found}
+use Rattle.the_run.specs.Kinds.{IsOfTable}
+use Rattle.the_run.specs.KindLaws.{Law, TablesKeep, TableAnswers, KeptLooks, TablePart}
 
 -- ---- outcomes ----
 

@@ -7,51 +7,51 @@ use Rattle.locus_ids.specs.declared.ids.Stamp.{Stamp}
 use Rattle.locus_ids.specs.declared.ids.Mode.{Mode}
 use Rattle.locus_ids.specs.declared.ids.Mode.TheVariants as mode
 use Rattle.locus_ids.specs.declared.refusal.Refusal.TheVariants as refusal
-use Rattle.the_run.specs.of_commit_graph.Versions.{same_stamp}
-use Rattle.the_run.specs.of_trace_book.declared.call.Call.{Call}
-use Rattle.the_run.specs.of_trace_book.declared.operation.Op.{Op}
-use Rattle.the_run.specs.of_trace_book.declared.operation.Op.TheVariants as op
-use Rattle.the_run.specs.of_trace_book.declared.operation.Outcome.{Outcome as Result}
-use Rattle.the_run.specs.of_trace_book.declared.operation.Outcome.TheVariants as result
-use Rattle.the_run.specs.of_call_rules.declared.answer.Answer.{Answer}
-use Rattle.the_run.specs.of_call_rules.declared.want.Want.{Want}
-use Rattle.the_run.specs.of_call_rules.declared.want.Want.TheVariants as want
-use Rattle.the_run.specs.of_file_effects.Effects.{Effect}
-use Rattle.the_run.specs.of_file_effects.Works.{counted}
-use Rattle.the_run.specs.of_wire_messages.declared.body.Body.{Body}
-use Rattle.the_run.specs.of_wire_messages.declared.body.Body.TheVariants as body
-use Rattle.the_run.specs.of_wire_messages.declared.body.CloseAnswer.{CloseAnswer}
-use Rattle.the_run.specs.of_wire_messages.declared.body.CloseAnswer.TheVariants as closing
-use Rattle.the_run.specs.of_wire_messages.declared.body.LookAnswer.{LookAnswer}
-use Rattle.the_run.specs.of_wire_messages.declared.body.LookAnswer.TheVariants as looked
-use Rattle.the_run.specs.of_wire_messages.declared.body.Granted.{Granted}
-use Rattle.the_run.specs.of_wire_messages.declared.body.Granted.TheVariants as granted
-use Rattle.the_run.specs.of_role_steps.Own.{Every}
-use Rattle.the_run.specs.of_role_steps.Tables.{first_that}
-use Rattle.the_run.specs.of_role_steps.Views.{Frame, Store, Users, quiet, sends, and_then, packet, to_sync}
-use Rattle.the_run.specs.of_role_steps.Versions.{is_below}
-use Rattle.the_run.specs.of_role_steps.Looks.{LookRequest}
-use Rattle.the_run.specs.of_role_steps.Storage.{StoreRequest, copy_of, instance_of, is_open, opened_packets, own_ino, opens, opens_made, on_open_ss_of, on_open_ss, is_spent, commits, next_stamp, next_vector, shuts, shuts_again, closes_owing, closes, on_close_at, on_close_of, on_close, ends_at, on_closed_ok_of, on_closed_ok, on_look_ss, has_page, pulled_page, on_pull, wanted_delta, on_want, closed_again, store_repeats}
-use Rattle.the_run.specs.of_role_steps.Operations.{acts, acts_committed, commits_owing, last_committed, commit_op, executes_effect, executes, op_again, by_number, on_op_at, on_op_of, on_op, on_read_held}
-use Rattle.the_run.specs.of_role_steps.OperationEffects.{Mending, effect_of}
-use Rattle.the_run.specs.of_role_steps.Pulling.{pull_of, pull_packets, is_complete, next_asked, goes_on as pulls_on, pull_over, begins_pull, replaces_pull, on_notify, pages_in, is_delta, on_delta_of, on_delta, is_awaited, on_page_of, on_page, pull_repeats}
-use Rattle.the_run.specs.of_role_steps.Requests.{request_packets, operation_body, asks_op_of, asks_close_of, user_instance, users_repeats}
-use Rattle.the_run.specs.of_role_steps.Using.{with_brought, content_answer, asks_want, next_want, goes_on, on_call, counted_call, accepted_call, accept_record, takes_answer, takes_copied, with_answer, takes_open, on_open_done_of, on_open_done, on_op_done_of, on_as_held_of, on_op_done, on_as_held, on_close_done_of, on_close_done, looks_again, takes_look, on_look_done_of, on_look_done, asks_open_of, asks_op_number, asks_held_number, asks_take}
-use Rattle.the_run.specs.of_role_steps.Using as using
-use Rattle.the_run.specs.of_role_steps.declared.copies.FileCopy.{FileCopy}
-use Rattle.the_run.specs.of_role_steps.declared.instances.Instance.{Instance}
-use Rattle.the_run.specs.of_role_steps.declared.instances.Stage.{Stage}
-use Rattle.the_run.specs.of_role_steps.declared.instances.Stage.TheVariants as stage
-use Rattle.the_run.specs.of_role_steps.declared.pulls.Pull.{Pull}
-use Rattle.the_run.specs.of_role_steps.declared.users.Asking.{Asking}
-use Rattle.the_run.specs.of_role_steps.declared.users.Asking.TheVariants as asking
-use Rattle.the_run.specs.of_role_steps.declared.users.WaitingCall.{WaitingCall}
-use Rattle.law_walks.proofs.SyncWalks.{sync_walk}
-use Rattle.the_run.specs.of_role_steps.declared.users.UserInstance.{UserInstance}
-use Rattle.the_run.proofs.of_role_steps.HeldReads.{held_read_so}
-use Rattle.the_run.proofs.of_role_steps.Sending.{every_cond, every_flat_map}
-use Rattle.law_walks.specs.Kinds.{IsOfReader, IsStoreRequest, IsUserRequest, IsOfUser}
-use Rattle.law_walks.specs.Laws.{Law, ReadersKeep, StoresKeep, UsersKeep, VersionsKeep, Part}
+use Rattle.role_steps.specs.of_commit_graph.Versions.{same_stamp}
+use Rattle.role_steps.specs.of_trace_book.declared.call.Call.{Call}
+use Rattle.role_steps.specs.of_trace_book.declared.operation.Op.{Op}
+use Rattle.role_steps.specs.of_trace_book.declared.operation.Op.TheVariants as op
+use Rattle.role_steps.specs.of_trace_book.declared.operation.Outcome.{Outcome as Result}
+use Rattle.role_steps.specs.of_trace_book.declared.operation.Outcome.TheVariants as result
+use Rattle.role_steps.specs.of_call_rules.declared.answer.Answer.{Answer}
+use Rattle.role_steps.specs.of_call_rules.declared.want.Want.{Want}
+use Rattle.role_steps.specs.of_call_rules.declared.want.Want.TheVariants as want
+use Rattle.role_steps.specs.of_file_effects.Effects.{Effect}
+use Rattle.role_steps.specs.of_file_effects.Works.{counted}
+use Rattle.role_steps.specs.of_wire_messages.declared.body.Body.{Body}
+use Rattle.role_steps.specs.of_wire_messages.declared.body.Body.TheVariants as body
+use Rattle.role_steps.specs.of_wire_messages.declared.body.CloseAnswer.{CloseAnswer}
+use Rattle.role_steps.specs.of_wire_messages.declared.body.CloseAnswer.TheVariants as closing
+use Rattle.role_steps.specs.of_wire_messages.declared.body.LookAnswer.{LookAnswer}
+use Rattle.role_steps.specs.of_wire_messages.declared.body.LookAnswer.TheVariants as looked
+use Rattle.role_steps.specs.of_wire_messages.declared.body.Granted.{Granted}
+use Rattle.role_steps.specs.of_wire_messages.declared.body.Granted.TheVariants as granted
+use Rattle.role_steps.specs.Own.{Every}
+use Rattle.role_steps.specs.Tables.{first_that}
+use Rattle.role_steps.specs.Views.{Frame, Store, Users, quiet, sends, and_then, packet, to_sync}
+use Rattle.role_steps.specs.Versions.{is_below}
+use Rattle.role_steps.specs.Looks.{LookRequest}
+use Rattle.role_steps.specs.Storage.{StoreRequest, copy_of, instance_of, is_open, opened_packets, own_ino, opens, opens_made, on_open_ss_of, on_open_ss, is_spent, commits, next_stamp, next_vector, shuts, shuts_again, closes_owing, closes, on_close_at, on_close_of, on_close, ends_at, on_closed_ok_of, on_closed_ok, on_look_ss, has_page, pulled_page, on_pull, wanted_delta, on_want, closed_again, store_repeats}
+use Rattle.role_steps.specs.Operations.{acts, acts_committed, commits_owing, last_committed, commit_op, executes_effect, executes, op_again, by_number, on_op_at, on_op_of, on_op, on_read_held}
+use Rattle.role_steps.specs.OperationEffects.{Mending, effect_of}
+use Rattle.role_steps.specs.Pulling.{pull_of, pull_packets, is_complete, next_asked, goes_on as pulls_on, pull_over, begins_pull, replaces_pull, on_notify, pages_in, is_delta, on_delta_of, on_delta, is_awaited, on_page_of, on_page, pull_repeats}
+use Rattle.role_steps.specs.Requests.{request_packets, operation_body, asks_op_of, asks_close_of, user_instance, users_repeats}
+use Rattle.role_steps.specs.Using.{with_brought, content_answer, asks_want, next_want, goes_on, on_call, counted_call, accepted_call, accept_record, takes_answer, takes_copied, with_answer, takes_open, on_open_done_of, on_open_done, on_op_done_of, on_as_held_of, on_op_done, on_as_held, on_close_done_of, on_close_done, looks_again, takes_look, on_look_done_of, on_look_done, asks_open_of, asks_op_number, asks_held_number, asks_take}
+use Rattle.role_steps.specs.Using as using
+use Rattle.role_steps.specs.declared.copies.FileCopy.{FileCopy}
+use Rattle.role_steps.specs.declared.instances.Instance.{Instance}
+use Rattle.role_steps.specs.declared.instances.Stage.{Stage}
+use Rattle.role_steps.specs.declared.instances.Stage.TheVariants as stage
+use Rattle.role_steps.specs.declared.pulls.Pull.{Pull}
+use Rattle.role_steps.specs.declared.users.Asking.{Asking}
+use Rattle.role_steps.specs.declared.users.Asking.TheVariants as asking
+use Rattle.role_steps.specs.declared.users.WaitingCall.{WaitingCall}
+use Rattle.the_run.proofs.SyncWalks.{sync_walk}
+use Rattle.role_steps.specs.declared.users.UserInstance.{UserInstance}
+use Rattle.role_steps.proofs.HeldReads.{held_read_so}
+use Rattle.role_steps.proofs.Sending.{every_cond, every_flat_map}
+use Rattle.the_run.specs.Kinds.{IsOfReader, IsStoreRequest, IsUserRequest, IsOfUser}
+use Rattle.the_run.specs.KindLaws.{Law, ReadersKeep, StoresKeep, UsersKeep, VersionsKeep, Part}
 
 -- ---- requests ----
 
