@@ -124,9 +124,6 @@ LookOk l = NoClaim l.body
 abbrev pub TableOk : SyncTable → Type 0
 TableOk t = Every LookOk t.looks
 
-abbrev pub StillTable : Outcome SyncTable → Type 0
-StillTable o = Every Unclaimed o.sent × Every NoJoin o.told × NoWrite o.written × TableOk o.view
-
 -- an outcome that joins nothing, and leaves what the laws speak of
 pub record Plain (v : SiteView) (o : Outcome SiteView) : Type 0 where
   pub boot : o.view.boot ≡ v.boot
