@@ -1,4 +1,5 @@
 -- A using site accepts a call, and leaves an epoch.
+use Rattle.locus_ids.specs.declared.config.Config.{Config}
 use Rattle.std.proofs.Common.{◌≡◌, ◌≤◌, ◌<◌, ℕ, ◌+◌, ◌*◌, true, false, List, [], ◌∷◌, Option, Some, None, refl, sym, ◌∙◌, ap, subst, inl, inr, arith}
 use Rattle.role_steps.proofs.of_plain_facts.Options.{none_some, some_same}
 use Rattle.locus_ids.specs.declared.ids.CallId.{CallId}
@@ -98,9 +99,9 @@ unopened (inl e) = absurd e
 unopened (inr e) = absurd e
 
 -- a call that closes no descriptor holds nothing yet
-other_ready : (K : EpochId → Type 0) (f : Frame) (now : Option EpochId) (t : Trace) (u : Users) (pages : CachedPages) (copied : Option (List ℕ)) (process n : ℕ) (words : Call) → ((s : ℕ) → Frees s words (beginning (descriptors_of u process) now (own_call f.me f.boot n) words) → ⊥) → Owned K now u →
-    Ready K f now t (record u { calls = n; cache = pages }) (with_copied copied (accepted process n words (beginning (descriptors_of u process) now (own_call f.me f.boot n) words)))
-other_ready K f now t u pages copied process n words none o = record {
+other_ready : (c : Config) (K : EpochId → Type 0) (f : Frame) (now : Option EpochId) (t : Trace) (u : Users) (pages : CachedPages) (copied : Option (List ℕ)) (process n : ℕ) (words : Call) → ((s : ℕ) → Frees s words (beginning (descriptors_of u process) now (own_call f.me f.boot n) words) → ⊥) → Owned K now u →
+    Ready c K f now t (record u { calls = n; cache = pages }) (with_copied copied (accepted process n words (beginning (descriptors_of u process) now (own_call f.me f.boot n) words)))
+other_ready c K f now t u pages copied process n words none o = record {
   low = λ s k. absurd (held s k);
   calls = λ x s a k l. absurd (held s l);
   rows = λ d a p k. held (serial_of d) k;
@@ -122,9 +123,9 @@ other_ready K f now t u pages copied process n words none o = record {
     held s (inr k) = none s k
 
 -- a close holds what its descriptor held
-close_ready : (K : EpochId → Type 0) (f : Frame) (now : Option EpochId) (t : Trace) (u : Users) (pages : CachedPages) (copied : Option (List ℕ)) (process n fd : ℕ) → Owned K now u →
-    Ready K f now t (without_descriptor process fd (record u { calls = n; cache = pages })) (with_copied copied (accepted process n (call.Close fd) (beginning (descriptors_of u process) now (own_call f.me f.boot n) (call.Close fd))))
-close_ready K f now t u pages copied process n fd o = record {
+close_ready : (c : Config) (K : EpochId → Type 0) (f : Frame) (now : Option EpochId) (t : Trace) (u : Users) (pages : CachedPages) (copied : Option (List ℕ)) (process n fd : ℕ) → Owned K now u →
+    Ready c K f now t (without_descriptor process fd (record u { calls = n; cache = pages })) (with_copied copied (accepted process n (call.Close fd) (beginning (descriptors_of u process) now (own_call f.me f.boot n) (call.Close fd))))
+close_ready c K f now t u pages copied process n fd o = record {
   low = λ s k. (let r : OnRow now u process fd s = held s k in let l : serial_of r.row ≤ u.serials = o.low r.row r.there in subst (λ (x : ℕ). x ≤ u.serials) r.serial l);
   calls = λ x s a k l. (let r : OnRow now u process fd s = held s l in absurd (o.no_call r.row x r.there r.open_now a (subst (λ (y : ℕ). Holds y x) (sym r.serial) k)));
   rows = λ d a p k. (let r : OnRow now u process fd (serial_of d) = held (serial_of d) k in let old : Among d u.descriptors × (descriptor_key d ≡ fd_key process fd → ⊥) = freed_old K now process fd u o d a in old.1 (o.one_descriptor d r.row old.0 r.there p r.open_now (sym r.serial) ∙ r.key));
@@ -146,22 +147,22 @@ close_ready K f now t u pages copied process n fd o = record {
     held s (inr k) = freed_row now u process fd s k
 
 -- the call as it goes on, with what it frees
-accepted_do : (K : EpochId → Type 0) (f : Frame) (now : Option EpochId) (m process : ℕ) (t : Trace) (words : Call) (u : Users) (pages : CachedPages) (copied : Option (List ℕ)) → Owned K now u → Goes f.me f.boot t (u.calls + 1) u.waiting (with_copied copied (accepted process (u.calls + 1) words (beginning (descriptors_of u process) now (own_call f.me f.boot (u.calls + 1)) words))) →
-    UsersDo K f.me f.boot now m t (goes_on f (with_copied copied (accepted process (u.calls + 1) words (beginning (descriptors_of u process) now (own_call f.me f.boot (u.calls + 1)) words))) (frees process words (record u { calls = u.calls + 1; cache = pages })))
-accepted_do K f now m process t (call.Close fd) u pages copied o g =
-    goes_do K f now m t (without_descriptor process fd (record u { calls = u.calls + 1; cache = pages })) (with_copied copied (accepted process (u.calls + 1) (call.Close fd) (beginning (descriptors_of u process) now (own_call f.me f.boot (u.calls + 1)) (call.Close fd)))) g
-    (freed_owned K now process fd (record u { calls = u.calls + 1; cache = pages }) (counts_owned K now (u.calls + 1) pages u o)) (close_ready K f now t u pages copied process (u.calls + 1) fd o)
-accepted_do K f now m process t words u pages copied o g =
-    goes_do K f now m t (record u { calls = u.calls + 1; cache = pages }) (with_copied copied (accepted process (u.calls + 1) words (beginning (descriptors_of u process) now (own_call f.me f.boot (u.calls + 1)) words))) g
-    (counts_owned K now (u.calls + 1) pages u o) (other_ready K f now t u pages copied process (u.calls + 1) words (λ s h. h) o)
+accepted_do : (c : Config) (K : EpochId → Type 0) (f : Frame) (now : Option EpochId) (m process : ℕ) (t : Trace) (words : Call) (u : Users) (pages : CachedPages) (copied : Option (List ℕ)) → Owned K now u → Goes c f.me f.boot t (u.calls + 1) u.waiting (with_copied copied (accepted process (u.calls + 1) words (beginning (descriptors_of u process) now (own_call f.me f.boot (u.calls + 1)) words))) →
+    UsersDo c K f.me f.boot now m t (goes_on f (with_copied copied (accepted process (u.calls + 1) words (beginning (descriptors_of u process) now (own_call f.me f.boot (u.calls + 1)) words))) (frees process words (record u { calls = u.calls + 1; cache = pages })))
+accepted_do c K f now m process t (call.Close fd) u pages copied o g =
+    goes_do c K f now m t (without_descriptor process fd (record u { calls = u.calls + 1; cache = pages })) (with_copied copied (accepted process (u.calls + 1) (call.Close fd) (beginning (descriptors_of u process) now (own_call f.me f.boot (u.calls + 1)) (call.Close fd)))) g
+    (freed_owned K now process fd (record u { calls = u.calls + 1; cache = pages }) (counts_owned K now (u.calls + 1) pages u o)) (close_ready c K f now t u pages copied process (u.calls + 1) fd o)
+accepted_do c K f now m process t words u pages copied o g =
+    goes_do c K f now m t (record u { calls = u.calls + 1; cache = pages }) (with_copied copied (accepted process (u.calls + 1) words (beginning (descriptors_of u process) now (own_call f.me f.boot (u.calls + 1)) words))) g
+    (counts_owned K now (u.calls + 1) pages u o) (other_ready c K f now t u pages copied process (u.calls + 1) words (λ s h. h) o)
 
-pub on_call_do : (K : EpochId → Type 0) (f : Frame) (now : Option EpochId) (m process : ℕ) (t : Trace) (words : Call) (u : Users) → ((r : WaitingCall) → Among r u.waiting → waiting_key r ≡ waiting_of process words → ⊥) → KeyedAs process words → Idle process words u.waiting →
-    Waits f.me f.boot t u.calls u.waiting → Owned K now u → UsersDo K f.me f.boot now m t (on_call f now process words u)
-on_call_do K f now m process t words u alone keyed idle h o =
+pub on_call_do : (c : Config) (K : EpochId → Type 0) (f : Frame) (now : Option EpochId) (m process : ℕ) (t : Trace) (words : Call) (u : Users) → ((r : WaitingCall) → Among r u.waiting → waiting_key r ≡ waiting_of process words → ⊥) → KeyedAs process words → Idle process words u.waiting →
+    Waits c f.me f.boot t u.calls u.waiting → Owned K now u → UsersDo c K f.me f.boot now m t (on_call f now process words u)
+on_call_do c K f now m process t words u alone keyed idle h o =
     let w : WaitingCall = accepted_call f now process words u in
     let counted : Users = counted_users f now process words u in
-    let d : UsersDo K f.me f.boot now m next (goes_on f w (frees process words counted)) = accepted_do K f now m process next words u counted.cache w.copied o (accept_goes f.me f.boot m u.calls process t u.waiting words w.begins w.copied o.waiting alone keyed h) in
-    record { waits = d.waits; owned = d.owned; rows = (accept_row f.me f.boot u.calls process t u.waiting words idle h, d.rows); own = (refl, d.own); none = d.none }
+    let d : UsersDo c K f.me f.boot now m next (goes_on f w (frees process words counted)) = accepted_do c K f now m process next words u counted.cache w.copied o (accept_goes c f.me f.boot m u.calls process t u.waiting words w.begins w.copied o.waiting alone keyed h) in
+    record { waits = d.waits; owned = d.owned; rows = (accept_row c f.me f.boot u.calls process t u.waiting words idle h, d.rows); own = (refl, d.own); none = d.none }
   where
     next : Trace
     next = with_told m (Shown (says.Accept f.me process (own_call f.me f.boot (u.calls + 1)) words)) t
@@ -191,18 +192,18 @@ apart_keys process other (call.Mend file) k one ne e = (let low : file.group < w
 apart_keys process other _ k one ne e = ne (omega (arith, e))
 
 -- a process that waits for nothing makes a call
-pub process_call_do : (K : EpochId → Type 0) (f : Frame) (now : Option EpochId) (m process : ℕ) (t : Trace) (words : Call) (u : Users) → IsPlain words → 1 ≤ process → ((r : WaitingCall) → Among r u.waiting → r.process ≡ process → ⊥) →
-    Waits f.me f.boot t u.calls u.waiting → Owned K now u → UsersDo K f.me f.boot now m t (on_call f now process words u)
-process_call_do K f now m process t words u plain one idle h o =
-    on_call_do K f now m process t words u (λ r a e. apart_keys process r.process r.words (h.keyed r a) one (idle r a) (e ∙ plain_key process words plain)) (plain_keyed process words plain one) (plain_idle process words u.waiting idle) h o
+pub process_call_do : (c : Config) (K : EpochId → Type 0) (f : Frame) (now : Option EpochId) (m process : ℕ) (t : Trace) (words : Call) (u : Users) → IsPlain words → 1 ≤ process → ((r : WaitingCall) → Among r u.waiting → r.process ≡ process → ⊥) →
+    Waits c f.me f.boot t u.calls u.waiting → Owned K now u → UsersDo c K f.me f.boot now m t (on_call f now process words u)
+process_call_do c K f now m process t words u plain one idle h o =
+    on_call_do c K f now m process t words u (λ r a e. apart_keys process r.process r.words (h.keyed r a) one (idle r a) (e ∙ plain_key process words plain)) (plain_keyed process words plain one) (plain_idle process words u.waiting idle) h o
 
 -- ---- the epoch is left ----
 
-answers_rows : (s boot m : ℕ) (e : EpochId) (t : Trace) (rows : List WaitingCall) → AllAccepted m (changed_records s boot e rows) t × Every (OfSite s) (changed_records s boot e rows)
-answers_rows s boot m e t [] = (tt, tt)
-answers_rows s boot m e t (w ∷ ws) = (let k : AllAccepted m (changed_records s boot e ws) (after m (changed_records s boot e (w ∷ [])) t) × Every (OfSite s) (changed_records s boot e ws) = answers_rows s boot m e (after m (changed_records s boot e (w ∷ [])) t) ws in ((tt, k.0), (refl, k.1)))
+answers_rows : (c : Config) (s boot m : ℕ) (e : EpochId) (t : Trace) (rows : List WaitingCall) → AllAccepted c m (changed_records s boot e rows) t × Every (OfSite s) (changed_records s boot e rows)
+answers_rows c s boot m e t [] = (tt, tt)
+answers_rows c s boot m e t (w ∷ ws) = (let k : AllAccepted c m (changed_records s boot e ws) (after m (changed_records s boot e (w ∷ [])) t) × Every (OfSite s) (changed_records s boot e ws) = answers_rows c s boot m e (after m (changed_records s boot e (w ∷ [])) t) ws in ((tt, k.0), (refl, k.1)))
 
-pub users_leave_do : (K : EpochId → Type 0) (s boot m : ℕ) (now : Option EpochId) (e : EpochId) (t : Trace) (u : Users) → Waits s boot t u.calls u.waiting → Owned K now u → UsersDo K s boot None m t (users_leave s boot e u)
-users_leave_do K s boot m now e t u h o =
-    let k : AllAccepted m (changed_records s boot e u.waiting) t × Every (OfSite s) (changed_records s boot e u.waiting) = answers_rows s boot m e t u.waiting in
-    record { waits = leave_waits s boot m u.calls e t u.waiting h; owned = leave_owned K now u o; rows = k.0; own = k.1; none = refl }
+pub users_leave_do : (c : Config) (K : EpochId → Type 0) (s boot m : ℕ) (now : Option EpochId) (e : EpochId) (t : Trace) (u : Users) → Waits c s boot t u.calls u.waiting → Owned K now u → UsersDo c K s boot None m t (users_leave s boot e u)
+users_leave_do c K s boot m now e t u h o =
+    let k : AllAccepted c m (changed_records s boot e u.waiting) t × Every (OfSite s) (changed_records s boot e u.waiting) = answers_rows c s boot m e t u.waiting in
+    record { waits = leave_waits c s boot m u.calls e t u.waiting h; owned = leave_owned K now u o; rows = k.0; own = k.1; none = refl }

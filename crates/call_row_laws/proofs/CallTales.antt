@@ -1,4 +1,5 @@
 -- In every run whose lines fit their cluster each call line is told: that it is void, or that its call is accepted.
+use Rattle.schedule_lines.specs.Cluster.{config_of}
 use Rattle.std.proofs.Common.{◌≡◌, ℕ, ◌+◌, ◌==◌, ◌⊎◌, Bool, true, false, ◌||◌, ◌&&◌, not, List, [], ◌∷◌, ◌++◌, length, map, take, Option, Some, None, refl, sym, ◌∙◌, ap, subst, inl, inr, arith}
 use Rattle.std.proofs.lemmas.Bool.Decides.{nat_tests}
 use Rattle.std.specs.Option.{is_some}
@@ -192,27 +193,27 @@ call_accepts c s process words links v None plain h = frame_accepts c s process 
 call_accepts c s process words links v (Some e) plain h = frame_accepts c s process words links v (call_frame c s v.boot (Some e)) (Some e.id) refl plain h
 
 -- its process waits for nothing
-call_effect : (lines : List ScheduleLine) (n s process : ℕ) (words : Call) (v : SiteView) (w : World) → place_at w s ≡ Some (Running v) → ((r : WaitingCall) → Among r v.users.waiting → r.process ≡ process → ⊥) → CallsStand w → has_no_effect (take n lines) (trace_of w) (line.Call s process words) ≡ Some false
-call_effect lines n s process words v w here idle g =
-    let h : Waits s v.boot (trace_of w) v.users.calls v.users.waiting = (g.places s (Running v) here).waits in
+call_effect : (c : Config) (lines : List ScheduleLine) (n s process : ℕ) (words : Call) (v : SiteView) (w : World) → place_at w s ≡ Some (Running v) → ((r : WaitingCall) → Among r v.users.waiting → r.process ≡ process → ⊥) → CallsStand c w → has_no_effect (config_of lines) (take n lines) (trace_of w) (line.Call s process words) ≡ Some false
+call_effect c lines n s process words v w here idle g =
+    let h : Waits c s v.boot (trace_of w) v.users.calls v.users.waiting = (g.places s (Running v) here).waits in
     ap (λ (b : Bool). Some (not b || is_some (waiting_of s process (waiting (trace_of w))))) h.up
-    ∙ ap (λ (o : Option Waiting). Some (is_some o)) (idle_process s v.boot v.users.calls process (trace_of w) v.users.waiting idle h)
+    ∙ ap (λ (o : Option Waiting). Some (is_some o)) (idle_process c s v.boot v.users.calls process (trace_of w) v.users.waiting idle h)
 
 -- ---- every line ----
 
 record CallLines (c : Config) (lines : List ScheduleLine) (n : ℕ) (w : World) : Type 0 where
   calling : Calling c lines n w
   places : HasPlaces c w
-  voids : VoidsGo lines w
-  told : ToldGo lines n w
+  voids : VoidsGo c lines w
+  told : ToldGo c lines n w
 
-call_told : (c : Config) (lines : List ScheduleLine) (n s process : ℕ) (words : Call) (v : SiteView) (w : World) → IsLine lines (n + 1) (line.Call s process words) → place_at w s ≡ Some (Running v) → MayCall v (Calls process words) → CallLines c lines n w → ToldGo lines (n + 1) (acts (n + 1) s v (step c s (links_of w s) v (Calls process words)) w)
+call_told : (c : Config) (lines : List ScheduleLine) (n s process : ℕ) (words : Call) (v : SiteView) (w : World) → IsLine lines (n + 1) (line.Call s process words) → place_at w s ≡ Some (Running v) → MayCall v (Calls process words) → CallLines c lines n w → ToldGo c lines (n + 1) (acts (n + 1) s v (step c s (links_of w s) v (Calls process words)) w)
 call_told c lines n s process words v w is here may p =
-    subst (λ (x : Option DiskWrite). ToldGo lines (n + 1) (acts_of (n + 1) s v o x w)) (sym g.none)
-    (happened_calls lines (n + 1) o.sent o.told (λ now. puts s (Running o.view) now) w
+    subst (λ (x : Option DiskWrite). ToldGo c lines (n + 1) (acts_of (n + 1) s v o x w)) (sym g.none)
+    (happened_calls c lines (n + 1) o.sent o.told (λ now. puts s (Running o.view) now) w
     (λ none order. next lines n (shown (told_onto (n + 1) o.told w.trace)) (earlier lines n (n + 1) o.told w.trace (omega arith) (p.told none order))
     (λ call. subst (λ (xs : List Told). is_told lines (shown (told_onto (n + 1) xs w.trace)) (n + 1) ≡ true) (sym g.told_is)
-    (tale_told lines n (line.Call s process words) g.first g.rest w is p.calling.courses.course (call_effect lines n s process words v w here may.2 (p.calling.calls order)) g.accepts g.others))))
+    (tale_told c lines n (line.Call s process words) g.first g.rest w is p.calling.courses.course (call_effect c lines n s process words v w here may.2 (p.calling.calls order)) g.accepts g.others))))
   where
     o : Outcome SiteView
     o = step c s (links_of w s) v (Calls process words)
@@ -220,10 +221,10 @@ call_told c lines n s process words v w is here may p =
     g : Accepts s process words o
     g = call_accepts c s process words (links_of w s) v v.epoch may.0 (p.calling.courses.course.places s (Running v) here).2
 
-other_told : (c : Config) (lines : List ScheduleLine) (n s : ℕ) (e : Event) (v : SiteView) (w : World) → is_call (line_at lines (n + 1)) ≡ false → CallLines c lines n w → ToldGo lines (n + 1) (acts (n + 1) s v (step c s (links_of w s) v e) w)
-other_told c lines n s e v w none p = acts_calls lines (n + 1) s v (step c s (links_of w s) v e) w (λ told q order. other_next lines n told w.trace none (p.told q order))
+other_told : (c : Config) (lines : List ScheduleLine) (n s : ℕ) (e : Event) (v : SiteView) (w : World) → is_call (line_at lines (n + 1)) ≡ false → CallLines c lines n w → ToldGo c lines (n + 1) (acts (n + 1) s v (step c s (links_of w s) v e) w)
+other_told c lines n s e v w none p = acts_calls c lines (n + 1) s v (step c s (links_of w s) v e) w (λ told q order. other_next lines n told w.trace none (p.told q order))
 
-line_told : (c : Config) (lines : List ScheduleLine) (n s : ℕ) (l : LineWords) (e : Event) (v : SiteView) (w : World) → LinesFit c lines → IsLine lines (n + 1) l → Gives w l s e → place_at w s ≡ Some (Running v) → CallLines c lines n w → ToldGo lines (n + 1) (acts (n + 1) s v (step c s (links_of w s) v e) w)
+line_told : (c : Config) (lines : List ScheduleLine) (n s : ℕ) (l : LineWords) (e : Event) (v : SiteView) (w : World) → LinesFit c lines → IsLine lines (n + 1) l → Gives w l s e → place_at w s ≡ Some (Running v) → CallLines c lines n w → ToldGo c lines (n + 1) (acts (n + 1) s v (step c s (links_of w s) v e) w)
 line_told c lines n s (line.Call site process words) (Calls p x) v w fit is g here q =
     call_told c lines n s p x v w (subst (λ (y : Call). IsLine lines (n + 1) (line.Call s p y)) g.2 (subst (λ (k : ℕ). IsLine lines (n + 1) (line.Call s k words)) g.1 (subst (λ (t : ℕ). IsLine lines (n + 1) (line.Call t process words)) g.0 is))) here
     (line_may c lines (n + 1) s (line.Call site process words) (Calls p x) v w fit is g here) q
@@ -238,7 +239,7 @@ line_told c lines n s (line.Merge site) e v w fit is g here q = other_told c lin
 line_told c lines n s (line.GiveUp site) e v w fit is g here q = other_told c lines n s e v w (line_other lines (n + 1) (line.GiveUp site) is refl) q
 line_told c lines n s l e v w fit is g here q = other_told c lines n s e v w (line_other lines (n + 1) l is refl) q
 
-void_told : (c : Config) (lines : List ScheduleLine) (n : ℕ) (l : LineWords) (w : World) → LinesFit c lines → IsLine lines (n + 1) l → IsVoidIn w l → CallLines c lines n w → EachRecord IsSiteRow (trace_of w) → is_call (line_at lines (n + 1)) ≡ true → may_be_void (has_no_effect (take n lines) (trace_of w) l) ≡ true
+void_told : (c : Config) (lines : List ScheduleLine) (n : ℕ) (l : LineWords) (w : World) → LinesFit c lines → IsLine lines (n + 1) l → IsVoidIn w l → CallLines c lines n w → EachRecord (IsSiteRow c) (trace_of w) → is_call (line_at lines (n + 1)) ≡ true → may_be_void (has_no_effect c (take n lines) (trace_of w) l) ≡ true
 void_told c lines n l w fit is void p order call = void_effect c lines n l w (fit (n + 1) l is) (sym (ap is_call is) ∙ call) void p.places p.calling.courses.course (p.calling.calls order)
 
 lines_kept : (c : Config) (lines : List ScheduleLine) → LinesFit c lines → KeptIn c lines (CallLines c lines)
@@ -247,35 +248,35 @@ lines_kept c lines fit = record {
   ticks = λ n most s v w is here p. record {
     calling = kept.ticks n most s v w is here p.calling;
     places = has.steps n s Ticks v w here tt p.places;
-    voids = acts_voids lines n s (causes_of s (links_of w s) v Ticks) v (step c s (links_of w s) v Ticks) w (step_forms (DeedsOf w.trace s) s c (links_of w s) v Ticks (p.calling.courses.good.views s v here) (p.calling.courses.course.places s (Running v) here).2 tt) p.voids;
-    told = acts_calls lines n s v (step c s (links_of w s) v Ticks) w (λ told none order. course lines n told w.trace (line_other lines n (line.Settle most) is refl) (p.told none order));
+    voids = acts_voids c lines n s (causes_of s (links_of w s) v Ticks) v (step c s (links_of w s) v Ticks) w (step_forms (DeedsOf w.trace s) s c (links_of w s) v Ticks (p.calling.courses.good.views s v here) (p.calling.courses.course.places s (Running v) here).2 tt) p.voids;
+    told = acts_calls c lines n s v (step c s (links_of w s) v Ticks) w (λ told none order. course lines n told w.trace (line_other lines n (line.Settle most) is refl) (p.told none order));
   };
   receives = λ n l x v w is d here sent p. record {
     calling = kept.receives n l x v w is d here sent p.calling;
     places = has.receives n x v w here sent p.places;
-    voids = acts_voids lines n x.packet.to (causes_of x.packet.to (links_of (passed x.number w) x.packet.to) v (Receives x.packet)) v (step c x.packet.to (links_of (passed x.number w) x.packet.to) v (Receives x.packet)) (passed x.number w)
-        (step_forms (DeedsOf w.trace x.packet.to) x.packet.to c (links_of (passed x.number w) x.packet.to) v (Receives x.packet) (p.calling.courses.good.views x.packet.to v here) (p.calling.courses.course.places x.packet.to (Running v) here).2 (sent_polls lines n w x sent p.calling.courses.course)) p.voids;
-    told = acts_calls lines n x.packet.to v (step c x.packet.to (links_of (passed x.number w) x.packet.to) v (Receives x.packet)) (passed x.number w) (λ told none order. course lines n told w.trace (line_other lines n l is (delivers_other l d)) (p.told none order));
+    voids = acts_voids c lines n x.packet.to (causes_of x.packet.to (links_of (passed x.number w) x.packet.to) v (Receives x.packet)) v (step c x.packet.to (links_of (passed x.number w) x.packet.to) v (Receives x.packet)) (passed x.number w)
+        (step_forms (DeedsOf w.trace x.packet.to) x.packet.to c (links_of (passed x.number w) x.packet.to) v (Receives x.packet) (p.calling.courses.good.views x.packet.to v here) (p.calling.courses.course.places x.packet.to (Running v) here).2 (sent_polls c lines n w x sent p.calling.courses.course)) p.voids;
+    told = acts_calls c lines n x.packet.to v (step c x.packet.to (links_of (passed x.number w) x.packet.to) v (Receives x.packet)) (passed x.number w) (λ told none order. course lines n told w.trace (line_other lines n l is (delivers_other l d)) (p.told none order));
   };
   passes = λ n k w p. record { calling = kept.passes n k w p.calling; places = p.places; voids = p.voids; told = p.told };
   drops = λ n k w p. record { calling = kept.drops n k w p.calling; places = p.places; voids = p.voids; told = p.told };
   budgets = λ n most w is p. record {
     calling = kept.budgets n most w is p.calling;
     places = has.budgets n w p.places;
-    voids = free_voids lines n [] (Shown says.Budget ∷ []) (λ now. now) w (tt, tt) p.voids;
-    told = happened_calls lines n [] (Shown says.Budget ∷ []) (λ now. now) w (λ none order. course lines n (Shown says.Budget ∷ []) w.trace (line_other lines n (line.Settle most) is refl) (p.told none order));
+    voids = free_voids c lines n [] (Shown says.Budget ∷ []) (λ now. now) w (tt, tt) p.voids;
+    told = happened_calls c lines n [] (Shown says.Budget ∷ []) (λ now. now) w (λ none order. course lines n (Shown says.Budget ∷ []) w.trace (line_other lines n (line.Settle most) is refl) (p.told none order));
   };
   voiding = λ n l w there is void p. record {
     calling = kept.voiding n l w there is void p.calling;
     places = has.voiding (n + 1) w p.places;
-    voids = happened_voids lines (n + 1) [] (Shown says.Void ∷ []) (λ now. now) w (λ order g. (λ call. record { silent = ap may_be_void (void_now lines n l w is p.calling.courses.course) ∙ void_told c lines n l w fit is void p order call }, g)) p.voids;
-    told = happened_calls lines (n + 1) [] (Shown says.Void ∷ []) (λ now. now) w (λ none order. next lines n (shown (told_onto (n + 1) (Shown says.Void ∷ []) w.trace)) (earlier lines n (n + 1) (Shown says.Void ∷ []) w.trace (omega arith) (p.told none order))
-        (λ call. voids_told lines n l w is p.calling.courses.course (void_told c lines n l w fit is void p order call)));
+    voids = happened_voids c lines (n + 1) [] (Shown says.Void ∷ []) (λ now. now) w (λ order g. (λ call. record { silent = ap may_be_void (void_now c lines n l w is p.calling.courses.course) ∙ void_told c lines n l w fit is void p order call }, g)) p.voids;
+    told = happened_calls c lines (n + 1) [] (Shown says.Void ∷ []) (λ now. now) w (λ none order. next lines n (shown (told_onto (n + 1) (Shown says.Void ∷ []) w.trace)) (earlier lines n (n + 1) (Shown says.Void ∷ []) w.trace (omega arith) (p.told none order))
+        (λ call. voids_told c lines n l w is p.calling.courses.course (void_told c lines n l w fit is void p order call)));
   };
   steps = λ n s l e v w there is g here p. record {
     calling = kept.steps n s l e v w there is g here p.calling;
     places = has.steps (n + 1) s e v w here (own_given w l s e g) p.places;
-    voids = acts_voids lines (n + 1) s (causes_of s (links_of w s) v e) v (step c s (links_of w s) v e) w (step_forms (DeedsOf w.trace s) s c (links_of w s) v e (p.calling.courses.good.views s v here) (p.calling.courses.course.places s (Running v) here).2 (comes_own e (own_given w l s e g))) p.voids;
+    voids = acts_voids c lines (n + 1) s (causes_of s (links_of w s) v e) v (step c s (links_of w s) v e) w (step_forms (DeedsOf w.trace s) s c (links_of w s) v e (p.calling.courses.good.views s v here) (p.calling.courses.course.places s (Running v) here).2 (comes_own e (own_given w l s e g))) p.voids;
     told = line_told c lines n s l e v w fit is g here p;
   };
   cutting = λ n one other w there is cut p. record { calling = kept.cutting n one other w there is cut p.calling; places = p.places; voids = p.voids; told = λ none order. other_next lines n [] w.trace (line_other lines (n + 1) (line.Down one other) is refl) (p.told none order) };
@@ -284,20 +285,20 @@ lines_kept c lines fit = record {
   pending = λ n w there is p. record {
     calling = kept.pending n w there is p.calling;
     places = has.pending (n + 1) w p.places;
-    voids = free_voids lines (n + 1) [] (map packet_record w.underway) (λ now. now) w (every_map NoVoid packet_record w.underway (λ (x : Numbered). tt)) p.voids;
-    told = happened_calls lines (n + 1) [] (map packet_record w.underway) (λ now. now) w (λ none order. other_next lines n (map packet_record w.underway) w.trace (line_other lines (n + 1) line.Pending is refl) (p.told none order));
+    voids = free_voids c lines (n + 1) [] (map packet_record w.underway) (λ now. now) w (every_map NoVoid packet_record w.underway (λ (x : Numbered). tt)) p.voids;
+    told = happened_calls c lines (n + 1) [] (map packet_record w.underway) (λ now. now) w (λ none order. other_next lines n (map packet_record w.underway) w.trace (line_other lines (n + 1) line.Pending is refl) (p.told none order));
   };
   stopping = λ n s v w there is here p. record {
     calling = kept.stopping n s v w there is here p.calling;
     places = has.stopping (n + 1) s v w here p.places;
-    voids = free_voids lines (n + 1) [] (Shown (says.Stopped s cause.Asked) ∷ []) (stops_with s (disk_of v)) w (tt, tt) p.voids;
-    told = happened_calls lines (n + 1) [] (Shown (says.Stopped s cause.Asked) ∷ []) (stops_with s (disk_of v)) w (λ none order. other_next lines n (Shown (says.Stopped s cause.Asked) ∷ []) w.trace (line_other lines (n + 1) (line.Stop s) is refl) (p.told none order));
+    voids = free_voids c lines (n + 1) [] (Shown (says.Stopped s cause.Asked) ∷ []) (stops_with s (disk_of v)) w (tt, tt) p.voids;
+    told = happened_calls c lines (n + 1) [] (Shown (says.Stopped s cause.Asked) ∷ []) (stops_with s (disk_of v)) w (λ none order. other_next lines n (Shown (says.Stopped s cause.Asked) ∷ []) w.trace (line_other lines (n + 1) (line.Stop s) is refl) (p.told none order));
   };
   booting = λ n s d w there is here p. record {
     calling = kept.booting n s d w there is here p.calling;
     places = has.booting (n + 1) s d w here p.places;
-    voids = boots_voids lines (n + 1) s (boots (script_of w s) d) w p.voids;
-    told = boots_calls lines (n + 1) s (boots (script_of w s) d) w (λ told none order. other_next lines n told w.trace (line_other lines (n + 1) (line.Boot s) is refl) (p.told none order));
+    voids = boots_voids c lines (n + 1) s (boots (script_of w s) d) w p.voids;
+    told = boots_calls c lines (n + 1) s (boots (script_of w s) d) w (λ told none order. other_next lines n told w.trace (line_other lines (n + 1) (line.Boot s) is refl) (p.told none order));
   };
 }
   where

@@ -1,5 +1,5 @@
 -- In every run whose lines fit their cluster each call that is accepted comes as it may.
-use Rattle.std.proofs.Common.{◌≡◌, ◌≢◌, ◌≤◌, ℕ, ◌+◌, ◌==◌, ◌⊎◌, Bool, true, false, cond, ◌||◌, ◌&&◌, List, [], ◌∷◌, length, map, Option, Some, None, refl, sym, ◌∙◌, ap, subst, inl, inr, arith}
+use Rattle.std.proofs.Common.{◌≡◌, ◌≢◌, ◌≤◌, ℕ, ◌+◌, ◌==◌, ◌⊎◌, Bool, true, false, cond, ◌||◌, ◌&&◌, List, [], ◌∷◌, length, map, Some, None, refl, sym, ◌∙◌, ap, subst, inl, inr, arith}
 use Rattle.std.proofs.lemmas.Bool.Decides.{nat_tests}
 use Rattle.std.specs.List.{list_any}
 use Rattle.role_steps.proofs.of_plain_facts.Numbers.{equal_test}
@@ -17,14 +17,13 @@ use Rattle.trace_book.specs.declared.record.StopCause.{StopCause}
 use Rattle.trace_book.specs.declared.record.StopCause.TheVariants as cause
 use Rattle.wire_messages.specs.declared.packet.Packet.{Packet}
 use Rattle.role_steps.specs.Own.{Every}
-use Rattle.role_steps.specs.Tables.{row}
 use Rattle.role_steps.specs.Views.{SiteView, Told, Shown, Outcome, Event, Calls, Receives, Ticks, Parts, Merges, GivesUp}
 use Rattle.role_steps.specs.declared.users.WaitingCall.{WaitingCall}
 use Rattle.tree_model.specs.Folds.{Trace}
 use Rattle.row_laws.specs.of_the_run.Disks.{Disk, Booted, Whole, CutOff, Cut, boots, cut_disk, is_on_disk}
 use Rattle.row_laws.specs.of_the_run.Kept.{Among}
 use Rattle.row_laws.specs.of_the_run.Steps.{epoch_id, step}
-use Rattle.row_laws.specs.of_the_run.Worlds.{World, Place, Running, Stopped, Numbered, Line, links_of, place_at, place_in, place_site, script_of, happened, told_onto, disk_of, puts, arms, passed, stops_with, cause_of, cut_told, acts, fresh, formatted, first_place, first_world}
+use Rattle.row_laws.specs.of_the_run.Worlds.{World, Place, Running, Stopped, Numbered, Line, links_of, place_at, script_of, happened, told_onto, disk_of, puts, arms, passed, stops_with, cause_of, cut_told, acts, fresh, formatted, first_world}
 use Rattle.row_laws.specs.of_the_run.Runs.{is_busy, boots_as, packet_record, run_in}
 use Rattle.row_laws.proofs.of_the_run.Boots.{at_each, acts_cases}
 use Rattle.row_laws.proofs.of_the_run.Events.{happened_keeps, puts_other, puts_same}
@@ -39,6 +38,7 @@ use Rattle.row_laws.proofs.StepForms.{step_forms}
 use Rattle.row_laws.proofs.AskedRun.{own_given, Courses, courses_kept, first_courses}
 use Rattle.row_laws.proofs.Causes.{comes_own, sent_polls}
 use Rattle.row_laws.proofs.SitesGoOn.{run_sites}
+use Rattle.row_laws.proofs.of_lock_laws.of_law_walks.FirstWorld.{first_places}
 use Rattle.call_row_laws.specs.Accepting.{IsAcceptRow}
 use Rattle.call_row_laws.specs.Waiting.{after, AcceptTold, AllAccepted, OfSite, NoneWaits, CallFree}
 use Rattle.call_row_laws.specs.Standing.{Stands, NewTold, AllNew, SiteDone, SiteDoes, PlaceStands, CallsStand}
@@ -53,123 +53,123 @@ pub after_shown : (m : ℕ) (told : List Told) (trace : List Line) → shown (to
 after_shown m [] trace = refl
 after_shown m (x ∷ xs) trace = after_shown m xs (record { number = m; told = x } ∷ trace)
 
-told_rows : (m : ℕ) (x : Told) (t : Trace) → AcceptTold t x → EachRecord IsAcceptRow t → EachRecord IsAcceptRow (with_told m x t)
-told_rows m (Shown r) t h g = (h, g)
-told_rows m _ t h g = g
+told_rows : (c : Config) (m : ℕ) (x : Told) (t : Trace) → AcceptTold c t x → EachRecord (IsAcceptRow c) t → EachRecord (IsAcceptRow c) (with_told m x t)
+told_rows c m (Shown r) t h g = (h, g)
+told_rows c m _ t h g = g
 
-rows_after : (m : ℕ) (told : List Told) (t : Trace) → AllAccepted m told t → EachRecord IsAcceptRow t → EachRecord IsAcceptRow (after m told t)
-rows_after m [] t h g = g
-rows_after m (x ∷ xs) t h g = rows_after m xs (with_told m x t) h.1 (told_rows m x t h.0 g)
+rows_after : (c : Config) (m : ℕ) (told : List Told) (t : Trace) → AllAccepted c m told t → EachRecord (IsAcceptRow c) t → EachRecord (IsAcceptRow c) (after m told t)
+rows_after c m [] t h g = g
+rows_after c m (x ∷ xs) t h g = rows_after c m xs (with_told m x t) h.1 (told_rows c m x t h.0 g)
 
-told_before : (m : ℕ) (x : Told) (t : Trace) → EachRecord IsSiteRow (with_told m x t) → EachRecord IsSiteRow t
-told_before m (Shown r) t h = h.1
-told_before m _ t h = h
+told_before : (c : Config) (m : ℕ) (x : Told) (t : Trace) → EachRecord (IsSiteRow c) (with_told m x t) → EachRecord (IsSiteRow c) t
+told_before c m (Shown r) t h = h.1
+told_before c m _ t h = h
 
-pub each_before : (m : ℕ) (told : List Told) (t : Trace) → EachRecord IsSiteRow (after m told t) → EachRecord IsSiteRow t
-each_before m [] t h = h
-each_before m (x ∷ xs) t h = told_before m x t (each_before m xs (with_told m x t) h)
+pub each_before : (c : Config) (m : ℕ) (told : List Told) (t : Trace) → EachRecord (IsSiteRow c) (after m told t) → EachRecord (IsSiteRow c) t
+each_before c m [] t h = h
+each_before c m (x ∷ xs) t h = told_before c m x t (each_before c m xs (with_told m x t) h)
 
-record_new : (r : Record) (t : Trace) → SiteRecordRow t r → NewTold t (Shown r)
-record_new (says.Join s id members) t h = h.new
-record_new _ t h = tt
+record_new : (c : Config) (r : Record) (t : Trace) → SiteRecordRow c t r → NewTold t (Shown r)
+record_new c (says.Join s id members) t h = h.new
+record_new c _ t h = tt
 
-told_new : (m : ℕ) (x : Told) (t : Trace) → EachRecord IsSiteRow (with_told m x t) → NewTold t x
-told_new m (Shown r) t h = record_new r t h.0
-told_new m _ t h = tt
+told_new : (c : Config) (m : ℕ) (x : Told) (t : Trace) → EachRecord (IsSiteRow c) (with_told m x t) → NewTold t x
+told_new c m (Shown r) t h = record_new c r t h.0
+told_new c m _ t h = tt
 
-all_new : (m : ℕ) (told : List Told) (t : Trace) → EachRecord IsSiteRow (after m told t) → AllNew m told t
-all_new m [] t h = tt
-all_new m (x ∷ xs) t h = (told_new m x t (each_before m xs (with_told m x t) h), all_new m xs (with_told m x t) h)
+all_new : (c : Config) (m : ℕ) (told : List Told) (t : Trace) → EachRecord (IsSiteRow c) (after m told t) → AllNew m told t
+all_new c m [] t h = tt
+all_new c m (x ∷ xs) t h = (told_new c m x t (each_before c m xs (with_told m x t) h), all_new c m xs (with_told m x t) h)
 
 -- ---- one event ----
 
 -- where sites go on as they may, calls stand as the records say
-abbrev pub CallsGo : World → Type 0
-CallsGo w = EachRecord IsSiteRow (trace_of w) → CallsStand w
+abbrev pub CallsGo : Config → World → Type 0
+CallsGo c w = EachRecord (IsSiteRow c) (trace_of w) → CallsStand c w
 
 -- what an event makes of the calls
-record Comes (m : ℕ) (told : List Told) (change : World → World) (w : World) : Type 0 where
-  rows : AllAccepted m told (trace_of w)
-  places : (t : ℕ) (p : Place) → place_at (change w) t ≡ Some p → PlaceStands t (after m told (trace_of w)) p
+record Comes (c : Config) (m : ℕ) (told : List Told) (change : World → World) (w : World) : Type 0 where
+  rows : AllAccepted c m told (trace_of w)
+  places : (t : ℕ) (p : Place) → place_at (change w) t ≡ Some p → PlaceStands c t (after m told (trace_of w)) p
 
-happened_go : (m : ℕ) (ps : List Packet) (told : List Told) (change : World → World) (w : World) → (EachRecord IsSiteRow (after m told (trace_of w)) → CallsStand w → Comes m told change w) → CallsGo w → CallsGo (happened m ps told change w)
-happened_go m ps told change w comes f =
-    happened_keeps CallsGo m ps told change w f
-    (λ l order. (let g : CallsStand w = f order in record { rows = g.rows; places = g.places }))
+happened_go : (c : Config) (m : ℕ) (ps : List Packet) (told : List Told) (change : World → World) (w : World) → (EachRecord (IsSiteRow c) (after m told (trace_of w)) → CallsStand c w → Comes c m told change w) → CallsGo c w → CallsGo c (happened m ps told change w)
+happened_go c m ps told change w comes f =
+    happened_keeps (CallsGo c) m ps told change w f
+    (λ l order. (let g : CallsStand c w = f order in record { rows = g.rows; places = g.places }))
     (λ k b t order.
-    let now : EachRecord IsSiteRow (after m told (trace_of w)) = subst (EachRecord IsSiteRow) same order in
-    let g : CallsStand w = f (each_before m told (trace_of w) now) in
-    let r : Comes m told change w = comes now g in
+    let now : EachRecord (IsSiteRow c) (after m told (trace_of w)) = subst (EachRecord (IsSiteRow c)) same order in
+    let g : CallsStand c w = f (each_before c m told (trace_of w) now) in
+    let r : Comes c m told change w = comes now g in
     record {
-      rows = subst (EachRecord IsAcceptRow) (sym same) (rows_after m told (trace_of w) r.rows g.rows);
-      places = λ s p here. subst (λ (u : Trace). PlaceStands s u p) (sym same) (r.places s p here);
+      rows = subst (EachRecord (IsAcceptRow c)) (sym same) (rows_after c m told (trace_of w) r.rows g.rows);
+      places = λ s p here. subst (λ (u : Trace). PlaceStands c s u p) (sym same) (r.places s p here);
     })
   where
     same : shown (told_onto m told w.trace) ≡ after m told (trace_of w)
     same = after_shown m told w.trace
 
 -- one place is changed
-one_place : (s : ℕ) (new : Place) (now : Trace) (w : World) → PlaceStands s now new → ((t : ℕ) (p : Place) → s ≢ t → place_at w t ≡ Some p → PlaceStands t now p) → (t : ℕ) (p : Place) → place_at (puts s new w) t ≡ Some p → PlaceStands t now p
-one_place s new now w mine others t p here = at_each s t (PlaceStands t now p)
-    (λ e. subst (λ (u : ℕ). PlaceStands u now p) e (subst (PlaceStands s now) (some_same new p (sym (puts_same s new w) ∙ (ap (place_at (puts s new w)) e ∙ here))) mine))
+one_place : (c : Config) (s : ℕ) (new : Place) (now : Trace) (w : World) → PlaceStands c s now new → ((t : ℕ) (p : Place) → s ≢ t → place_at w t ≡ Some p → PlaceStands c t now p) → (t : ℕ) (p : Place) → place_at (puts s new w) t ≡ Some p → PlaceStands c t now p
+one_place c s new now w mine others t p here = at_each s t (PlaceStands c t now p)
+    (λ e. subst (λ (u : ℕ). PlaceStands c u now p) e (subst (PlaceStands c s now) (some_same new p (sym (puts_same s new w) ∙ (ap (place_at (puts s new w)) e ∙ here))) mine))
     (λ ne. others t p ne (sym (puts_other s t new w ne) ∙ here))
 
 -- ---- other sites ----
 
-other_stands : (s t m : ℕ) (told : List Told) (now : Trace) (p : Place) → s ≢ t → Every (OfSite s) told → PlaceStands t now p → PlaceStands t (after m told now) p
-other_stands s t m told now (Running v) ne own h = record { waits = all_other s t v.boot m v.users.calls told now v.users.waiting ne own h.waits; owned = after_owned t m told now (epoch_id v.epoch) v.users h.owned; tables = h.tables; inside = after_inside t m told now v.epoch h.inside }
-other_stands s t m told now (Stopped d) ne own h = all_none s t m told now ne own h
+other_stands : (c : Config) (s t m : ℕ) (told : List Told) (now : Trace) (p : Place) → s ≢ t → Every (OfSite s) told → PlaceStands c t now p → PlaceStands c t (after m told now) p
+other_stands c s t m told now (Running v) ne own h = record { waits = all_other c s t v.boot m v.users.calls told now v.users.waiting ne own h.waits; owned = after_owned t m told now (epoch_id v.epoch) v.users h.owned; tables = h.tables; inside = after_inside t m told now v.epoch h.inside }
+other_stands c s t m told now (Stopped d) ne own h = all_none s t m told now ne own h
 
-stop_stands : (s t m : ℕ) (why : StopCause) (now : Trace) (p : Place) → s ≢ t → PlaceStands t now p → PlaceStands t (record { line = m; what = says.Stopped s why } ∷ now) p
-stop_stands s t m why now (Running v) ne h = record { waits = stop_other s t v.boot m v.users.calls why now v.users.waiting ne h.waits; owned = after_owned t m (Shown (says.Stopped s why) ∷ []) now (epoch_id v.epoch) v.users h.owned; tables = h.tables; inside = after_inside t m (Shown (says.Stopped s why) ∷ []) now v.epoch h.inside }
-stop_stands s t m why now (Stopped d) ne h = stop_other_none s t m why now h
+stop_stands : (c : Config) (s t m : ℕ) (why : StopCause) (now : Trace) (p : Place) → s ≢ t → PlaceStands c t now p → PlaceStands c t (record { line = m; what = says.Stopped s why } ∷ now) p
+stop_stands c s t m why now (Running v) ne h = record { waits = stop_other c s t v.boot m v.users.calls why now v.users.waiting ne h.waits; owned = after_owned t m (Shown (says.Stopped s why) ∷ []) now (epoch_id v.epoch) v.users h.owned; tables = h.tables; inside = after_inside t m (Shown (says.Stopped s why) ∷ []) now v.epoch h.inside }
+stop_stands c s t m why now (Stopped d) ne h = stop_other_none s t m why now h
 
-boot_stands : (s t boot m : ℕ) (now : Trace) (p : Place) → s ≢ t → PlaceStands t now p → PlaceStands t (record { line = m; what = says.Up s boot } ∷ now) p
-boot_stands s t boot m now (Running v) ne h = record { waits = boot_other s t v.boot boot m v.users.calls now v.users.waiting ne h.waits; owned = after_owned t m (Shown (says.Up s boot) ∷ []) now (epoch_id v.epoch) v.users h.owned; tables = h.tables; inside = after_inside t m (Shown (says.Up s boot) ∷ []) now v.epoch h.inside }
-boot_stands s t boot m now (Stopped d) ne h = boot_other_none s t boot m now h
+boot_stands : (c : Config) (s t boot m : ℕ) (now : Trace) (p : Place) → s ≢ t → PlaceStands c t now p → PlaceStands c t (record { line = m; what = says.Up s boot } ∷ now) p
+boot_stands c s t boot m now (Running v) ne h = record { waits = boot_other c s t v.boot boot m v.users.calls now v.users.waiting ne h.waits; owned = after_owned t m (Shown (says.Up s boot) ∷ []) now (epoch_id v.epoch) v.users h.owned; tables = h.tables; inside = after_inside t m (Shown (says.Up s boot) ∷ []) now v.epoch h.inside }
+boot_stands c s t boot m now (Stopped d) ne h = boot_other_none s t boot m now h
 
 -- ---- stops ----
 
-stop_comes : (s m : ℕ) (why : StopCause) (d : Disk) (w : World) → CallsStand w → Comes m (Shown (says.Stopped s why) ∷ []) (stops_with s d) w
-stop_comes s m why d w g = record {
+stop_comes : (c : Config) (s m : ℕ) (why : StopCause) (d : Disk) (w : World) → CallsStand c w → Comes c m (Shown (says.Stopped s why) ∷ []) (stops_with s d) w
+stop_comes c s m why d w g = record {
   rows = (tt, tt);
-  places = one_place s (Stopped d) (record { line = m; what = says.Stopped s why } ∷ trace_of w) w (stop_none s m why (trace_of w)) (λ t p ne here. stop_stands s t m why (trace_of w) p ne (g.places t p here));
+  places = one_place c s (Stopped d) (record { line = m; what = says.Stopped s why } ∷ trace_of w) w (stop_none s m why (trace_of w)) (λ t p ne here. stop_stands c s t m why (trace_of w) p ne (g.places t p here));
 }
 
-cut_comes : (s m : ℕ) (r : Record) (how : Cut) (d : Disk) (b : Bool) (w : World) → ServedRecord r → CallsStand w → Comes m (cond b (Shown r ∷ Shown (says.Stopped s (cause_of how)) ∷ []) (Shown (says.Stopped s (cause_of how)) ∷ [])) (stops_with s d) w
-cut_comes s m r how d false w served g = stop_comes s m (cause_of how) d w g
-cut_comes s m r how d true w served g =
+cut_comes : (c : Config) (s m : ℕ) (r : Record) (how : Cut) (d : Disk) (b : Bool) (w : World) → ServedRecord r → CallsStand c w → Comes c m (cond b (Shown r ∷ Shown (says.Stopped s (cause_of how)) ∷ []) (Shown (says.Stopped s (cause_of how)) ∷ [])) (stops_with s d) w
+cut_comes c s m r how d false w served g = stop_comes c s m (cause_of how) d w g
+cut_comes c s m r how d true w served g =
     let free : CallFree (Shown r) = served_free (Shown r) served in
     let first : Trace = record { line = m; what = r } ∷ trace_of w in
     record {
-      rows = ((free_rows m (Shown r ∷ []) (trace_of w) (free, tt)).0, (tt, tt));
-      places = one_place s (Stopped d) (record { line = m; what = says.Stopped s (cause_of how) } ∷ first) w (stop_none s m (cause_of how) first)
-          (λ t p ne here. stop_stands s t m (cause_of how) first p ne (other_stands s t m (Shown r ∷ []) (trace_of w) p ne (all_free_own s (Shown r ∷ []) (free, tt)) (g.places t p here)));
+      rows = ((free_rows c m (Shown r ∷ []) (trace_of w) (free, tt)).0, (tt, tt));
+      places = one_place c s (Stopped d) (record { line = m; what = says.Stopped s (cause_of how) } ∷ first) w (stop_none s m (cause_of how) first)
+          (λ t p ne here. stop_stands c s t m (cause_of how) first p ne (other_stands c s t m (Shown r ∷ []) (trace_of w) p ne (all_free_own s (Shown r ∷ []) (free, tt)) (g.places t p here)));
     }
 
 -- ---- an event of a running site ----
 
-run_comes : (s m : ℕ) (v : SiteView) (o : Outcome SiteView) (change : World → World) (w : World) → place_at w s ≡ Some (Running v) → ((t : ℕ) (p : Place) → place_at (change w) t ≡ Some p → place_at w t ≡ Some p) → (Stands s (trace_of w) v → SiteDoes s m (trace_of w) o) →
-    EachRecord IsSiteRow (after m o.told (trace_of w)) → CallsStand w → Comes m o.told (λ now. puts s (Running o.view) (change now)) w
-run_comes s m v o change w here same does order g =
-    let d : SiteDone s m (trace_of w) o = does (g.places s (Running v) here) (all_new m o.told (trace_of w) order) in
+run_comes : (c : Config) (s m : ℕ) (v : SiteView) (o : Outcome SiteView) (change : World → World) (w : World) → place_at w s ≡ Some (Running v) → ((t : ℕ) (p : Place) → place_at (change w) t ≡ Some p → place_at w t ≡ Some p) → (Stands c s (trace_of w) v → SiteDoes c s m (trace_of w) o) →
+    EachRecord (IsSiteRow c) (after m o.told (trace_of w)) → CallsStand c w → Comes c m o.told (λ now. puts s (Running o.view) (change now)) w
+run_comes c s m v o change w here same does order g =
+    let d : SiteDone c s m (trace_of w) o = does (g.places s (Running v) here) (all_new c m o.told (trace_of w) order) in
     record {
       rows = d.rows;
-      places = one_place s (Running o.view) (after m o.told (trace_of w)) (change w) d.view (λ t p ne e. other_stands s t m o.told (trace_of w) p ne d.own (g.places t p (same t p e)));
+      places = one_place c s (Running o.view) (after m o.told (trace_of w)) (change w) d.view (λ t p ne e. other_stands c s t m o.told (trace_of w) p ne d.own (g.places t p (same t p e)));
     }
 
-acts_go : (m s : ℕ) (v : SiteView) (o : Outcome SiteView) (w : World) → place_at w s ≡ Some (Running v) → RoleWrite o.written → (Stands s (trace_of w) v → SiteDoes s m (trace_of w) o) → CallsGo w → CallsGo (acts m s v o w)
-acts_go m s v o w here written does f =
-    acts_cases CallsGo m s v o w
-    (happened_go m o.sent o.told (λ now. puts s (Running o.view) now) w (run_comes s m v o (λ now. now) w here (λ t p e. e) does) f)
-    (λ a. happened_go m o.sent o.told (λ now. puts s (Running o.view) (arms a now)) w (run_comes s m v o (arms a) w here (λ t p e. e) does) f)
-    (λ d a e. happened_go m [] (cut_told s v.store d a.how a.left) (stops_with s (cut_disk v.boot v.store d a.how a.left)) w (λ order g. cut_comes s m d.says a.how (cut_disk v.boot v.store d a.how a.left) (is_on_disk v.store d a.how a.left) w (subst RoleWrite e written) g) f)
+acts_go : (c : Config) (m s : ℕ) (v : SiteView) (o : Outcome SiteView) (w : World) → place_at w s ≡ Some (Running v) → RoleWrite o.written → (Stands c s (trace_of w) v → SiteDoes c s m (trace_of w) o) → CallsGo c w → CallsGo c (acts m s v o w)
+acts_go c m s v o w here written does f =
+    acts_cases (CallsGo c) m s v o w
+    (happened_go c m o.sent o.told (λ now. puts s (Running o.view) now) w (run_comes c s m v o (λ now. now) w here (λ t p e. e) does) f)
+    (λ a. happened_go c m o.sent o.told (λ now. puts s (Running o.view) (arms a now)) w (run_comes c s m v o (arms a) w here (λ t p e. e) does) f)
+    (λ d a e. happened_go c m [] (cut_told s v.store d a.how a.left) (stops_with s (cut_disk v.boot v.store d a.how a.left)) w (λ order g. cut_comes c s m d.says a.how (cut_disk v.boot v.store d a.how a.left) (is_on_disk v.store d a.how a.left) w (subst RoleWrite e written) g) f)
 
 -- ---- boots ----
 
-fresh_stands : (s m : ℕ) (x : Disk) (now : Trace) → NoneWaits s now → Stands s (record { line = m; what = says.Up s x.label.boot } ∷ now) (fresh x.label.boot x.copies)
-fresh_stands s m x now none = record {
-  waits = boot_waits s x.label.boot m now none;
+fresh_stands : (c : Config) (s m : ℕ) (x : Disk) (now : Trace) → NoneWaits s now → Stands c s (record { line = m; what = says.Up s x.label.boot } ∷ now) (fresh x.label.boot x.copies)
+fresh_stands c s m x now none = record {
+  waits = boot_waits c s x.label.boot m now none;
   owned = record {
     waiting = tt;
     descriptors = tt;
@@ -186,27 +186,27 @@ fresh_stands s m x now none = record {
   inside = tt;
 }
 
-up_comes : (s m : ℕ) (d x : Disk) (change : World → World) (w : World) → place_at w s ≡ Some (Stopped d) → ((t : ℕ) → place_at (change w) t ≡ place_at (puts s (Running (fresh x.label.boot x.copies)) w) t) → CallsStand w → Comes m (Shown (says.Up s x.label.boot) ∷ []) change w
-up_comes s m d x change w here same g = record {
+up_comes : (c : Config) (s m : ℕ) (d x : Disk) (change : World → World) (w : World) → place_at w s ≡ Some (Stopped d) → ((t : ℕ) → place_at (change w) t ≡ place_at (puts s (Running (fresh x.label.boot x.copies)) w) t) → CallsStand c w → Comes c m (Shown (says.Up s x.label.boot) ∷ []) change w
+up_comes c s m d x change w here same g = record {
   rows = (tt, tt);
-  places = λ t p e. one_place s (Running (fresh x.label.boot x.copies)) (record { line = m; what = says.Up s x.label.boot } ∷ trace_of w) w (fresh_stands s m x (trace_of w) (g.places s (Stopped d) here))
-      (λ u q ne f. boot_stands s u x.label.boot m (trace_of w) q ne (g.places u q f)) t p (sym (same t) ∙ e);
+  places = λ t p e. one_place c s (Running (fresh x.label.boot x.copies)) (record { line = m; what = says.Up s x.label.boot } ∷ trace_of w) w (fresh_stands c s m x (trace_of w) (g.places s (Stopped d) here))
+      (λ u q ne f. boot_stands c s u x.label.boot m (trace_of w) q ne (g.places u q f)) t p (sym (same t) ∙ e);
 }
 
-as_go : (m s : ℕ) (d : Disk) (b : Booted) (w : World) → place_at w s ≡ Some (Stopped d) → CallsGo w → CallsGo (boots_as m s b w)
-as_go m s d (Whole x None) w here f = happened_go m [] (Shown (says.Up s x.label.boot) ∷ []) _ w (λ order g. up_comes s m d x _ w here (λ t. refl) g) f
-as_go m s d (Whole x (Some a)) w here f = happened_go m [] (Shown (says.Up s x.label.boot) ∷ []) _ w (λ order g. up_comes s m d x _ w here (λ t. refl) g) f
-as_go m s d (CutOff x how) w here f = happened_go m [] (Shown (says.Stopped s (cause_of how)) ∷ []) (stops_with s x) w (λ order g. stop_comes s m (cause_of how) x w g) f
+as_go : (c : Config) (m s : ℕ) (d : Disk) (b : Booted) (w : World) → place_at w s ≡ Some (Stopped d) → CallsGo c w → CallsGo c (boots_as m s b w)
+as_go c m s d (Whole x None) w here f = happened_go c m [] (Shown (says.Up s x.label.boot) ∷ []) _ w (λ order g. up_comes c s m d x _ w here (λ t. refl) g) f
+as_go c m s d (Whole x (Some a)) w here f = happened_go c m [] (Shown (says.Up s x.label.boot) ∷ []) _ w (λ order g. up_comes c s m d x _ w here (λ t. refl) g) f
+as_go c m s d (CutOff x how) w here f = happened_go c m [] (Shown (says.Stopped s (cause_of how)) ∷ []) (stops_with s x) w (λ order g. stop_comes c s m (cause_of how) x w g) f
 
 -- ---- what the world itself tells ----
 
-world_go : (m : ℕ) (told : List Told) (w : World) → ((t : Trace) → AllAccepted m told t) → ((s t : ℕ) (now : Trace) (p : Place) → PlaceStands t now p → PlaceStands t (after m told now) p) → CallsGo w → CallsGo (happened m [] told (λ now. now) w)
-world_go m told w rows stays f = happened_go m [] told (λ now. now) w (λ order g. record { rows = rows (trace_of w); places = λ t p here. stays 0 t (trace_of w) p (g.places t p here) }) f
+world_go : (c : Config) (m : ℕ) (told : List Told) (w : World) → ((t : Trace) → AllAccepted c m told t) → ((s t : ℕ) (now : Trace) (p : Place) → PlaceStands c t now p → PlaceStands c t (after m told now) p) → CallsGo c w → CallsGo c (happened m [] told (λ now. now) w)
+world_go c m told w rows stays f = happened_go c m [] told (λ now. now) w (λ order g. record { rows = rows (trace_of w); places = λ t p here. stays 0 t (trace_of w) p (g.places t p here) }) f
 
 -- what tells of no call, boot or stop leaves each place
-free_place : (m : ℕ) (told : List Told) → Every CallFree told → (s t : ℕ) (now : Trace) (p : Place) → PlaceStands t now p → PlaceStands t (after m told now) p
-free_place m told free s t now (Running v) h = free_stands t m told now v free h
-free_place m told free s t now (Stopped d) h = all_free_none t m told now free h
+free_place : (c : Config) (m : ℕ) (told : List Told) → Every CallFree told → (s t : ℕ) (now : Trace) (p : Place) → PlaceStands c t now p → PlaceStands c t (after m told now) p
+free_place c m told free s t now (Running v) h = free_stands c t m told now v free h
+free_place c m told free s t now (Stopped d) h = all_free_none t m told now free h
 
 packets_free : (xs : List Numbered) → Every CallFree (map packet_record xs)
 packets_free [] = tt
@@ -258,48 +258,45 @@ line_may c lines n s _ (Calls p x) v w fit is g here = absurd g
 -- ---- every line ----
 
 pub record Calling (c : Config) (lines : List ScheduleLine) (n : ℕ) (w : World) : Type 0 where
-  pub courses : Courses lines n w
-  pub calls : CallsGo w
+  pub courses : Courses c lines n w
+  pub calls : CallsGo c w
 
 pub calling_kept : (c : Config) (lines : List ScheduleLine) → LinesFit c lines → KeptIn c lines (Calling c lines)
 calling_kept c lines fit = record {
   begins = λ n w there quiet p. record { courses = kept.begins n w there quiet p.courses; calls = p.calls };
   ticks = λ n most s v w is here p. record {
     courses = kept.ticks n most s v w is here p.courses;
-    calls = acts_go n s v (step c s (links_of w s) v Ticks) w here (step_forms (DeedsOf w.trace s) s c (links_of w s) v Ticks (p.courses.good.views s v here) (p.courses.course.places s (Running v) here).2 tt).written (λ h. step_does c s n (trace_of w) (links_of w s) v Ticks tt h) p.calls;
+    calls = acts_go c n s v (step c s (links_of w s) v Ticks) w here (step_forms (DeedsOf w.trace s) s c (links_of w s) v Ticks (p.courses.good.views s v here) (p.courses.course.places s (Running v) here).2 tt).written (λ h. step_does c s n (trace_of w) (links_of w s) v Ticks tt h) p.calls;
   };
   receives = λ n l x v w is d here sent p. record {
     courses = kept.receives n l x v w is d here sent p.courses;
-    calls = acts_go n x.packet.to v (step c x.packet.to (links_of (passed x.number w) x.packet.to) v (Receives x.packet)) (passed x.number w) here
-        (step_forms (DeedsOf w.trace x.packet.to) x.packet.to c (links_of (passed x.number w) x.packet.to) v (Receives x.packet) (p.courses.good.views x.packet.to v here) (p.courses.course.places x.packet.to (Running v) here).2 (sent_polls lines n w x sent p.courses.course)).written
-        (λ h. step_does c x.packet.to n (trace_of w) (links_of (passed x.number w) x.packet.to) v (Receives x.packet) tt h) (λ order. (let g : CallsStand w = p.calls order in record { rows = g.rows; places = g.places }));
+    calls = acts_go c n x.packet.to v (step c x.packet.to (links_of (passed x.number w) x.packet.to) v (Receives x.packet)) (passed x.number w) here
+        (step_forms (DeedsOf w.trace x.packet.to) x.packet.to c (links_of (passed x.number w) x.packet.to) v (Receives x.packet) (p.courses.good.views x.packet.to v here) (p.courses.course.places x.packet.to (Running v) here).2 (sent_polls c lines n w x sent p.courses.course)).written
+        (λ h. step_does c x.packet.to n (trace_of w) (links_of (passed x.number w) x.packet.to) v (Receives x.packet) tt h) (λ order. (let g : CallsStand c w = p.calls order in record { rows = g.rows; places = g.places }));
   };
-  passes = λ n k w p. record { courses = kept.passes n k w p.courses; calls = λ order. (let g : CallsStand w = p.calls order in record { rows = g.rows; places = g.places }) };
-  drops = λ n k w p. record { courses = kept.drops n k w p.courses; calls = λ order. (let g : CallsStand w = p.calls order in record { rows = g.rows; places = g.places }) };
-  budgets = λ n most w is p. record { courses = kept.budgets n most w is p.courses; calls = world_go n (Shown says.Budget ∷ []) w (λ t. (tt, tt)) (free_place n (Shown says.Budget ∷ []) (tt, tt)) p.calls };
-  voiding = λ n l w there is void p. record { courses = kept.voiding n l w there is void p.courses; calls = world_go (n + 1) (Shown says.Void ∷ []) w (λ t. (tt, tt)) (free_place (n + 1) (Shown says.Void ∷ []) (tt, tt)) p.calls };
+  passes = λ n k w p. record { courses = kept.passes n k w p.courses; calls = λ order. (let g : CallsStand c w = p.calls order in record { rows = g.rows; places = g.places }) };
+  drops = λ n k w p. record { courses = kept.drops n k w p.courses; calls = λ order. (let g : CallsStand c w = p.calls order in record { rows = g.rows; places = g.places }) };
+  budgets = λ n most w is p. record { courses = kept.budgets n most w is p.courses; calls = world_go c n (Shown says.Budget ∷ []) w (λ t. (tt, tt)) (free_place c n (Shown says.Budget ∷ []) (tt, tt)) p.calls };
+  voiding = λ n l w there is void p. record { courses = kept.voiding n l w there is void p.courses; calls = world_go c (n + 1) (Shown says.Void ∷ []) w (λ t. (tt, tt)) (free_place c (n + 1) (Shown says.Void ∷ []) (tt, tt)) p.calls };
   steps = λ n s l e v w there is g here p. record {
     courses = kept.steps n s l e v w there is g here p.courses;
-    calls = acts_go (n + 1) s v (step c s (links_of w s) v e) w here (step_forms (DeedsOf w.trace s) s c (links_of w s) v e (p.courses.good.views s v here) (p.courses.course.places s (Running v) here).2 (comes_own e (own_given w l s e g))).written
+    calls = acts_go c (n + 1) s v (step c s (links_of w s) v e) w here (step_forms (DeedsOf w.trace s) s c (links_of w s) v e (p.courses.good.views s v here) (p.courses.course.places s (Running v) here).2 (comes_own e (own_given w l s e g))).written
         (λ h. step_does c s (n + 1) (trace_of w) (links_of w s) v e (line_may c lines (n + 1) s l e v w fit is g here) h) p.calls;
   };
-  cutting = λ n one other w there is cut p. record { courses = kept.cutting n one other w there is cut p.courses; calls = λ order. (let g : CallsStand w = p.calls order in record { rows = g.rows; places = g.places }) };
-  mending = λ n one other w there is cut p. record { courses = kept.mending n one other w there is cut p.courses; calls = λ order. (let g : CallsStand w = p.calls order in record { rows = g.rows; places = g.places }) };
-  arming = λ n l a w there is so p. record { courses = kept.arming n l a w there is so p.courses; calls = λ order. (let g : CallsStand w = p.calls order in record { rows = g.rows; places = g.places }) };
-  pending = λ n w there is p. record { courses = kept.pending n w there is p.courses; calls = world_go (n + 1) (map packet_record w.underway) w (λ t. free_rows (n + 1) (map packet_record w.underway) t (packets_free w.underway)) (free_place (n + 1) (map packet_record w.underway) (packets_free w.underway)) p.calls };
-  stopping = λ n s v w there is here p. record { courses = kept.stopping n s v w there is here p.courses; calls = happened_go (n + 1) [] (Shown (says.Stopped s cause.Asked) ∷ []) (stops_with s (disk_of v)) w (λ order g. stop_comes s (n + 1) cause.Asked (disk_of v) w g) p.calls };
-  booting = λ n s d w there is here p. record { courses = kept.booting n s d w there is here p.courses; calls = as_go (n + 1) s d (boots (script_of w s) d) w here p.calls };
+  cutting = λ n one other w there is cut p. record { courses = kept.cutting n one other w there is cut p.courses; calls = λ order. (let g : CallsStand c w = p.calls order in record { rows = g.rows; places = g.places }) };
+  mending = λ n one other w there is cut p. record { courses = kept.mending n one other w there is cut p.courses; calls = λ order. (let g : CallsStand c w = p.calls order in record { rows = g.rows; places = g.places }) };
+  arming = λ n l a w there is so p. record { courses = kept.arming n l a w there is so p.courses; calls = λ order. (let g : CallsStand c w = p.calls order in record { rows = g.rows; places = g.places }) };
+  pending = λ n w there is p. record { courses = kept.pending n w there is p.courses; calls = world_go c (n + 1) (map packet_record w.underway) w (λ t. free_rows c (n + 1) (map packet_record w.underway) t (packets_free w.underway)) (free_place c (n + 1) (map packet_record w.underway) (packets_free w.underway)) p.calls };
+  stopping = λ n s v w there is here p. record { courses = kept.stopping n s v w there is here p.courses; calls = happened_go c (n + 1) [] (Shown (says.Stopped s cause.Asked) ∷ []) (stops_with s (disk_of v)) w (λ order g. stop_comes c s (n + 1) cause.Asked (disk_of v) w g) p.calls };
+  booting = λ n s d w there is here p. record { courses = kept.booting n s d w there is here p.courses; calls = as_go c (n + 1) s d (boots (script_of w s) d) w here p.calls };
 }
   where
-    kept : KeptIn c lines (Courses lines)
+    kept : KeptIn c lines (Courses c lines)
     kept = courses_kept c lines
 
 -- ---- the first world ----
 
-none_place : (p : Place) → ◌≡◌ {A = Option Place} None (Some p) → ⊥
-none_place p e = cc
-
-first_stands : (c : Config) (s : ℕ) → Stands s [] (fresh 1 (formatted c s))
+first_stands : (c : Config) (s : ℕ) → Stands c s [] (fresh 1 (formatted c s))
 first_stands c s = record {
   waits = record { up = refl; boot_is = refl; counted = refl; there = λ x a. absurd a; back = λ r a. absurd a; low = λ r a. absurd a; apart = λ r q a. absurd a; keyed = λ r a. absurd a };
   owned = record {
@@ -318,25 +315,14 @@ first_stands c s = record {
   inside = tt;
 }
 
-first_places : (c : Config) (ss : List ℕ) (s : ℕ) (p : Place) → place_in (row place_site s (map (first_place c) ss)) ≡ Some p → PlaceStands s [] p
-first_places c [] s p e = absurd (none_place p e)
-first_places c (t ∷ ts) s p e =
-    (elim (t == s) as (λ b. place_in (elim b [ true ↦ Some (first_place c t) | false ↦ row place_site s (map (first_place c) ts) ]) ≡ Some p → PlaceStands s [] p) [
-      | true ↦ λ f. subst (PlaceStands s []) (some_same (Running (fresh 1 (formatted c t))) p f) (fresh_one s t)
-      | false ↦ λ f. first_places c ts s p f
-    ]) e
-  where
-    fresh_one : (s t : ℕ) → Stands s [] (fresh 1 (formatted c t))
-    fresh_one s t = (let g : Stands s [] (fresh 1 (formatted c s)) = first_stands c s in record { waits = g.waits; owned = g.owned; tables = tt; inside = tt })
-
 pub first_calling : (c : Config) (lines : List ScheduleLine) → Calling c lines 0 (first_world c)
-first_calling c lines = record { courses = first_courses c lines; calls = λ order. record { rows = tt; places = λ s p e. first_places c _ s p e } }
+first_calling c lines = record { courses = first_courses c lines; calls = λ order. record { rows = tt; places = first_places c (λ s. PlaceStands c s []) (λ s own. first_stands c s) } }
 
 run_calling : (c : Config) (lines : List ScheduleLine) → LinesFit c lines → Calling c lines (length lines) (run_in c lines)
 run_calling c lines fit = every_line c lines (Calling c lines) (calling_kept c lines fit) (first_calling c lines)
 
-pub run_calls : (c : Config) (lines : List ScheduleLine) → LinesFit c lines → CallsStand (run_in c lines)
+pub run_calls : (c : Config) (lines : List ScheduleLine) → LinesFit c lines → CallsStand c (run_in c lines)
 run_calls c lines fit = (run_calling c lines fit).calls (run_sites c lines)
 
-pub run_accepts : (c : Config) (lines : List ScheduleLine) → LinesFit c lines → EachRecord IsAcceptRow (trace_of (run_in c lines))
+pub run_accepts : (c : Config) (lines : List ScheduleLine) → LinesFit c lines → EachRecord (IsAcceptRow c) (trace_of (run_in c lines))
 run_accepts c lines fit = (run_calls c lines fit).rows

@@ -1,4 +1,5 @@
 -- A call that waits goes on: its row is put or replaced, or it is answered and its row taken away.
+use Rattle.locus_ids.specs.declared.config.Config.{Config}
 use Rattle.std.proofs.Common.{◌≡◌, ◌≤◌, ℕ, ◌+◌, ◌==◌, ◌⊎◌, Bool, true, false, cond, ◌&&◌, List, [], ◌∷◌, Option, Some, None, refl, sym, ◌∙◌, ap, subst, inl, inr, arith}
 use Rattle.std.proofs.lemmas.Bool.Decides.{nat_tests}
 use Rattle.std.specs.List.{find}
@@ -34,8 +35,8 @@ use Rattle.call_row_laws.proofs.Keeping.{call_test, answered_old, answered_keeps
 
 -- ---- the row is put ----
 
-pub put_waits : (s boot calls : ℕ) (now : Trace) (rows : List WaitingCall) (w v : WaitingCall) → SameCall w v → Goes s boot now calls rows w → Waits s boot now calls (with_row waiting_key v rows)
-put_waits s boot calls now rows w v same g = record {
+pub put_waits : (c : Config) (s boot calls : ℕ) (now : Trace) (rows : List WaitingCall) (w v : WaitingCall) → SameCall w v → Goes c s boot now calls rows w → Waits c s boot now calls (with_row waiting_key v rows)
+put_waits c s boot calls now rows w v same g = record {
   up = g.up;
   boot_is = g.boot_is;
   counted = g.counted;
@@ -82,9 +83,9 @@ put_waits s boot calls now rows w v same g = record {
 
 -- ---- the call is answered ----
 
-pub answer_waits : (s boot m calls : ℕ) (now : Trace) (rows : List WaitingCall) (w : WaitingCall) (r : Reply) → Goes s boot now calls rows w →
-    Waits s boot (with_told m (reply_record s boot w r) now) calls (without_row waiting_key (waiting_key w) rows)
-answer_waits s boot m calls now rows w r g = record {
+pub answer_waits : (c : Config) (s boot m calls : ℕ) (now : Trace) (rows : List WaitingCall) (w : WaitingCall) (r : Reply) → Goes c s boot now calls rows w →
+    Waits c s boot (with_told m (reply_record s boot w r) now) calls (without_row waiting_key (waiting_key w) rows)
+answer_waits c s boot m calls now rows w r g = record {
   up = g.up;
   boot_is = g.boot_is;
   counted = g.counted;
@@ -110,8 +111,8 @@ answer_waits s boot m calls now rows w r g = record {
 
 -- ---- a waiting call takes an answer ----
 
-pub goes_again : (s boot calls : ℕ) (now : Trace) (rows : List WaitingCall) (w v : WaitingCall) → Rises waiting_key 0 rows → Among w rows → SameCall w v → Waits s boot now calls rows → Goes s boot now calls rows v
-goes_again s boot calls now rows w v rises a same h = record {
+pub goes_again : (c : Config) (s boot calls : ℕ) (now : Trace) (rows : List WaitingCall) (w v : WaitingCall) → Rises waiting_key 0 rows → Among w rows → SameCall w v → Waits c s boot now calls rows → Goes c s boot now calls rows v
+goes_again c s boot calls now rows w v rises a same h = record {
   up = h.up;
   boot_is = h.boot_is;
   counted = h.counted;
@@ -135,9 +136,9 @@ goes_again s boot calls now rows w v rises a same h = record {
 -- ---- a call is accepted ----
 
 -- no row has its key, so that the process waits for nothing
-pub accept_goes : (s boot m calls process : ℕ) (now : Trace) (rows : List WaitingCall) (words : Call) (b : Beginning) (copied : Option (List ℕ)) → Rises waiting_key 0 rows → ((r : WaitingCall) → Among r rows → waiting_key r ≡ waiting_of process words → ⊥) → KeyedAs process words →
-    Waits s boot now calls rows → Goes s boot (record { line = m; what = says.Accept s process (own_call s boot (calls + 1)) words } ∷ now) (calls + 1) rows (with_copied copied (accepted process (calls + 1) words b))
-accept_goes s boot m calls process now rows words b copied rises alone keyed h = record {
+pub accept_goes : (c : Config) (s boot m calls process : ℕ) (now : Trace) (rows : List WaitingCall) (words : Call) (b : Beginning) (copied : Option (List ℕ)) → Rises waiting_key 0 rows → ((r : WaitingCall) → Among r rows → waiting_key r ≡ waiting_of process words → ⊥) → KeyedAs process words →
+    Waits c s boot now calls rows → Goes c s boot (record { line = m; what = says.Accept s process (own_call s boot (calls + 1)) words } ∷ now) (calls + 1) rows (with_copied copied (accepted process (calls + 1) words b))
+accept_goes c s boot m calls process now rows words b copied rises alone keyed h = record {
   up = h.up;
   boot_is = h.boot_is;
   counted = ap (λ (t : Bool). cond t (calls_accepted now s + 1) (calls_accepted now s)) (equal_test s s refl) ∙ ap (λ (n : ℕ). n + 1) h.counted;
@@ -170,8 +171,8 @@ none_found p (x ∷ xs) h =
       | false ↦ λ e. none_found p xs (λ y a f. h y (inr a) f)
     ]) refl
 
-pub idle_process : (s boot calls process : ℕ) (now : Trace) (rows : List WaitingCall) → ((r : WaitingCall) → Among r rows → r.process ≡ process → ⊥) → Waits s boot now calls rows → tree.waiting_of s process (waiting now) ≡ None
-idle_process s boot calls process now rows idle h = none_found (is_of s process) (waiting now) (λ x a t. by_test x a (both x t))
+pub idle_process : (c : Config) (s boot calls process : ℕ) (now : Trace) (rows : List WaitingCall) → ((r : WaitingCall) → Among r rows → r.process ≡ process → ⊥) → Waits c s boot now calls rows → tree.waiting_of s process (waiting now) ≡ None
+idle_process c s boot calls process now rows idle h = none_found (is_of s process) (waiting now) (λ x a t. by_test x a (both x t))
   where
     both : (x : Waiting) → is_of s process x ≡ true → (x.site ≡ s) × (x.process ≡ process)
     both x t = parts x.site x.process t
@@ -182,8 +183,8 @@ idle_process s boot calls process now rows idle h = none_found (is_of s process)
     by_test : (x : Waiting) → Among x (waiting now) → (x.site ≡ s) × (x.process ≡ process) → ⊥
     by_test x a k = (let r : HasRow s boot x rows = h.there x a k.0 in idle r.0 r.1.0 (sym r.1.1.0 ∙ k.1))
 
-numbered : (s boot calls : ℕ) (now : Trace) (rows : List WaitingCall) → Waits s boot now calls rows → own_call s boot (calls + 1) ≡ next_call now s
-numbered s boot calls now rows h = same_id (sym h.boot_is) (ap (λ (k : ℕ). k + 1) (sym h.counted))
+numbered : (c : Config) (s boot calls : ℕ) (now : Trace) (rows : List WaitingCall) → Waits c s boot now calls rows → own_call s boot (calls + 1) ≡ next_call now s
+numbered c s boot calls now rows h = same_id (sym h.boot_is) (ap (λ (k : ℕ). k + 1) (sym h.counted))
   where
     same_id : {a b n k : ℕ} → a ≡ b → n ≡ k → ◌≡◌ {A = CallId} (record { site = s; boot = a; n = n }) (record { site = s; boot = b; n = k })
     same_id e f = λ i. record { site = s; boot = e i; n = f i }
@@ -193,38 +194,38 @@ abbrev pub Idle : ℕ → Call → List WaitingCall → Type 0
 Idle process (call.Mend file) rows = Unit {0}
 Idle process _ rows = (r : WaitingCall) → Among r rows → r.process ≡ process → ⊥
 
-pub accept_row : (s boot calls process : ℕ) (now : Trace) (rows : List WaitingCall) (words : Call) → Idle process words rows → Waits s boot now calls rows → AcceptedAs now s process (own_call s boot (calls + 1)) words
-accept_row s boot calls process now rows (call.Mend file) idle h = numbered s boot calls now rows h
-accept_row s boot calls process now rows (call.Create path sites) idle h = record { up = h.up; idle = idle_process s boot calls process now rows idle h; numbered = numbered s boot calls now rows h }
-accept_row s boot calls process now rows (call.MakeDir path) idle h = record { up = h.up; idle = idle_process s boot calls process now rows idle h; numbered = numbered s boot calls now rows h }
-accept_row s boot calls process now rows (call.Unlink path) idle h = record { up = h.up; idle = idle_process s boot calls process now rows idle h; numbered = numbered s boot calls now rows h }
-accept_row s boot calls process now rows (call.RemoveDir path) idle h = record { up = h.up; idle = idle_process s boot calls process now rows idle h; numbered = numbered s boot calls now rows h }
-accept_row s boot calls process now rows (call.Rename path name) idle h = record { up = h.up; idle = idle_process s boot calls process now rows idle h; numbered = numbered s boot calls now rows h }
-accept_row s boot calls process now rows (call.List path) idle h = record { up = h.up; idle = idle_process s boot calls process now rows idle h; numbered = numbered s boot calls now rows h }
-accept_row s boot calls process now rows (call.Stat path) idle h = record { up = h.up; idle = idle_process s boot calls process now rows idle h; numbered = numbered s boot calls now rows h }
-accept_row s boot calls process now rows (call.Mail path bytes) idle h = record { up = h.up; idle = idle_process s boot calls process now rows idle h; numbered = numbered s boot calls now rows h }
-accept_row s boot calls process now rows (call.Mails path) idle h = record { up = h.up; idle = idle_process s boot calls process now rows idle h; numbered = numbered s boot calls now rows h }
-accept_row s boot calls process now rows (call.Open path how) idle h = record { up = h.up; idle = idle_process s boot calls process now rows idle h; numbered = numbered s boot calls now rows h }
-accept_row s boot calls process now rows (call.Read fd at len) idle h = record { up = h.up; idle = idle_process s boot calls process now rows idle h; numbered = numbered s boot calls now rows h }
-accept_row s boot calls process now rows (call.Write fd at bytes) idle h = record { up = h.up; idle = idle_process s boot calls process now rows idle h; numbered = numbered s boot calls now rows h }
-accept_row s boot calls process now rows (call.Cut fd len) idle h = record { up = h.up; idle = idle_process s boot calls process now rows idle h; numbered = numbered s boot calls now rows h }
-accept_row s boot calls process now rows (call.Commit fd) idle h = record { up = h.up; idle = idle_process s boot calls process now rows idle h; numbered = numbered s boot calls now rows h }
-accept_row s boot calls process now rows (call.Abort fd) idle h = record { up = h.up; idle = idle_process s boot calls process now rows idle h; numbered = numbered s boot calls now rows h }
-accept_row s boot calls process now rows (call.Close fd) idle h = record { up = h.up; idle = idle_process s boot calls process now rows idle h; numbered = numbered s boot calls now rows h }
+pub accept_row : (c : Config) (s boot calls process : ℕ) (now : Trace) (rows : List WaitingCall) (words : Call) → Idle process words rows → Waits c s boot now calls rows → AcceptedAs c now s process (own_call s boot (calls + 1)) words
+accept_row c s boot calls process now rows (call.Mend file) idle h = numbered c s boot calls now rows h
+accept_row c s boot calls process now rows (call.Create path sites) idle h = record { up = h.up; idle = idle_process c s boot calls process now rows idle h; numbered = numbered c s boot calls now rows h }
+accept_row c s boot calls process now rows (call.MakeDir path) idle h = record { up = h.up; idle = idle_process c s boot calls process now rows idle h; numbered = numbered c s boot calls now rows h }
+accept_row c s boot calls process now rows (call.Unlink path) idle h = record { up = h.up; idle = idle_process c s boot calls process now rows idle h; numbered = numbered c s boot calls now rows h }
+accept_row c s boot calls process now rows (call.RemoveDir path) idle h = record { up = h.up; idle = idle_process c s boot calls process now rows idle h; numbered = numbered c s boot calls now rows h }
+accept_row c s boot calls process now rows (call.Rename path name) idle h = record { up = h.up; idle = idle_process c s boot calls process now rows idle h; numbered = numbered c s boot calls now rows h }
+accept_row c s boot calls process now rows (call.List path) idle h = record { up = h.up; idle = idle_process c s boot calls process now rows idle h; numbered = numbered c s boot calls now rows h }
+accept_row c s boot calls process now rows (call.Stat path) idle h = record { up = h.up; idle = idle_process c s boot calls process now rows idle h; numbered = numbered c s boot calls now rows h }
+accept_row c s boot calls process now rows (call.Mail path bytes) idle h = record { up = h.up; idle = idle_process c s boot calls process now rows idle h; numbered = numbered c s boot calls now rows h }
+accept_row c s boot calls process now rows (call.Mails path) idle h = record { up = h.up; idle = idle_process c s boot calls process now rows idle h; numbered = numbered c s boot calls now rows h }
+accept_row c s boot calls process now rows (call.Open path how) idle h = record { up = h.up; idle = idle_process c s boot calls process now rows idle h; numbered = numbered c s boot calls now rows h }
+accept_row c s boot calls process now rows (call.Read fd at len) idle h = record { up = h.up; idle = idle_process c s boot calls process now rows idle h; numbered = numbered c s boot calls now rows h }
+accept_row c s boot calls process now rows (call.Write fd at bytes) idle h = record { up = h.up; idle = idle_process c s boot calls process now rows idle h; numbered = numbered c s boot calls now rows h }
+accept_row c s boot calls process now rows (call.Cut fd len) idle h = record { up = h.up; idle = idle_process c s boot calls process now rows idle h; numbered = numbered c s boot calls now rows h }
+accept_row c s boot calls process now rows (call.Commit fd) idle h = record { up = h.up; idle = idle_process c s boot calls process now rows idle h; numbered = numbered c s boot calls now rows h }
+accept_row c s boot calls process now rows (call.Abort fd) idle h = record { up = h.up; idle = idle_process c s boot calls process now rows idle h; numbered = numbered c s boot calls now rows h }
+accept_row c s boot calls process now rows (call.Close fd) idle h = record { up = h.up; idle = idle_process c s boot calls process now rows idle h; numbered = numbered c s boot calls now rows h }
 
 -- ---- the epoch is left: each row is answered ----
 
 -- the calls that wait at the site have their rows among these
-record Leaving (s boot : ℕ) (now : Trace) (calls : ℕ) (rows : List WaitingCall) : Type 0 where
-  up : is_up now s ≡ true
+record Leaving (c : Config) (s boot : ℕ) (now : Trace) (calls : ℕ) (rows : List WaitingCall) : Type 0 where
+  up : is_up c now s ≡ true
   boot_is : boot_of now s ≡ boot
   counted : calls_accepted now s ≡ calls
   there : (x : Waiting) → Among x (waiting now) → x.site ≡ s → HasRow s boot x rows
 
-leaves_on : (s boot m calls : ℕ) (e : EpochId) (now : Trace) (rows : List WaitingCall) → Leaving s boot now calls rows → Leaving s boot (after m (changed_records s boot e rows) now) calls []
-leaves_on s boot m calls e now [] h = h
-leaves_on s boot m calls e now (w ∷ ws) h =
-    leaves_on s boot m calls e (with_told m (reply_record s boot w (reply.No (refusal.Changed e))) now) ws
+leaves_on : (c : Config) (s boot m calls : ℕ) (e : EpochId) (now : Trace) (rows : List WaitingCall) → Leaving c s boot now calls rows → Leaving c s boot (after m (changed_records s boot e rows) now) calls []
+leaves_on c s boot m calls e now [] h = h
+leaves_on c s boot m calls e now (w ∷ ws) h =
+    leaves_on c s boot m calls e (with_told m (reply_record s boot w (reply.No (refusal.Changed e))) now) ws
     (record { up = h.up; boot_is = h.boot_is; counted = h.counted; there = λ x a f. (let k : Among x (waiting now) × (same_call x.call id ≡ false) = answered_old id now x a in by_row x k.1 (h.there x k.0 f)) })
   where
     id : CallId
@@ -237,9 +238,9 @@ leaves_on s boot m calls e now (w ∷ ws) h =
         by_place r (inl p) m = absurd (true_false (sym (call_test x.call id (m.1 ∙ ap (λ (q : WaitingCall). own_call s boot q.call) p)) ∙ n))
         by_place r (inr a) m = (r, (a, m))
 
-pub leave_waits : (s boot m calls : ℕ) (e : EpochId) (now : Trace) (rows : List WaitingCall) → Waits s boot now calls rows → Waits s boot (after m (changed_records s boot e rows) now) calls []
-leave_waits s boot m calls e now rows h =
-    let k : Leaving s boot (after m (changed_records s boot e rows) now) calls [] = leaves_on s boot m calls e now rows (record { up = h.up; boot_is = h.boot_is; counted = h.counted; there = h.there }) in
+pub leave_waits : (c : Config) (s boot m calls : ℕ) (e : EpochId) (now : Trace) (rows : List WaitingCall) → Waits c s boot now calls rows → Waits c s boot (after m (changed_records s boot e rows) now) calls []
+leave_waits c s boot m calls e now rows h =
+    let k : Leaving c s boot (after m (changed_records s boot e rows) now) calls [] = leaves_on c s boot m calls e now rows (record { up = h.up; boot_is = h.boot_is; counted = h.counted; there = h.there }) in
     record {
       up = k.up;
       boot_is = k.boot_is;

@@ -43,69 +43,69 @@ use Rattle.call_row_laws.proofs.Sites.{all_served_free, plain_done, quiet_done, 
 
 -- ---- tables, stores and pulls ----
 
-table_done : (s m : ℕ) (t : Trace) (g : SyncTable → Outcome SyncTable) (o : Option SyncTable) (v : SiteView) → Found LooksInward o → ((x : SyncTable) → LooksInward x → TableInwardly (g x)) → Stands s t v → SiteDone s m t (at_table_of g o v)
-table_done s m t g None v k f h = quiet_done s m t v h
-table_done s m t g (Some x) v k f h =
+table_done : (c : Config) (s m : ℕ) (t : Trace) (g : SyncTable → Outcome SyncTable) (o : Option SyncTable) (v : SiteView) → Found LooksInward o → ((x : SyncTable) → LooksInward x → TableInwardly (g x)) → Stands c s t v → SiteDone c s m t (at_table_of g o v)
+table_done c s m t g None v k f h = quiet_done c s m t v h
+table_done c s m t g (Some x) v k f h =
     let r : TableInwardly (g x) = f x k in
-    plain_done s m t v (at_table_of g (Some x) v) refl refl refl (every_row LooksInward table_group (g x).view v.tables r.3 h.tables) (all_served_free (g x).told r.1) h
+    plain_done c s m t v (at_table_of g (Some x) v) refl refl refl (every_row LooksInward table_group (g x).view v.tables r.3 h.tables) (all_served_free (g x).told r.1) h
 
-group_done : (s m : ℕ) (t : Trace) (g : SyncTable → Outcome SyncTable) (group : ℕ) (v : SiteView) → ((x : SyncTable) → LooksInward x → TableInwardly (g x)) → Stands s t v → SiteDone s m t (at_table_of g (row table_group group v.tables) v)
-group_done s m t g group v f h = table_done s m t g (row table_group group v.tables) v (row_found LooksInward table_group group v.tables h.tables) f h
+group_done : (c : Config) (s m : ℕ) (t : Trace) (g : SyncTable → Outcome SyncTable) (group : ℕ) (v : SiteView) → ((x : SyncTable) → LooksInward x → TableInwardly (g x)) → Stands c s t v → SiteDone c s m t (at_table_of g (row table_group group v.tables) v)
+group_done c s m t g group v f h = table_done c s m t g (row table_group group v.tables) v (row_found LooksInward table_group group v.tables h.tables) f h
 
-with_done : (s m : ℕ) (t : Trace) (g : SyncTable → Outcome SyncTable) (test : SyncTable → Bool) (v : SiteView) → ((x : SyncTable) → LooksInward x → TableInwardly (g x)) → Stands s t v → SiteDone s m t (at_table_of g (first_that test v.tables) v)
-with_done s m t g test v f h = table_done s m t g (first_that test v.tables) v (first_found LooksInward test v.tables h.tables) f h
+with_done : (c : Config) (s m : ℕ) (t : Trace) (g : SyncTable → Outcome SyncTable) (test : SyncTable → Bool) (v : SiteView) → ((x : SyncTable) → LooksInward x → TableInwardly (g x)) → Stands c s t v → SiteDone c s m t (at_table_of g (first_that test v.tables) v)
+with_done c s m t g test v f h = table_done c s m t g (first_that test v.tables) v (first_found LooksInward test v.tables h.tables) f h
 
-store_done : (s m : ℕ) (t : Trace) (g : Store → Outcome Store) (v : SiteView) → AllServed (g v.store) → Stands s t v → SiteDone s m t (at_store g v)
-store_done s m t g v k h = plain_done s m t v (at_store g v) refl refl refl h.tables (all_served_free (g v.store).told k.1) h
+store_done : (c : Config) (s m : ℕ) (t : Trace) (g : Store → Outcome Store) (v : SiteView) → AllServed (g v.store) → Stands c s t v → SiteDone c s m t (at_store g v)
+store_done c s m t g v k h = plain_done c s m t v (at_store g v) refl refl refl h.tables (all_served_free (g v.store).told k.1) h
 
-pulls_done : (s m : ℕ) (t : Trace) (g : List Pull → Outcome (List Pull)) (v : SiteView) → AllServed (g v.pulls) → Stands s t v → SiteDone s m t (at_pulls g v)
-pulls_done s m t g v k h = plain_done s m t v (at_pulls g v) refl refl refl h.tables (all_served_free (g v.pulls).told k.1) h
+pulls_done : (c : Config) (s m : ℕ) (t : Trace) (g : List Pull → Outcome (List Pull)) (v : SiteView) → AllServed (g v.pulls) → Stands c s t v → SiteDone c s m t (at_pulls g v)
+pulls_done c s m t g v k h = plain_done c s m t v (at_pulls g v) refl refl refl h.tables (all_served_free (g v.pulls).told k.1) h
 
 -- a part of the users, in the epoch of the site
-inside_users : (s m : ℕ) (t : Trace) (g : Users → Outcome Users) (v : SiteView) (e : InEpoch) → v.epoch ≡ Some e → (WasIn s t e.id → Owned (WasIn s t) (Some e.id) v.users → UsersDo (WasIn s t) s v.boot (Some e.id) m t (g v.users)) → Stands s t v → SiteDone s m t (at_users g v)
-inside_users s m t g v e here go h =
-    users_done s m t v g h
-    (subst (λ (o : Option InEpoch). UsersDo (WasIn s t) s v.boot (epoch_id o) m t (g v.users)) (sym here) (go (subst (IsInside s t) here h.inside) (subst (λ (o : Option InEpoch). Owned (WasIn s t) (epoch_id o) v.users) here h.owned)))
+inside_users : (c : Config) (s m : ℕ) (t : Trace) (g : Users → Outcome Users) (v : SiteView) (e : InEpoch) → v.epoch ≡ Some e → (WasIn s t e.id → Owned (WasIn s t) (Some e.id) v.users → UsersDo c (WasIn s t) s v.boot (Some e.id) m t (g v.users)) → Stands c s t v → SiteDone c s m t (at_users g v)
+inside_users c s m t g v e here go h =
+    users_done c s m t v g h
+    (subst (λ (o : Option InEpoch). UsersDo c (WasIn s t) s v.boot (epoch_id o) m t (g v.users)) (sym here) (go (subst (IsInside s t) here h.inside) (subst (λ (o : Option InEpoch). Owned (WasIn s t) (epoch_id o) v.users) here h.owned)))
 
 -- ---- a packet of the epoch ----
 
-inside_done : (c : Config) (s m : ℕ) (t : Trace) (from : ℕ) (x : Body) (v : SiteView) (e : InEpoch) → v.epoch ≡ Some e → Stands s t v → SiteDone s m t (takes_inside (frame_in c s v.boot e) from x v)
-inside_done c s m t from (body.Report group copies) v e here h = group_done s m t (on_report (frame_in c s v.boot e) from copies) group v (on_report_inward (frame_in c s v.boot e) from copies) h
-inside_done c s m t from (body.ReportOk group) v e here h = plain_done s m t v _ refl refl refl h.tables tt h
-inside_done c s m t from (body.Open serial call process request file how) v e here h = (let o : OpenRequest = record { serial = serial; call = call; process = process; request = request; file = file; how = how } in group_done s m t (on_open (frame_in c s v.boot e) from o) file.group v (on_open_inward (frame_in c s v.boot e) from o) h)
+inside_done : (c : Config) (s m : ℕ) (t : Trace) (from : ℕ) (x : Body) (v : SiteView) (e : InEpoch) → v.epoch ≡ Some e → Stands c s t v → SiteDone c s m t (takes_inside (frame_in c s v.boot e) from x v)
+inside_done c s m t from (body.Report group copies) v e here h = group_done c s m t (on_report (frame_in c s v.boot e) from copies) group v (on_report_inward (frame_in c s v.boot e) from copies) h
+inside_done c s m t from (body.ReportOk group) v e here h = plain_done c s m t v _ refl refl refl h.tables tt h
+inside_done c s m t from (body.Open serial call process request file how) v e here h = (let o : OpenRequest = record { serial = serial; call = call; process = process; request = request; file = file; how = how } in group_done c s m t (on_open (frame_in c s v.boot e) from o) file.group v (on_open_inward (frame_in c s v.boot e) from o) h)
 inside_done c s m t from (body.OpenSs inst file mode set kind base vector parents) v e here h =
-    store_done s m t (on_open_ss (frame_in c s v.boot e) (record { inst = inst; file = file; mode = mode; set = set; kind = kind; base = base; vector = vector; parents = parents })) v
+    store_done c s m t (on_open_ss (frame_in c s v.boot e) (record { inst = inst; file = file; mode = mode; set = set; kind = kind; base = base; vector = vector; parents = parents })) v
     (on_open_ss_serves (frame_in c s v.boot e) (record { inst = inst; file = file; mode = mode; set = set; kind = kind; base = base; vector = vector; parents = parents }) v.store) h
-inside_done c s m t from (body.Opened inst answer) v e here h = with_done s m t (on_opened (frame_in c s v.boot e) inst answer) (is_opened_in inst) v (on_opened_inward (frame_in c s v.boot e) inst answer) h
-inside_done c s m t from (body.OpenDone serial answer) v e here h = inside_users s m t (on_open_done (frame_in c s v.boot e) (kept_stamps v) serial answer) v e here (λ k o. on_open_done_do (WasIn s t) (frame_in c s v.boot e) (Some e.id) m t (kept_stamps v) serial answer v.users k h.waits o) h
+inside_done c s m t from (body.Opened inst answer) v e here h = with_done c s m t (on_opened (frame_in c s v.boot e) inst answer) (is_opened_in inst) v (on_opened_inward (frame_in c s v.boot e) inst answer) h
+inside_done c s m t from (body.OpenDone serial answer) v e here h = inside_users c s m t (on_open_done (frame_in c s v.boot e) (kept_stamps v) serial answer) v e here (λ k o. on_open_done_do c (WasIn s t) (frame_in c s v.boot e) (Some e.id) m t (kept_stamps v) serial answer v.users k h.waits o) h
 inside_done c s m t from (body.Op serial n o seen) v e here h =
-    store_done s m t (on_op (frame_in c s v.boot e) (mending v (group_of (instance_of v.store (from_user from serial)))) (from_user from serial) n o seen) v
+    store_done c s m t (on_op (frame_in c s v.boot e) (mending v (group_of (instance_of v.store (from_user from serial)))) (from_user from serial) n o seen) v
     (on_op_serves (frame_in c s v.boot e) (mending v (group_of (instance_of v.store (from_user from serial)))) (from_user from serial) n o seen v.store) h
-inside_done c s m t from (body.ReadHeld serial n at len) v e here h = store_done s m t (on_read_held (frame_in c s v.boot e) (from_user from serial) n at len) v (on_read_held_serves (frame_in c s v.boot e) (from_user from serial) n at len v.store) h
-inside_done c s m t from (body.OpDone serial n result) v e here h = inside_users s m t (on_op_done (frame_in c s v.boot e) serial n result) v e here (λ k o. on_op_done_do (WasIn s t) (frame_in c s v.boot e) (Some e.id) m t serial n result v.users k h.waits o) h
-inside_done c s m t from (body.AsHeld serial n len) v e here h = inside_users s m t (on_as_held (frame_in c s v.boot e) serial n) v e here (λ k o. on_as_held_do (WasIn s t) (frame_in c s v.boot e) (Some e.id) m t serial n v.users k h.waits o) h
-inside_done c s m t from (body.Close serial) v e here h = store_done s m t (on_close (frame_in c s v.boot e) (from_user from serial)) v (on_close_serves (frame_in c s v.boot e) (from_user from serial) v.store) h
-inside_done c s m t from (body.Closed inst made) v e here h = with_done s m t (on_closed (frame_in c s v.boot e) from inst made) (is_opened_in inst) v (on_closed_inward (frame_in c s v.boot e) from inst made) h
-inside_done c s m t from (body.ClosedOk inst) v e here h = store_done s m t (on_closed_ok (frame_in c s v.boot e) inst) v (on_closed_ok_serves (frame_in c s v.boot e) inst v.store) h
-inside_done c s m t from (body.CloseDone serial answer) v e here h = inside_users s m t (on_close_done (frame_in c s v.boot e) serial answer) v e here (λ k o. on_close_done_do (WasIn s t) (frame_in c s v.boot e) (Some e.id) m t serial answer v.users h.waits o) h
-inside_done c s m t from (body.Look call process request take file what) v e here h = (let l : LookRequest = record { call = call; process = process; request = request; take = take; file = file; what = what } in group_done s m t (on_look (frame_in c s v.boot e) from l) file.group v (on_look_inward (frame_in c s v.boot e) from l) h)
-inside_done c s m t from (body.LookSs us call process request take file what serve) v e here h = (let l : LookRequest = record { call = call; process = process; request = request; take = take; file = file; what = what } in store_done s m t (on_look_ss (frame_in c s v.boot e) us l serve) v (on_look_ss_serves (frame_in c s v.boot e) us l serve v.store) h)
-inside_done c s m t from (body.LookDone call request take answer) v e here h = inside_users s m t (on_look_done (frame_in c s v.boot e) call request take answer) v e here (λ k o. on_look_done_do (WasIn s t) (frame_in c s v.boot e) (Some e.id) m t call request take answer v.users h.waits o) h
+inside_done c s m t from (body.ReadHeld serial n at len) v e here h = store_done c s m t (on_read_held (frame_in c s v.boot e) (from_user from serial) n at len) v (on_read_held_serves (frame_in c s v.boot e) (from_user from serial) n at len v.store) h
+inside_done c s m t from (body.OpDone serial n result) v e here h = inside_users c s m t (on_op_done (frame_in c s v.boot e) serial n result) v e here (λ k o. on_op_done_do c (WasIn s t) (frame_in c s v.boot e) (Some e.id) m t serial n result v.users k h.waits o) h
+inside_done c s m t from (body.AsHeld serial n len) v e here h = inside_users c s m t (on_as_held (frame_in c s v.boot e) serial n) v e here (λ k o. on_as_held_do c (WasIn s t) (frame_in c s v.boot e) (Some e.id) m t serial n v.users k h.waits o) h
+inside_done c s m t from (body.Close serial) v e here h = store_done c s m t (on_close (frame_in c s v.boot e) (from_user from serial)) v (on_close_serves (frame_in c s v.boot e) (from_user from serial) v.store) h
+inside_done c s m t from (body.Closed inst made) v e here h = with_done c s m t (on_closed (frame_in c s v.boot e) from inst made) (is_opened_in inst) v (on_closed_inward (frame_in c s v.boot e) from inst made) h
+inside_done c s m t from (body.ClosedOk inst) v e here h = store_done c s m t (on_closed_ok (frame_in c s v.boot e) inst) v (on_closed_ok_serves (frame_in c s v.boot e) inst v.store) h
+inside_done c s m t from (body.CloseDone serial answer) v e here h = inside_users c s m t (on_close_done (frame_in c s v.boot e) serial answer) v e here (λ k o. on_close_done_do c (WasIn s t) (frame_in c s v.boot e) (Some e.id) m t serial answer v.users h.waits o) h
+inside_done c s m t from (body.Look call process request take file what) v e here h = (let l : LookRequest = record { call = call; process = process; request = request; take = take; file = file; what = what } in group_done c s m t (on_look (frame_in c s v.boot e) from l) file.group v (on_look_inward (frame_in c s v.boot e) from l) h)
+inside_done c s m t from (body.LookSs us call process request take file what serve) v e here h = (let l : LookRequest = record { call = call; process = process; request = request; take = take; file = file; what = what } in store_done c s m t (on_look_ss (frame_in c s v.boot e) us l serve) v (on_look_ss_serves (frame_in c s v.boot e) us l serve v.store) h)
+inside_done c s m t from (body.LookDone call request take answer) v e here h = inside_users c s m t (on_look_done (frame_in c s v.boot e) call request take answer) v e here (λ k o. on_look_done_do c (WasIn s t) (frame_in c s v.boot e) (Some e.id) m t call request take answer v.users h.waits o) h
 inside_done c s m t from (body.Notify file kind set size stamp vector holder) v e here h =
-    (let p : Pull = record { file = file; kind = kind; set = set; size = size; stamp = stamp; vector = vector; holder = holder; base = None; wanted = None; content = [] } in pulls_done s m t (on_notify (frame_in c s v.boot e) from (copy_of v.store file) p) v (on_notify_serves (frame_in c s v.boot e) from (copy_of v.store file) p v.pulls) h)
-inside_done c s m t from (body.Pull file stamp page) v e here h = store_done s m t (on_pull (frame_in c s v.boot e) from file stamp page) v (on_pull_serves (frame_in c s v.boot e) from file stamp page v.store) h
-inside_done c s m t from (body.Want file wanted own) v e here h = store_done s m t (on_want (frame_in c s v.boot e) from file wanted own) v (on_want_serves (frame_in c s v.boot e) from file wanted own v.store) h
-inside_done c s m t from (body.Page file stamp page bytes) v e here h = pulls_done s m t (on_page (frame_in c s v.boot e) file stamp page bytes) v (on_page_serves (frame_in c s v.boot e) file stamp page bytes v.pulls) h
-inside_done c s m t from (body.Delta file wanted pages) v e here h = pulls_done s m t (on_delta (frame_in c s v.boot e) (copy_of v.store file) file wanted pages) v (on_delta_serves (frame_in c s v.boot e) (copy_of v.store file) file wanted pages v.pulls) h
-inside_done c s m t from (body.Have file stamp) v e here h = group_done s m t (on_have from file stamp) file.group v (on_have_inward from file stamp) h
-inside_done c s m t from body.Poll v e here h = quiet_done s m t v h
-inside_done c s m t from (body.Promise reach) v e here h = quiet_done s m t v h
-inside_done c s m t from (body.Refuse promised) v e here h = quiet_done s m t v h
-inside_done c s m t from (body.Install members) v e here h = quiet_done s m t v h
-inside_done c s m t from body.Joined v e here h = quiet_done s m t v h
+    (let p : Pull = record { file = file; kind = kind; set = set; size = size; stamp = stamp; vector = vector; holder = holder; base = None; wanted = None; content = [] } in pulls_done c s m t (on_notify (frame_in c s v.boot e) from (copy_of v.store file) p) v (on_notify_serves (frame_in c s v.boot e) from (copy_of v.store file) p v.pulls) h)
+inside_done c s m t from (body.Pull file stamp page) v e here h = store_done c s m t (on_pull (frame_in c s v.boot e) from file stamp page) v (on_pull_serves (frame_in c s v.boot e) from file stamp page v.store) h
+inside_done c s m t from (body.Want file wanted own) v e here h = store_done c s m t (on_want (frame_in c s v.boot e) from file wanted own) v (on_want_serves (frame_in c s v.boot e) from file wanted own v.store) h
+inside_done c s m t from (body.Page file stamp page bytes) v e here h = pulls_done c s m t (on_page (frame_in c s v.boot e) file stamp page bytes) v (on_page_serves (frame_in c s v.boot e) file stamp page bytes v.pulls) h
+inside_done c s m t from (body.Delta file wanted pages) v e here h = pulls_done c s m t (on_delta (frame_in c s v.boot e) (copy_of v.store file) file wanted pages) v (on_delta_serves (frame_in c s v.boot e) (copy_of v.store file) file wanted pages v.pulls) h
+inside_done c s m t from (body.Have file stamp) v e here h = group_done c s m t (on_have from file stamp) file.group v (on_have_inward from file stamp) h
+inside_done c s m t from body.Poll v e here h = quiet_done c s m t v h
+inside_done c s m t from (body.Promise reach) v e here h = quiet_done c s m t v h
+inside_done c s m t from (body.Refuse promised) v e here h = quiet_done c s m t v h
+inside_done c s m t from (body.Install members) v e here h = quiet_done c s m t v h
+inside_done c s m t from body.Joined v e here h = quiet_done c s m t v h
 
-pub framed_done : (c : Config) (s m : ℕ) (t : Trace) (p : Packet) (o : Option InEpoch) (v : SiteView) → v.epoch ≡ o → Stands s t v → SiteDone s m t (takes_framed c s p o v)
-framed_done c s m t p None v here h = quiet_done s m t v h
+pub framed_done : (c : Config) (s m : ℕ) (t : Trace) (p : Packet) (o : Option InEpoch) (v : SiteView) → v.epoch ≡ o → Stands c s t v → SiteDone c s m t (takes_framed c s p o v)
+framed_done c s m t p None v here h = quiet_done c s m t v h
 framed_done c s m t p (Some e) v here h = inside_done c s m t p.from p.body v e here h
 
 -- ---- adoptions ----
@@ -184,18 +184,18 @@ mend_alone process group (call.Mend file) k low none e = differs file.group grou
     differs a b n e = grind (arith, nat_tests)
 mend_alone process group _ k low none e = absurd (omega (arith, k, low, e))
 
-mend_done : (c : Config) (s m : ℕ) (t : Trace) (x : SyncTable) (o : Option FileRow) (v : SiteView) (e : InEpoch) → v.epoch ≡ Some e → LooksInward x → has_mend_in v.users x.group ≡ false → Stands s t v → SiteDone s m t (starts_mend_of (frame_in c s v.boot e) x o v)
-mend_done c s m t x None v e here ok none h = quiet_done s m t v h
+mend_done : (c : Config) (s m : ℕ) (t : Trace) (x : SyncTable) (o : Option FileRow) (v : SiteView) (e : InEpoch) → v.epoch ≡ Some e → LooksInward x → has_mend_in v.users x.group ≡ false → Stands c s t v → SiteDone c s m t (starts_mend_of (frame_in c s v.boot e) x o v)
+mend_done c s m t x None v e here ok none h = quiet_done c s m t v h
 mend_done c s m t x (Some r) v e here ok none h =
-    inside_users s m t (on_call (frame_in c s v.boot e) (Some e.id) 0 (call.Mend (row_file x r))) v e here
-    (λ k o. on_call_do (WasIn s t) (frame_in c s v.boot e) (Some e.id) m 0 t (call.Mend (row_file x r)) v.users
+    inside_users c s m t (on_call (frame_in c s v.boot e) (Some e.id) 0 (call.Mend (row_file x r))) v e here
+    (λ k o. on_call_do c (WasIn s t) (frame_in c s v.boot e) (Some e.id) m 0 t (call.Mend (row_file x r)) v.users
     (λ q a f. mend_alone q.process x.group q.words (h.waits.keyed q a) ok.1 (none_other (is_mend_in x.group) v.users.waiting none q a) f) ok.1 tt h.waits o) h
 
-starts_done : (c : Config) (s m : ℕ) (t : Trace) (x : SyncTable) (v : SiteView) (e : InEpoch) → v.epoch ≡ Some e → LooksInward x → Stands s t v → SiteDone s m t (starts_mend (frame_in c s v.boot e) x v)
+starts_done : (c : Config) (s m : ℕ) (t : Trace) (x : SyncTable) (v : SiteView) (e : InEpoch) → v.epoch ≡ Some e → LooksInward x → Stands c s t v → SiteDone c s m t (starts_mend (frame_in c s v.boot e) x v)
 starts_done c s m t x v e here ok h =
-    (elim (x.started && not (has_mend_in v.users x.group)) as (λ b. (x.started && not (has_mend_in v.users x.group)) ≡ b → SiteDone s m t (elim b [ true ↦ starts_mend_of (frame_in c s v.boot e) x (first_that (wants_mend v x) x.files) v | false ↦ quiet v ])) [
+    (elim (x.started && not (has_mend_in v.users x.group)) as (λ b. (x.started && not (has_mend_in v.users x.group)) ≡ b → SiteDone c s m t (elim b [ true ↦ starts_mend_of (frame_in c s v.boot e) x (first_that (wants_mend v x) x.files) v | false ↦ quiet v ])) [
       | true ↦ λ k. mend_done c s m t x (first_that (wants_mend v x) x.files) v e here ok (not_true (has_mend_in v.users x.group) (both_true x.started (not (has_mend_in v.users x.group)) k).1) h
-      | false ↦ λ k. quiet_done s m t v h
+      | false ↦ λ k. quiet_done c s m t v h
     ]) refl
 
 -- a mend leaves the epoch and the boot
@@ -209,13 +209,13 @@ mend_same f x (Some r) v = (refl, refl)
 starts_same : (f : Frame) (x : SyncTable) (v : SiteView) → Same v (starts_mend f x v)
 starts_same f x v = elim (x.started && not (has_mend_in v.users x.group)) as (λ b. Same v (elim b [ true ↦ starts_mend_of f x (first_that (wants_mend v x) x.files) v | false ↦ quiet v ])) [ true ↦ mend_same f x (first_that (wants_mend v x) x.files) v | false ↦ (refl, refl) ]
 
-all_start : (c : Config) (s m boot : ℕ) (t : Trace) (ts : List SyncTable) (v : SiteView) (e : InEpoch) → v.boot ≡ boot → v.epoch ≡ Some e → Every LooksInward ts → Stands s t v → SiteDoes s m t (starts_mends_in (frame_in c s boot e) ts v)
-all_start c s m boot t [] v e own here ok h = λ new. quiet_done s m t v h
+all_start : (c : Config) (s m boot : ℕ) (t : Trace) (ts : List SyncTable) (v : SiteView) (e : InEpoch) → v.boot ≡ boot → v.epoch ≡ Some e → Every LooksInward ts → Stands c s t v → SiteDoes c s m t (starts_mends_in (frame_in c s boot e) ts v)
+all_start c s m boot t [] v e own here ok h = λ new. quiet_done c s m t v h
 all_start c s m boot t (x ∷ xs) v e own here ok h =
     let k : Same v (starts_mend (frame_in c s boot e) x v) = starts_same (frame_in c s boot e) x v in
-    then_does s m t (starts_mend (frame_in c s boot e) x v) (starts_mends_in (frame_in c s boot e) xs) (λ new. subst (λ (b : ℕ). SiteDone s m t (starts_mend (frame_in c s b e) x v)) own (starts_done c s m t x v e here ok.0 h))
+    then_does c s m t (starts_mend (frame_in c s boot e) x v) (starts_mends_in (frame_in c s boot e) xs) (λ new. subst (λ (b : ℕ). SiteDone c s m t (starts_mend (frame_in c s b e) x v)) own (starts_done c s m t x v e here ok.0 h))
     (λ g. all_start c s m boot (after m (starts_mend (frame_in c s boot e) x v).told t) xs (starts_mend (frame_in c s boot e) x v).view e (k.1 ∙ own) (k.0 ∙ here) ok.1 g)
 
-pub mends_does : (c : Config) (s m : ℕ) (t : Trace) (o : Option InEpoch) (v : SiteView) → v.epoch ≡ o → Stands s t v → SiteDoes s m t (starts_mends_of c s o v)
-mends_does c s m t None v here h = λ new. quiet_done s m t v h
+pub mends_does : (c : Config) (s m : ℕ) (t : Trace) (o : Option InEpoch) (v : SiteView) → v.epoch ≡ o → Stands c s t v → SiteDoes c s m t (starts_mends_of c s o v)
+mends_does c s m t None v here h = λ new. quiet_done c s m t v h
 mends_does c s m t (Some e) v here h = all_start c s m v.boot t v.tables v e refl here h.tables h

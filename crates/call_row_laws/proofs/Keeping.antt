@@ -1,4 +1,5 @@
 -- How waiting calls stand as records come: what tells of no call, or of another site's, leaves them.
+use Rattle.locus_ids.specs.declared.config.Config.{Config}
 use Rattle.std.proofs.Common.{◌≡◌, ℕ, ◌+◌, ◌==◌, ◌⊎◌, Bool, true, false, cond, ◌||◌, ◌&&◌, not, List, [], ◌∷◌, filter, refl, sym, ◌∙◌, ap, subst, inl, inr, arith}
 use Rattle.std.proofs.lemmas.Bool.Decides.{nat_tests}
 use Rattle.role_steps.proofs.of_plain_facts.Numbers.{apart_test, equal_test}
@@ -87,20 +88,20 @@ waiting_same s boot now v w h k = (k.0, (k.1.0, (k.1.1.0, matches_same s boot k.
 
 -- ---- what is told of no call ----
 
-record_free : (s boot m calls : ℕ) (r : Record) (now : Trace) (rows : List WaitingCall) → CallFreeRecord r → Waits s boot now calls rows → Waits s boot (record { line = m; what = r } ∷ now) calls rows
-record_free s boot m calls (says.Up site b) now rows n h = absurd n
-record_free s boot m calls (says.Stopped site why) now rows n h = absurd n
-record_free s boot m calls (says.Accept site process id words) now rows n h = absurd n
-record_free s boot m calls (says.Answer site process id r) now rows n h = absurd n
-record_free s boot m calls _ now rows n h = record { up = h.up; boot_is = h.boot_is; counted = h.counted; there = h.there; back = h.back; low = h.low; apart = h.apart; keyed = h.keyed }
+record_free : (c : Config) (s boot m calls : ℕ) (r : Record) (now : Trace) (rows : List WaitingCall) → CallFreeRecord r → Waits c s boot now calls rows → Waits c s boot (record { line = m; what = r } ∷ now) calls rows
+record_free c s boot m calls (says.Up site b) now rows n h = absurd n
+record_free c s boot m calls (says.Stopped site why) now rows n h = absurd n
+record_free c s boot m calls (says.Accept site process id words) now rows n h = absurd n
+record_free c s boot m calls (says.Answer site process id r) now rows n h = absurd n
+record_free c s boot m calls _ now rows n h = record { up = h.up; boot_is = h.boot_is; counted = h.counted; there = h.there; back = h.back; low = h.low; apart = h.apart; keyed = h.keyed }
 
-pub told_free : (s boot m calls : ℕ) (x : Told) (now : Trace) (rows : List WaitingCall) → CallFree x → Waits s boot now calls rows → Waits s boot (with_told m x now) calls rows
-told_free s boot m calls (Shown r) now rows n h = record_free s boot m calls r now rows n h
-told_free s boot m calls _ now rows n h = h
+pub told_free : (c : Config) (s boot m calls : ℕ) (x : Told) (now : Trace) (rows : List WaitingCall) → CallFree x → Waits c s boot now calls rows → Waits c s boot (with_told m x now) calls rows
+told_free c s boot m calls (Shown r) now rows n h = record_free c s boot m calls r now rows n h
+told_free c s boot m calls _ now rows n h = h
 
-pub all_free : (s boot m calls : ℕ) (told : List Told) (now : Trace) (rows : List WaitingCall) → Every CallFree told → Waits s boot now calls rows → Waits s boot (after m told now) calls rows
-all_free s boot m calls [] now rows n h = h
-all_free s boot m calls (x ∷ xs) now rows n h = all_free s boot m calls xs (with_told m x now) rows n.1 (told_free s boot m calls x now rows n.0 h)
+pub all_free : (c : Config) (s boot m calls : ℕ) (told : List Told) (now : Trace) (rows : List WaitingCall) → Every CallFree told → Waits c s boot now calls rows → Waits c s boot (after m told now) calls rows
+all_free c s boot m calls [] now rows n h = h
+all_free c s boot m calls (x ∷ xs) now rows n h = all_free c s boot m calls xs (with_told m x now) rows n.1 (told_free c s boot m calls x now rows n.0 h)
 
 record_free_none : (s m : ℕ) (r : Record) (now : Trace) → CallFreeRecord r → NoneWaits s now → NoneWaits s (record { line = m; what = r } ∷ now)
 record_free_none s m (says.Up site b) now n h = absurd n
@@ -129,10 +130,10 @@ answered_keeps id now x a ne = filter_keeps (λ (w : Waiting). not (same_call w.
 other_call : (s t boot n : ℕ) (x : CallId) (id : CallId) → (s ≡ t → ⊥) → id.site ≡ s → x ≡ own_call t boot n → x ≡ id → ⊥
 other_call s t boot n x id ne own is same = ne (sym own ∙ (ap (λ (c : CallId). c.site) (sym same) ∙ ap (λ (c : CallId). c.site) is))
 
-record_other : (s t boot m calls : ℕ) (r : Record) (now : Trace) (rows : List WaitingCall) → (s ≡ t → ⊥) → OfSiteRecord s r → Waits t boot now calls rows → Waits t boot (record { line = m; what = r } ∷ now) calls rows
-record_other s t boot m calls (says.Up site b) now rows ne o h = absurd o
-record_other s t boot m calls (says.Stopped site why) now rows ne o h = absurd o
-record_other s t boot m calls (says.Accept site process id words) now rows ne o h =
+record_other : (c : Config) (s t boot m calls : ℕ) (r : Record) (now : Trace) (rows : List WaitingCall) → (s ≡ t → ⊥) → OfSiteRecord s r → Waits c t boot now calls rows → Waits c t boot (record { line = m; what = r } ∷ now) calls rows
+record_other c s t boot m calls (says.Up site b) now rows ne o h = absurd o
+record_other c s t boot m calls (says.Stopped site why) now rows ne o h = absurd o
+record_other c s t boot m calls (says.Accept site process id words) now rows ne o h =
     let test : (site == t) ≡ false = apart_test site t (λ e. ne (sym o ∙ e)) in
     record {
       up = h.up;
@@ -148,7 +149,7 @@ record_other s t boot m calls (says.Accept site process id words) now rows ne o 
     by_place : (x : Waiting) → Among x (waiting (record { line = m; what = says.Accept site process id words } ∷ now)) → x.site ≡ t → HasRow t boot x rows
     by_place x (inl e) f = absurd (ne (sym o ∙ (ap (λ (w : Waiting). w.site) (sym e) ∙ f)))
     by_place x (inr a) f = h.there x a f
-record_other s t boot m calls (says.Answer site process id r) now rows ne o h = record {
+record_other c s t boot m calls (says.Answer site process id r) now rows ne o h = record {
   up = h.up;
   boot_is = h.boot_is;
   counted = h.counted;
@@ -158,15 +159,15 @@ record_other s t boot m calls (says.Answer site process id r) now rows ne o h = 
   apart = h.apart;
   keyed = h.keyed;
 }
-record_other s t boot m calls _ now rows ne o h = record { up = h.up; boot_is = h.boot_is; counted = h.counted; there = h.there; back = h.back; low = h.low; apart = h.apart; keyed = h.keyed }
+record_other c s t boot m calls _ now rows ne o h = record { up = h.up; boot_is = h.boot_is; counted = h.counted; there = h.there; back = h.back; low = h.low; apart = h.apart; keyed = h.keyed }
 
-told_other : (s t boot m calls : ℕ) (x : Told) (now : Trace) (rows : List WaitingCall) → (s ≡ t → ⊥) → OfSite s x → Waits t boot now calls rows → Waits t boot (with_told m x now) calls rows
-told_other s t boot m calls (Shown r) now rows ne o h = record_other s t boot m calls r now rows ne o h
-told_other s t boot m calls _ now rows ne o h = h
+told_other : (c : Config) (s t boot m calls : ℕ) (x : Told) (now : Trace) (rows : List WaitingCall) → (s ≡ t → ⊥) → OfSite s x → Waits c t boot now calls rows → Waits c t boot (with_told m x now) calls rows
+told_other c s t boot m calls (Shown r) now rows ne o h = record_other c s t boot m calls r now rows ne o h
+told_other c s t boot m calls _ now rows ne o h = h
 
-pub all_other : (s t boot m calls : ℕ) (told : List Told) (now : Trace) (rows : List WaitingCall) → (s ≡ t → ⊥) → Every (OfSite s) told → Waits t boot now calls rows → Waits t boot (after m told now) calls rows
-all_other s t boot m calls [] now rows ne o h = h
-all_other s t boot m calls (x ∷ xs) now rows ne o h = all_other s t boot m calls xs (with_told m x now) rows ne o.1 (told_other s t boot m calls x now rows ne o.0 h)
+pub all_other : (c : Config) (s t boot m calls : ℕ) (told : List Told) (now : Trace) (rows : List WaitingCall) → (s ≡ t → ⊥) → Every (OfSite s) told → Waits c t boot now calls rows → Waits c t boot (after m told now) calls rows
+all_other c s t boot m calls [] now rows ne o h = h
+all_other c s t boot m calls (x ∷ xs) now rows ne o h = all_other c s t boot m calls xs (with_told m x now) rows ne o.1 (told_other c s t boot m calls x now rows ne o.0 h)
 
 record_none : (s t m : ℕ) (r : Record) (now : Trace) → (s ≡ t → ⊥) → OfSiteRecord s r → NoneWaits t now → NoneWaits t (record { line = m; what = r } ∷ now)
 record_none s t m (says.Up site b) now ne o h = absurd o
@@ -196,9 +197,9 @@ stopped_old s now x a = let k : Among x (waiting now) × (not (x.site == s) ≡ 
 pub stop_none : (s m : ℕ) (why : StopCause) (now : Trace) → NoneWaits s (record { line = m; what = says.Stopped s why } ∷ now)
 stop_none s m why now x a e = true_false (sym (equal_test x.site s e) ∙ (stopped_old s now x a).1)
 
-pub stop_other : (s t boot m calls : ℕ) (why : StopCause) (now : Trace) (rows : List WaitingCall) → (s ≡ t → ⊥) → Waits t boot now calls rows → Waits t boot (record { line = m; what = says.Stopped s why } ∷ now) calls rows
-stop_other s t boot m calls why now rows ne h = record {
-  up = ap (λ (b : Bool). not b && is_up now t) (apart_test s t ne) ∙ h.up;
+pub stop_other : (c : Config) (s t boot m calls : ℕ) (why : StopCause) (now : Trace) (rows : List WaitingCall) → (s ≡ t → ⊥) → Waits c t boot now calls rows → Waits c t boot (record { line = m; what = says.Stopped s why } ∷ now) calls rows
+stop_other c s t boot m calls why now rows ne h = record {
+  up = ap (λ (b : Bool). not b && is_up c now t) (apart_test s t ne) ∙ h.up;
   boot_is = h.boot_is;
   counted = h.counted;
   there = λ x a e. h.there x (stopped_old s now x a).0 e;
@@ -211,9 +212,9 @@ stop_other s t boot m calls why now rows ne h = record {
 pub stop_other_none : (s t m : ℕ) (why : StopCause) (now : Trace) → NoneWaits t now → NoneWaits t (record { line = m; what = says.Stopped s why } ∷ now)
 stop_other_none s t m why now h x a e = h x (stopped_old s now x a).0 e
 
-pub boot_waits : (s boot m : ℕ) (now : Trace) → NoneWaits s now → Waits s boot (record { line = m; what = says.Up s boot } ∷ now) 0 []
-boot_waits s boot m now none = record {
-  up = ap (λ (b : Bool). b || is_up now s) (equal_test s s refl);
+pub boot_waits : (c : Config) (s boot m : ℕ) (now : Trace) → NoneWaits s now → Waits c s boot (record { line = m; what = says.Up s boot } ∷ now) 0 []
+boot_waits c s boot m now none = record {
+  up = ap (λ (b : Bool). b || is_up c now s) (equal_test s s refl);
   boot_is = ap (λ (b : Bool). cond b boot (boot_of now s)) (equal_test s s refl);
   counted = ap (λ (b : Bool). cond b 0 (calls_accepted now s)) (equal_test s s refl);
   there = λ x a e. absurd (none x a e);
@@ -223,9 +224,9 @@ boot_waits s boot m now none = record {
   keyed = λ r a. absurd a;
 }
 
-pub boot_other : (s t boot b m calls : ℕ) (now : Trace) (rows : List WaitingCall) → (s ≡ t → ⊥) → Waits t boot now calls rows → Waits t boot (record { line = m; what = says.Up s b } ∷ now) calls rows
-boot_other s t boot b m calls now rows ne h = record {
-  up = ap (λ (x : Bool). x || is_up now t) (apart_test s t ne) ∙ h.up;
+pub boot_other : (c : Config) (s t boot b m calls : ℕ) (now : Trace) (rows : List WaitingCall) → (s ≡ t → ⊥) → Waits c t boot now calls rows → Waits c t boot (record { line = m; what = says.Up s b } ∷ now) calls rows
+boot_other c s t boot b m calls now rows ne h = record {
+  up = ap (λ (x : Bool). x || is_up c now t) (apart_test s t ne) ∙ h.up;
   boot_is = ap (λ (x : Bool). cond x b (boot_of now t)) (apart_test s t ne) ∙ h.boot_is;
   counted = ap (λ (x : Bool). cond x 0 (calls_accepted now t)) (apart_test s t ne) ∙ h.counted;
   there = h.there;

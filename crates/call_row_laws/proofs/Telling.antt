@@ -1,4 +1,5 @@
 -- What is told of calls as a run goes on: each call line that was begun is told.
+use Rattle.locus_ids.specs.declared.config.Config.{Config}
 use Rattle.std.proofs.Common.{◌≡◌, ◌≤◌, ◌<◌, ℕ, zero, suc, ◌+◌, ◌==◌, true, false, List, [], ◌∷◌, Some, None, refl, sym, ◌∙◌, ap, subst, arith}
 use Rattle.std.proofs.lemmas.Bool.Decides.{nat_tests}
 use Rattle.role_steps.proofs.of_plain_facts.Tests.{false_true}
@@ -27,11 +28,11 @@ use Rattle.call_row_laws.proofs.VoidCalls.{order_before}
 -- ---- what is told of calls ----
 
 -- each call up to this number is told, unless a limit was passed
-abbrev pub ToldGo : List ScheduleLine → ℕ → World → Type 0
-ToldGo lines n w = w.over ≡ None → EachRecord IsSiteRow (trace_of w) → CallsTold lines n (trace_of w)
+abbrev pub ToldGo : Config → List ScheduleLine → ℕ → World → Type 0
+ToldGo c lines n w = w.over ≡ None → EachRecord (IsSiteRow c) (trace_of w) → CallsTold lines n (trace_of w)
 
-abbrev ToldAfter : List ScheduleLine → ℕ → Trace → Type 0
-ToldAfter lines m t = EachRecord IsSiteRow t → CallsTold lines m t
+abbrev ToldAfter : Config → List ScheduleLine → ℕ → Trace → Type 0
+ToldAfter c lines m t = EachRecord (IsSiteRow c) t → CallsTold lines m t
 
 -- what a line tells leaves the calls before it
 pub earlier : (lines : List ScheduleLine) (n k : ℕ) (told : List Told) (trace : List Line) → n < k → CallsTold lines n (shown trace) → CallsTold lines n (shown (told_onto k told trace))
@@ -74,21 +75,21 @@ course lines (suc n) told trace none t m low high call =
     suc_is : (n : ℕ) → n + 1 ≡ suc n
     suc_is n = omega arith
 
-pub happened_calls : (lines : List ScheduleLine) (m : ℕ) (ps : List Packet) (told : List Told) (change : World → World) (w : World) → (w.over ≡ None → EachRecord IsSiteRow (trace_of w) → CallsTold lines m (shown (told_onto m told w.trace))) → ToldGo lines m (happened m ps told change w)
-happened_calls lines m ps told change w h = happened_none (ToldAfter lines m) m ps told change w (λ none order. h none (order_before m told w.trace order))
+pub happened_calls : (c : Config) (lines : List ScheduleLine) (m : ℕ) (ps : List Packet) (told : List Told) (change : World → World) (w : World) → (w.over ≡ None → EachRecord (IsSiteRow c) (trace_of w) → CallsTold lines m (shown (told_onto m told w.trace))) → ToldGo c lines m (happened m ps told change w)
+happened_calls c lines m ps told change w h = happened_none (ToldAfter c lines m) m ps told change w (λ none order. h none (order_before c m told w.trace order))
 
 -- whatever an event tells
-pub acts_calls : (lines : List ScheduleLine) (m s : ℕ) (v : SiteView) (o : Outcome SiteView) (w : World) → ((told : List Told) → w.over ≡ None → EachRecord IsSiteRow (trace_of w) → CallsTold lines m (shown (told_onto m told w.trace))) → ToldGo lines m (acts m s v o w)
-acts_calls lines m s v o w h =
-    acts_cases (ToldGo lines m) m s v o w
-    (happened_calls lines m o.sent o.told (λ now. puts s (Running o.view) now) w (h o.told))
-    (λ a. happened_calls lines m o.sent o.told (λ now. puts s (Running o.view) (arms a now)) w (h o.told))
-    (λ d a e. happened_calls lines m [] (cut_told s v.store d a.how a.left) (stops_with s (cut_disk v.boot v.store d a.how a.left)) w (h (cut_told s v.store d a.how a.left)))
+pub acts_calls : (c : Config) (lines : List ScheduleLine) (m s : ℕ) (v : SiteView) (o : Outcome SiteView) (w : World) → ((told : List Told) → w.over ≡ None → EachRecord (IsSiteRow c) (trace_of w) → CallsTold lines m (shown (told_onto m told w.trace))) → ToldGo c lines m (acts m s v o w)
+acts_calls c lines m s v o w h =
+    acts_cases (ToldGo c lines m) m s v o w
+    (happened_calls c lines m o.sent o.told (λ now. puts s (Running o.view) now) w (h o.told))
+    (λ a. happened_calls c lines m o.sent o.told (λ now. puts s (Running o.view) (arms a now)) w (h o.told))
+    (λ d a e. happened_calls c lines m [] (cut_told s v.store d a.how a.left) (stops_with s (cut_disk v.boot v.store d a.how a.left)) w (h (cut_told s v.store d a.how a.left)))
 
-pub boots_calls : (lines : List ScheduleLine) (m s : ℕ) (b : Booted) (w : World) → ((told : List Told) → w.over ≡ None → EachRecord IsSiteRow (trace_of w) → CallsTold lines m (shown (told_onto m told w.trace))) → ToldGo lines m (boots_as m s b w)
-boots_calls lines m s (Whole d None) w h = happened_calls lines m [] (Shown (says.Up s d.label.boot) ∷ []) _ w (h (Shown (says.Up s d.label.boot) ∷ []))
-boots_calls lines m s (Whole d (Some a)) w h = happened_calls lines m [] (Shown (says.Up s d.label.boot) ∷ []) _ w (h (Shown (says.Up s d.label.boot) ∷ []))
-boots_calls lines m s (CutOff d how) w h = happened_calls lines m [] (Shown (says.Stopped s (cause_of how)) ∷ []) (stops_with s d) w (h (Shown (says.Stopped s (cause_of how)) ∷ []))
+pub boots_calls : (c : Config) (lines : List ScheduleLine) (m s : ℕ) (b : Booted) (w : World) → ((told : List Told) → w.over ≡ None → EachRecord (IsSiteRow c) (trace_of w) → CallsTold lines m (shown (told_onto m told w.trace))) → ToldGo c lines m (boots_as m s b w)
+boots_calls c lines m s (Whole d None) w h = happened_calls c lines m [] (Shown (says.Up s d.label.boot) ∷ []) _ w (h (Shown (says.Up s d.label.boot) ∷ []))
+boots_calls c lines m s (Whole d (Some a)) w h = happened_calls c lines m [] (Shown (says.Up s d.label.boot) ∷ []) _ w (h (Shown (says.Up s d.label.boot) ∷ []))
+boots_calls c lines m s (CutOff d how) w h = happened_calls c lines m [] (Shown (says.Stopped s (cause_of how)) ∷ []) (stops_with s d) w (h (Shown (says.Stopped s (cause_of how)) ∷ []))
 
 -- ---- lines that are no calls ----
 

@@ -28,7 +28,7 @@ use Rattle.call_row_laws.specs.Tree.{AcceptTree, TreeRecord, IsTreeRow, MeetsThe
 use Rattle.call_row_laws.proofs.CallsRun.{run_accepts}
 use Rattle.call_row_laws.proofs.CallTales.{run_void_calls, run_calls_told}
 
-accept_row : (c : Config) (before : Trace) (site process : ℕ) (id : CallId) (words : Call) → AcceptedAs before site process id words → AcceptTree c before site process id words → CallRow c before site process id words
+accept_row : (c : Config) (before : Trace) (site process : ℕ) (id : CallId) (words : Call) → AcceptedAs c before site process id words → AcceptTree c before site process id words → CallRow c before site process id words
 accept_row c before site process id (call.Mend file) a t = t
 accept_row c before site process id (call.Create path sites) a t = a
 accept_row c before site process id (call.MakeDir path) a t = a
@@ -47,7 +47,7 @@ accept_row c before site process id (call.Commit fd) a t = a
 accept_row c before site process id (call.Abort fd) a t = a
 accept_row c before site process id (call.Close fd) a t = a
 
-record_rest : (c : Config) (lines : List ScheduleLine) (n : ℕ) (before : Trace) (r : Record) → AcceptRecord before r → VoidCall lines n before r → TreeRecord c lines n before r → RestRecord c lines n before r
+record_rest : (c : Config) (lines : List ScheduleLine) (n : ℕ) (before : Trace) (r : Record) → AcceptRecord c before r → VoidCall lines n before r → TreeRecord c lines n before r → RestRecord c lines n before r
 record_rest c lines n before (says.Accept site process id words) a v t = accept_row c before site process id words a t
 record_rest c lines n before says.Void a v t = v
 record_rest c lines n before (says.Up site boot) a v t = tt
@@ -66,7 +66,7 @@ record_rest c lines n before (says.Release e inst f stamp) a v t = t
 record_rest c lines n before (says.Adopt f site stamp) a v t = t
 record_rest c lines n before (says.Answer site process id reply) a v t = t
 
-each_rest : (c : Config) (lines : List ScheduleLine) (trace : Trace) → EachRecord IsAcceptRow trace → EachRecord (IsVoidCall lines) trace → EachRecord (IsTreeRow c lines) trace → EachRecord (IsRestRow c lines) trace
+each_rest : (c : Config) (lines : List ScheduleLine) (trace : Trace) → EachRecord (IsAcceptRow c) trace → EachRecord (IsVoidCall lines) trace → EachRecord (IsTreeRow c lines) trace → EachRecord (IsRestRow c lines) trace
 each_rest c lines [] a v t = tt
 each_rest c lines (r ∷ before) a v t = (record_rest c lines r.line before r.what a.0 v.0 t.0, each_rest c lines before a.1 v.1 t.1)
 

@@ -63,35 +63,35 @@ onto_void lines m [] trace h g = g
 onto_void lines m (x ∷ xs) trace h g = onto_void lines m xs (record { number = m; told = x } ∷ trace) h.1 (told_void lines m x (shown trace) h.0 g)
 
 -- where sites go on as they may, void calls are so
-abbrev pub VoidsGo : List ScheduleLine → World → Type 0
-VoidsGo lines w = EachRecord IsSiteRow (trace_of w) → EachRecord (IsVoidCall lines) (trace_of w)
+abbrev pub VoidsGo : Config → List ScheduleLine → World → Type 0
+VoidsGo c lines w = EachRecord (IsSiteRow c) (trace_of w) → EachRecord (IsVoidCall lines) (trace_of w)
 
-pub order_before : (m : ℕ) (told : List Told) (trace : List Line) → EachRecord IsSiteRow (shown (told_onto m told trace)) → EachRecord IsSiteRow (shown trace)
-order_before m told trace h = each_before m told (shown trace) (subst (EachRecord IsSiteRow) (after_shown m told trace) h)
+pub order_before : (c : Config) (m : ℕ) (told : List Told) (trace : List Line) → EachRecord (IsSiteRow c) (shown (told_onto m told trace)) → EachRecord (IsSiteRow c) (shown trace)
+order_before c m told trace h = each_before c m told (shown trace) (subst (EachRecord (IsSiteRow c)) (after_shown m told trace) h)
 
-pub happened_voids : (lines : List ScheduleLine) (m : ℕ) (ps : List Packet) (told : List Told) (change : World → World) (w : World) → (EachRecord IsSiteRow (trace_of w) → EachRecord (IsVoidCall lines) (trace_of w) → EachRecord (IsVoidCall lines) (shown (told_onto m told w.trace))) → VoidsGo lines w → VoidsGo lines (happened m ps told change w)
-happened_voids lines m ps told change w rows f =
-    happened_keeps (VoidsGo lines) m ps told change w f (λ l order. f order)
-    (λ k b t order. (let old : EachRecord IsSiteRow (trace_of w) = order_before m told w.trace order in rows old (f old)))
+pub happened_voids : (c : Config) (lines : List ScheduleLine) (m : ℕ) (ps : List Packet) (told : List Told) (change : World → World) (w : World) → (EachRecord (IsSiteRow c) (trace_of w) → EachRecord (IsVoidCall lines) (trace_of w) → EachRecord (IsVoidCall lines) (shown (told_onto m told w.trace))) → VoidsGo c lines w → VoidsGo c lines (happened m ps told change w)
+happened_voids c lines m ps told change w rows f =
+    happened_keeps (VoidsGo c lines) m ps told change w f (λ l order. f order)
+    (λ k b t order. (let old : EachRecord (IsSiteRow c) (trace_of w) = order_before c m told w.trace order in rows old (f old)))
 
-pub free_voids : (lines : List ScheduleLine) (m : ℕ) (ps : List Packet) (told : List Told) (change : World → World) (w : World) → Every NoVoid told → VoidsGo lines w → VoidsGo lines (happened m ps told change w)
-free_voids lines m ps told change w h f = happened_voids lines m ps told change w (λ order g. onto_void lines m told w.trace h g) f
+pub free_voids : (c : Config) (lines : List ScheduleLine) (m : ℕ) (ps : List Packet) (told : List Told) (change : World → World) (w : World) → Every NoVoid told → VoidsGo c lines w → VoidsGo c lines (happened m ps told change w)
+free_voids c lines m ps told change w h f = happened_voids c lines m ps told change w (λ order g. onto_void lines m told w.trace h g) f
 
 cut_none : (s : ℕ) (d : DiskWrite) (how : Cut) (b : Bool) → NoVoid (Shown d.says) → Every NoVoid (cond b (Shown d.says ∷ Shown (says.Stopped s (cause_of how)) ∷ []) (Shown (says.Stopped s (cause_of how)) ∷ []))
 cut_none s d how true h = (h, (tt, tt))
 cut_none s d how false h = (tt, tt)
 
-pub acts_voids : (lines : List ScheduleLine) (m s : ℕ) (k : Causes) (v : SiteView) (o : Outcome SiteView) (w : World) → Forms s v.boot k o → VoidsGo lines w → VoidsGo lines (acts m s v o w)
-acts_voids lines m s k v o w h f =
-    acts_cases (VoidsGo lines) m s v o w
-    (free_voids lines m o.sent o.told (λ now. puts s (Running o.view) now) w (site_all s k o.told h.told) f)
-    (λ a. free_voids lines m o.sent o.told (λ now. puts s (Running o.view) (arms a now)) w (site_all s k o.told h.told) f)
-    (λ d a e. free_voids lines m [] (cut_told s v.store d a.how a.left) (stops_with s (cut_disk v.boot v.store d a.how a.left)) w (cut_none s d a.how (is_on_disk v.store d a.how a.left) (site_told s k (Shown d.says) (role_told s k (Shown d.says) (served_role d.says (subst RoleWrite e h.written))))) f)
+pub acts_voids : (c : Config) (lines : List ScheduleLine) (m s : ℕ) (k : Causes) (v : SiteView) (o : Outcome SiteView) (w : World) → Forms s v.boot k o → VoidsGo c lines w → VoidsGo c lines (acts m s v o w)
+acts_voids c lines m s k v o w h f =
+    acts_cases (VoidsGo c lines) m s v o w
+    (free_voids c lines m o.sent o.told (λ now. puts s (Running o.view) now) w (site_all s k o.told h.told) f)
+    (λ a. free_voids c lines m o.sent o.told (λ now. puts s (Running o.view) (arms a now)) w (site_all s k o.told h.told) f)
+    (λ d a e. free_voids c lines m [] (cut_told s v.store d a.how a.left) (stops_with s (cut_disk v.boot v.store d a.how a.left)) w (cut_none s d a.how (is_on_disk v.store d a.how a.left) (site_told s k (Shown d.says) (role_told s k (Shown d.says) (served_role d.says (subst RoleWrite e h.written))))) f)
 
-pub boots_voids : (lines : List ScheduleLine) (m s : ℕ) (b : Booted) (w : World) → VoidsGo lines w → VoidsGo lines (boots_as m s b w)
-boots_voids lines m s (Whole d None) w f = free_voids lines m [] (Shown (says.Up s d.label.boot) ∷ []) _ w (tt, tt) f
-boots_voids lines m s (Whole d (Some a)) w f = free_voids lines m [] (Shown (says.Up s d.label.boot) ∷ []) _ w (tt, tt) f
-boots_voids lines m s (CutOff d how) w f = free_voids lines m [] (Shown (says.Stopped s (cause_of how)) ∷ []) (stops_with s d) w (tt, tt) f
+pub boots_voids : (c : Config) (lines : List ScheduleLine) (m s : ℕ) (b : Booted) (w : World) → VoidsGo c lines w → VoidsGo c lines (boots_as m s b w)
+boots_voids c lines m s (Whole d None) w f = free_voids c lines m [] (Shown (says.Up s d.label.boot) ∷ []) _ w (tt, tt) f
+boots_voids c lines m s (Whole d (Some a)) w f = free_voids c lines m [] (Shown (says.Up s d.label.boot) ∷ []) _ w (tt, tt) f
+boots_voids c lines m s (CutOff d how) w f = free_voids c lines m [] (Shown (says.Stopped s (cause_of how)) ∷ []) (stops_with s d) w (tt, tt) f
 
 -- ---- a void call ----
 
@@ -124,24 +124,24 @@ some_found p (y ∷ ys) x a t =
 both_test : (a b c d : ℕ) → a ≡ b → c ≡ d → ((a == b) && (c == d)) ≡ true
 both_test a b c d e f = grind (arith, nat_tests)
 
-busy_waits : (s boot calls process : ℕ) (now : Trace) (rows : List WaitingCall) → list_any (λ (x : WaitingCall). x.process == process) rows ≡ true → Waits s boot now calls rows → is_some (waiting_of s process (waiting now)) ≡ true
-busy_waits s boot calls process now rows busy h =
+busy_waits : (c : Config) (s boot calls process : ℕ) (now : Trace) (rows : List WaitingCall) → list_any (λ (x : WaitingCall). x.process == process) rows ≡ true → Waits c s boot now calls rows → is_some (waiting_of s process (waiting now)) ≡ true
+busy_waits c s boot calls process now rows busy h =
     let k : (r : WaitingCall) × (Among r rows × (r.process ≡ process)) = any_row process rows busy in
     let x : IsWaiting s boot now k.0 = h.back k.0 k.1.0 in
     some_found (is_of s process) (waiting now) x.0 x.1.0 (both_test x.0.site s x.0.process process x.1.1.0 (x.1.1.1.0 ∙ k.1.1))
 
 -- the site is stopped, or its process waits
-void_place : (s process : ℕ) (w : World) (p : Place) → place_at w s ≡ Some p → is_busy process (Some p) ≡ true → StandsAs (trace_of w) s p → CallsStand w → (not (is_up (trace_of w) s) || is_some (waiting_of s process (waiting (trace_of w)))) ≡ true
-void_place s process w (Stopped d) here busy stands g = ap (λ (b : Bool). not b || is_some (waiting_of s process (waiting (trace_of w)))) stands.0
-void_place s process w (Running v) here busy stands g =
-    ap (λ (b : Bool). not (is_up (trace_of w) s) || b) (busy_waits s v.boot v.users.calls process (trace_of w) v.users.waiting busy (g.places s (Running v) here).waits) ∙ or_true (not (is_up (trace_of w) s))
+void_place : (c : Config) (s process : ℕ) (w : World) (p : Place) → place_at w s ≡ Some p → is_busy process (Some p) ≡ true → StandsAs c (trace_of w) s p → CallsStand c w → (not (is_up c (trace_of w) s) || is_some (waiting_of s process (waiting (trace_of w)))) ≡ true
+void_place c s process w (Stopped d) here busy stands g = ap (λ (b : Bool). not b || is_some (waiting_of s process (waiting (trace_of w)))) stands.0
+void_place c s process w (Running v) here busy stands g =
+    ap (λ (b : Bool). not (is_up c (trace_of w) s) || b) (busy_waits c s v.boot v.users.calls process (trace_of w) v.users.waiting busy (g.places s (Running v) here).waits) ∙ or_true (not (is_up c (trace_of w) s))
 
-void_call : (c : Config) (lines : List ScheduleLine) (n s process : ℕ) (words : Call) (w : World) → is_site c.sites s ≡ true → is_busy process (place_at w s) ≡ true → HasPlaces c w → InCourse lines n w → CallsStand w → may_be_void (has_no_effect (take n lines) (trace_of w) (line.Call s process words)) ≡ true
+void_call : (c : Config) (lines : List ScheduleLine) (n s process : ℕ) (words : Call) (w : World) → is_site c.sites s ≡ true → is_busy process (place_at w s) ≡ true → HasPlaces c w → InCourse c lines n w → CallsStand c w → may_be_void (has_no_effect c (take n lines) (trace_of w) (line.Call s process words)) ≡ true
 void_call c lines n s process words w fit busy has f g =
     let r : (p : Place) × (place_at w s ≡ Some p) = has s fit in
-    void_place s process w r.0 r.1 (sym (ap (is_busy process) r.1) ∙ busy) (f.places s r.0 r.1) g
+    void_place c s process w r.0 r.1 (sym (ap (is_busy process) r.1) ∙ busy) (f.places s r.0 r.1) g
 
 -- of a void line that is a call
-pub void_effect : (c : Config) (lines : List ScheduleLine) (n : ℕ) (l : LineWords) (w : World) → fits_event c.sites l ≡ true → is_call (EventLine l) ≡ true → IsVoidIn w l → HasPlaces c w → InCourse lines n w → CallsStand w → may_be_void (has_no_effect (take n lines) (trace_of w) l) ≡ true
+pub void_effect : (c : Config) (lines : List ScheduleLine) (n : ℕ) (l : LineWords) (w : World) → fits_event c.sites l ≡ true → is_call (EventLine l) ≡ true → IsVoidIn w l → HasPlaces c w → InCourse c lines n w → CallsStand c w → may_be_void (has_no_effect c (take n lines) (trace_of w) l) ≡ true
 void_effect c lines n (line.Call site process words) w fit call void has f g = void_call c lines n site process words w (both_true (is_site c.sites site) (is_between 1 8 process) (both_true (is_site c.sites site && is_between 1 8 process) (fits_call c.sites words) fit).0).0 void has f g
 void_effect c lines n _ w fit call void has f g = absurd (false_true call)

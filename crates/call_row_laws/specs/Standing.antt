@@ -1,4 +1,5 @@
 -- What an event leaves of the waiting calls, the serial numbers and the descriptors of a site.
+use Rattle.locus_ids.specs.declared.config.Config.{Config}
 use Rattle.std.specs.Prelude.{ℕ, ◌≡◌, true, false, List, [], ◌∷◌, Option, Some, None}
 use Rattle.locus_ids.specs.declared.ids.EpochId.{EpochId}
 use Rattle.trace_book.specs.declared.record.Record.{Record}
@@ -18,10 +19,10 @@ use Rattle.call_row_laws.specs.Waiting.{after, AllAccepted, OfSite, Waits, NoneW
 
 -- ---- a part of the users of a site ----
 
-pub record UsersDo (known : EpochId → Type 0) (s boot : ℕ) (now : Option EpochId) (m : ℕ) (trace : Trace) (o : Outcome Users) : Type 0 where
-  pub waits : Waits s boot (after m o.told trace) o.view.calls o.view.waiting
+pub record UsersDo (c : Config) (known : EpochId → Type 0) (s boot : ℕ) (now : Option EpochId) (m : ℕ) (trace : Trace) (o : Outcome Users) : Type 0 where
+  pub waits : Waits c s boot (after m o.told trace) o.view.calls o.view.waiting
   pub owned : Owned known now o.view
-  pub rows : AllAccepted m o.told trace
+  pub rows : AllAccepted c m o.told trace
   pub own : Every (OfSite s) o.told
   pub none : o.written ≡ None
 
@@ -36,8 +37,8 @@ IsInside s trace None = Unit {0}
 IsInside s trace (Some e) = WasIn s trace e.id
 
 -- a running site's calls wait as the records say, and its descriptors are of epochs that it was in
-pub record Stands (s : ℕ) (trace : Trace) (v : SiteView) : Type 0 where
-  pub waits : Waits s v.boot trace v.users.calls v.users.waiting
+pub record Stands (c : Config) (s : ℕ) (trace : Trace) (v : SiteView) : Type 0 where
+  pub waits : Waits c s v.boot trace v.users.calls v.users.waiting
   pub owned : Owned (WasIn s trace) (epoch_id v.epoch) v.users
   pub tables : Every LooksInward v.tables
   pub inside : IsInside s trace v.epoch
@@ -56,21 +57,21 @@ AllNew m [] trace = Unit {0}
 AllNew m (x ∷ xs) trace = NewTold trace x × AllNew m xs (with_told m x trace)
 
 -- what an event, or a part of it, leaves and tells
-pub record SiteDone (s m : ℕ) (trace : Trace) (o : Outcome SiteView) : Type 0 where
-  pub view : Stands s (after m o.told trace) o.view
-  pub rows : AllAccepted m o.told trace
+pub record SiteDone (c : Config) (s m : ℕ) (trace : Trace) (o : Outcome SiteView) : Type 0 where
+  pub view : Stands c s (after m o.told trace) o.view
+  pub rows : AllAccepted c m o.told trace
   pub own : Every (OfSite s) o.told
 
 -- where its joins are new
-abbrev pub SiteDoes : ℕ → ℕ → Trace → Outcome SiteView → Type 0
-SiteDoes s m trace o = AllNew m o.told trace → SiteDone s m trace o
+abbrev pub SiteDoes : Config → ℕ → ℕ → Trace → Outcome SiteView → Type 0
+SiteDoes c s m trace o = AllNew m o.told trace → SiteDone c s m trace o
 
 -- ---- the world ----
 
-abbrev pub PlaceStands : ℕ → Trace → Place → Type 0
-PlaceStands s trace (Running v) = Stands s trace v
-PlaceStands s trace (Stopped d) = NoneWaits s trace
+abbrev pub PlaceStands : Config → ℕ → Trace → Place → Type 0
+PlaceStands c s trace (Running v) = Stands c s trace v
+PlaceStands c s trace (Stopped d) = NoneWaits s trace
 
-pub record CallsStand (w : World) : Type 0 where
-  pub rows : EachRecord IsAcceptRow (trace_of w)
-  pub places : (s : ℕ) (p : Place) → place_at w s ≡ Some p → PlaceStands s (trace_of w) p
+pub record CallsStand (c : Config) (w : World) : Type 0 where
+  pub rows : EachRecord (IsAcceptRow c) (trace_of w)
+  pub places : (s : ℕ) (p : Place) → place_at w s ≡ Some p → PlaceStands c s (trace_of w) p

@@ -1,4 +1,5 @@
 -- How the waiting calls of a running site stand by the records so far.
+use Rattle.locus_ids.specs.declared.config.Config.{Config}
 use Rattle.std.specs.Prelude.{ℕ, ◌≡◌, ◌≤◌, ◌<◌, ◌⊎◌, true, List, [], ◌∷◌}
 use Rattle.trace_book.specs.declared.call.Call.{Call}
 use Rattle.trace_book.specs.declared.call.Call.TheVariants as call
@@ -24,14 +25,14 @@ abbrev pub after : ℕ → List Told → Trace → Trace
 after m [] now = now
 after m (x ∷ xs) now = after m xs (with_told m x now)
 
-abbrev pub AcceptTold : Trace → Told → Type 0
-AcceptTold now (Shown r) = AcceptRecord now r
-AcceptTold now _ = Unit {0}
+abbrev pub AcceptTold : Config → Trace → Told → Type 0
+AcceptTold c now (Shown r) = AcceptRecord c now r
+AcceptTold c now _ = Unit {0}
 
 -- each call that is accepted comes as it may
-abbrev pub AllAccepted : ℕ → List Told → Trace → Type 0
-AllAccepted m [] now = Unit {0}
-AllAccepted m (x ∷ xs) now = AcceptTold now x × AllAccepted m xs (with_told m x now)
+abbrev pub AllAccepted : Config → ℕ → List Told → Trace → Type 0
+AllAccepted c m [] now = Unit {0}
+AllAccepted c m (x ∷ xs) now = AcceptTold c now x × AllAccepted c m xs (with_told m x now)
 
 -- nothing is told of calls, boots and stops, but for calls of this site
 abbrev pub OfSiteRecord : ℕ → Record → Type 0
@@ -68,8 +69,8 @@ abbrev pub Keyed : WaitingCall → Type 0
 Keyed r = KeyedAs r.process r.words
 
 -- The site runs in this boot, has accepted so many calls, and exactly those of these rows wait.
-pub record Waits (s boot : ℕ) (now : Trace) (calls : ℕ) (rows : List WaitingCall) : Type 0 where
-  pub up : is_up now s ≡ true
+pub record Waits (c : Config) (s boot : ℕ) (now : Trace) (calls : ℕ) (rows : List WaitingCall) : Type 0 where
+  pub up : is_up c now s ≡ true
   pub boot_is : boot_of now s ≡ boot
   pub counted : calls_accepted now s ≡ calls
   pub there : (x : Waiting) → Among x (waiting now) → x.site ≡ s → HasRow s boot x rows
@@ -89,8 +90,8 @@ abbrev pub IsOther : WaitingCall → WaitingCall → Type 0
 IsOther w r = waiting_key r ≡ waiting_key w → ⊥
 
 -- The call waits by the records. Its row is still to be put, or to be replaced; all others have theirs.
-pub record Goes (s boot : ℕ) (now : Trace) (calls : ℕ) (rows : List WaitingCall) (w : WaitingCall) : Type 0 where
-  pub up : is_up now s ≡ true
+pub record Goes (c : Config) (s boot : ℕ) (now : Trace) (calls : ℕ) (rows : List WaitingCall) (w : WaitingCall) : Type 0 where
+  pub up : is_up c now s ≡ true
   pub boot_is : boot_of now s ≡ boot
   pub counted : calls_accepted now s ≡ calls
   pub rises : Rises waiting_key 0 rows

@@ -12,7 +12,7 @@ ghost use Rattle.call_row_laws.specs.Tree.{MeetsTheTree};
 /// After every schedule whose lines are in range for the cluster, each call was accepted where its site ran and its process
 /// waited for nothing, as the next call of that boot of the site; a mend was the next call, too.
 pub fn calls_are_accepted()
-    ensures { (c : Config) (lines : List ScheduleLine) → LinesFit c lines → EachRecord IsAcceptRow (trace_of (run_in c lines)) }
+    ensures { (c : Config) (lines : List ScheduleLine) → LinesFit c lines → EachRecord (IsAcceptRow c) (trace_of (run_in c lines)) }
 {}
 
 /// After every schedule whose lines are in range for the cluster, a call line that tells that it is void is so by the records

@@ -11,6 +11,7 @@ use Rattle.call_rules.specs.of_commit_graph.Vectors.{numbers_from}
 use Rattle.trace_book.specs.declared.entry.Entry.{Entry}
 use Rattle.disk_calls.specs.of_schedule_lines.declared.line.ScheduleLine.{ScheduleLine}
 use Rattle.disk_calls.specs.of_schedule_lines.declared.line.ScheduleLine.TheVariants.{Passed}
+use Rattle.disk_calls.specs.of_schedule_lines.Cluster.{config_of}
 use Rattle.tree_model.specs.Folds.{Trace, before_line, last_line}
 use Rattle.tree_model.specs.Epochs.{boot_of}
 use Rattle.lawful_trace.specs.Places.{line_at, lines_before, initiator, starts_at}
@@ -28,7 +29,7 @@ pub lines_before_kept : (lines more : List ScheduleLine) (n : ℕ) → n ≤ len
 lines_before_kept lines more n h = take-append-le (n - 1) lines more (omega arith)
 
 pub initiator_kept : (lines more : List ScheduleLine) (before : Trace) (n : ℕ) → n ≤ length lines → initiator (lines ++ more) before n ≡ initiator lines before n
-initiator_kept lines more before n h = ap (λ l. starts_at l (before_line before n)) (line_kept lines more n h)
+initiator_kept lines more before n h = ap (λ l. starts_at (config_of lines) l (before_line before n)) (line_kept lines more n h)
 
 -- two tests that agree on some numbers find the same among them
 any_same : (p q : ℕ → Bool) (first many : ℕ) → ((m : ℕ) → m < first + many → p m ≡ q m) → list_any p (numbers_from first many) ≡ list_any q (numbers_from first many)
@@ -43,8 +44,8 @@ polled_kept lines more before n site h = any_same (λ m. is_another (initiator (
 
 pub void_kept : (lines more : List ScheduleLine) (before : Trace) (n : ℕ) → n ≤ length lines → is_void_line (lines ++ more) before n ≡ is_void_line lines before n
 void_kept lines more before n h =
-    ap (λ ls. is_void_after ls (before_line before n) (line_at (lines ++ more) n)) (lines_before_kept lines more n h)
-    ∙ ap (λ l. is_void_after (lines_before lines n) (before_line before n) l) (line_kept lines more n h)
+    ap (λ ls. is_void_after (config_of lines) ls (before_line before n) (line_at (lines ++ more) n)) (lines_before_kept lines more n h)
+    ∙ ap (λ l. is_void_after (config_of lines) (lines_before lines n) (before_line before n) l) (line_kept lines more n h)
 
 -- the lines between two numbers are the same
 between_kept : (lines more : List ScheduleLine) (first last : ℕ) → first ≤ last → last ≤ length lines

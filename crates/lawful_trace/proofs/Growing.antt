@@ -74,7 +74,7 @@ void_line_kept : (lines more : List ScheduleLine) (new trace : Trace) (m : ℕ) 
     → is_void_line (lines ++ more) (new ++ trace) m ≡ is_void_line lines trace m
 void_line_kept lines more new trace m fresh h =
     void_kept lines more (new ++ trace) m h
-    ∙ ap (λ b. is_void_after (lines_before lines m) b (line_at lines m)) (before_kept (length lines + 1) m new trace fresh (omega arith))
+    ∙ ap (λ b. is_void_after (config_of lines) (lines_before lines m) b (line_at lines m)) (before_kept (length lines + 1) m new trace fresh (omega arith))
 
 told_kept : (lines more : List ScheduleLine) (new trace : Trace) (m : ℕ) → AllByRecursion (λ (r : Entry). r.line ≡ length lines + 1) new → m ≤ length lines
     → is_told (lines ++ more) (new ++ trace) m ≡ is_told lines trace m
@@ -162,14 +162,14 @@ quiet_at : (lines : List ScheduleLine) (n : ℕ) → has_begun lines ≡ false �
 quiet_at lines zero h = refl
 quiet_at lines (suc n) h = quiet_in lines n h
 
-quiet_told : (earlier : List ScheduleLine) (n : ℕ) (l : ScheduleLine) → is_event l ≡ false → is_told_by (is_void_after earlier [] l) l n [] ≡ true
-quiet_told earlier n Passed h = refl
-quiet_told earlier n (Header header) h = refl
-quiet_told earlier n (Event e) h = absurd (both_ways (is_event (Event e)) h refl)
+quiet_told : (c : Config) (earlier : List ScheduleLine) (n : ℕ) (l : ScheduleLine) → is_event l ≡ false → is_told_by (is_void_after c earlier [] l) l n [] ≡ true
+quiet_told c earlier n Passed h = refl
+quiet_told c earlier n (Header header) h = refl
+quiet_told c earlier n (Event e) h = absurd (both_ways (is_event (Event e)) h refl)
 
 pub lawful_at_first : (lines : List ScheduleLine) → has_begun lines ≡ false → IsLawful lines []
 lawful_at_first lines h = record {
   each = tt;
-  told = all_to (is_told lines []) 1 (length lines) (λ m low high. quiet_told (lines_before lines m) m (line_at lines m) (quiet_at lines m h));
+  told = all_to (is_told lines []) 1 (length lines) (λ m low high. quiet_told (config_of lines) (lines_before lines m) m (line_at lines m) (quiet_at lines m h));
   calls = refl;
 }

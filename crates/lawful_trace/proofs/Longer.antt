@@ -43,7 +43,7 @@ call_line_kept lines more n site process (call.Close fd) h asked = record { aske
 cut_asked_kept : (c : Config) (lines more : List ScheduleLine) (before : Trace) (n site : ℕ) (fault : Bool) → EachComes c lines before → last_line before ≤ n → n ≤ length lines
     → IsCutAsked c lines n before site fault → IsCutAsked c (lines ++ more) n before site fault
 cut_asked_kept c lines more before n site fault each order h asked = record {
-  working = ap (λ l. is_up before site || boots l site) (line_kept lines more n h) ∙ asked.working;
+  working = ap (λ l. is_up c before site || boots l site) (line_kept lines more n h) ∙ asked.working;
   armed = ap (λ a. is_armed_as fault a) (armed_kept c lines more before n site each order h) ∙ asked.armed;
   counted = cut_kept c lines more before n site each order h ∙ asked.counted;
 }

@@ -43,8 +43,8 @@ abbrev pub next_call : Trace → ℕ → CallId
 next_call before site = record { site = site; boot = boot_of before site; n = calls_accepted before site + 1 }
 
 -- A call is accepted where its site runs and its process waits for nothing.
-pub record MayAccept (before : Trace) (site process : ℕ) (call : CallId) : Type 0 where
-  pub up : is_up before site ≡ true
+pub record MayAccept (c : Config) (before : Trace) (site process : ℕ) (call : CallId) : Type 0 where
+  pub up : is_up c before site ≡ true
   pub idle : waiting_of site process (waiting before) ≡ None
   pub numbered : call ≡ next_call before site
 
@@ -109,7 +109,7 @@ pub record MayMend (c : Config) (before : Trace) (site process : ℕ) (call : Ca
 
 abbrev pub CallRow : Config → Trace → ℕ → ℕ → CallId → Call → Type 0
 CallRow c before site process call (Mend file) = MayMend c before site process call file
-CallRow c before site process call _ = MayAccept before site process call
+CallRow c before site process call _ = MayAccept c before site process call
 
 -- no line asks for a mend
 abbrev pub CallLine : List ScheduleLine → ℕ → ℕ → ℕ → Call → Type 0

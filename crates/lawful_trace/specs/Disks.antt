@@ -124,7 +124,7 @@ stopped_with false d (Some a) = record { armed = None; halves = are_halves_open 
 
 abbrev pub disk_after : Record → Config → Trace → ℕ → Disk → Disk
 disk_after (Up s boot) c before site d = cond (s == site) (booted_with d d.armed) d
-disk_after (Stopped s cause) c before site d = cond (s == site) (stopped_with (is_up before site) d d.armed) d
+disk_after (Stopped s cause) c before site d = cond (s == site) (stopped_with (is_up c before site) d d.armed) d
 disk_after (Commit f s stamp parents content) c before site d = cond (s == site) (written (writing_commit c before f site) d) d
 disk_after (Adopt f s stamp) c before site d = cond (s == site) (written (writing_adoption c before f site stamp) d) d
 disk_after _ c before site d = d

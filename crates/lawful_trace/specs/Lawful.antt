@@ -16,10 +16,10 @@ use Rattle.lawful_trace.specs.Disks.{keeps_calls}
 
 -- What must stand before a record.
 abbrev pub MayCome : Config → Trace → Record → Type 0
-MayCome c before (Up site boot) = MayBoot before site boot
-MayCome c before (Stopped site cause) = StopRow before site cause
+MayCome c before (Up site boot) = MayBoot c before site boot
+MayCome c before (Stopped site cause) = StopRow c before site cause
 MayCome c before (Leave site epoch) = MayLeave before site epoch
-MayCome c before (Join site epoch members) = MayJoin before site epoch members
+MayCome c before (Join site epoch members) = MayJoin c before site epoch members
 MayCome c before (Start e group copies) = MayStart c before e group copies
 MayCome c before (Accept site process call words) = CallRow c before site process call words
 MayCome c before (Look e call request f w result) = MayLook c before e call request f w result

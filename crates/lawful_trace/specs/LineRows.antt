@@ -2,6 +2,7 @@
 use Rattle.std.specs.Prelude.{ℕ, ◌≡◌, ◌==◌, Bool, true, false, not, ◌&&◌, ◌||◌, List, length, filter, Option, None, Some, nat_le}
 use Rattle.std.specs.Option.{is_none, is_some}
 use Rattle.std.specs.List.{list_all}
+use Rattle.locus_ids.specs.declared.config.Config.{Config}
 use Rattle.call_rules.specs.of_commit_graph.Vectors.{numbers_from}
 use Rattle.trace_book.specs.declared.entry.Entry.{Entry}
 use Rattle.trace_book.specs.declared.record.Record.{Record}
@@ -12,6 +13,7 @@ use Rattle.disk_calls.specs.of_schedule_lines.declared.line.Line.{Line}
 use Rattle.disk_calls.specs.of_schedule_lines.declared.line.Line.TheVariants as line
 use Rattle.disk_calls.specs.of_schedule_lines.declared.line.ScheduleLine.{ScheduleLine}
 use Rattle.disk_calls.specs.of_schedule_lines.declared.line.ScheduleLine.TheVariants.{Passed, Header, Event}
+use Rattle.disk_calls.specs.of_schedule_lines.Cluster.{config_of}
 use Rattle.tree_model.specs.Folds.{Trace, before_line}
 use Rattle.tree_model.specs.Epochs.{is_up, epoch_of}
 use Rattle.tree_model.specs.Calls.{waiting, waiting_of}
@@ -20,37 +22,37 @@ use Rattle.lawful_trace.specs.Places.{line_at, lines_before, is_cut}
 -- Void lines.
 
 -- a site that is stopped, or in no epoch
-abbrev pub is_apart : Trace → ℕ → Bool
-is_apart before site = not (is_up before site) || is_none (epoch_of before site)
+abbrev pub is_apart : Config → Trace → ℕ → Bool
+is_apart c before site = not (is_up c before site) || is_none (epoch_of before site)
 
 -- whether a line has no effect after these lines and records: its site or its circuit is as the line would have it, or the
 -- site can't do it. Of a line that delivers or loses a packet only the packets sent can tell.
-abbrev pub has_no_effect : List ScheduleLine → Trace → Line → Option Bool
-has_no_effect earlier before (line.Call site process words) = Some (not (is_up before site) || is_some (waiting_of site process (waiting before)))
-has_no_effect earlier before (line.Deliver packet) = None
-has_no_effect earlier before (line.Lose packet) = None
-has_no_effect earlier before (line.Tick site) = Some (not (is_up before site))
-has_no_effect earlier before (line.Down one other) = Some (is_cut earlier one other)
-has_no_effect earlier before (line.Up one other) = Some (not (is_cut earlier one other))
-has_no_effect earlier before (line.Part site) = Some (is_apart before site)
-has_no_effect earlier before (line.Merge site) = Some (not (is_up before site))
-has_no_effect earlier before (line.GiveUp site) = Some (is_apart before site)
-has_no_effect earlier before (line.Stop site) = Some (not (is_up before site))
-has_no_effect earlier before (line.ArmStop site calls leave) = Some false
-has_no_effect earlier before (line.ArmFail site calls) = Some false
-has_no_effect earlier before (line.Boot site) = Some (is_up before site)
-has_no_effect earlier before (line.Settle most) = Some false
-has_no_effect earlier before line.Pending = Some false
+abbrev pub has_no_effect : Config → List ScheduleLine → Trace → Line → Option Bool
+has_no_effect c earlier before (line.Call site process words) = Some (not (is_up c before site) || is_some (waiting_of site process (waiting before)))
+has_no_effect c earlier before (line.Deliver packet) = None
+has_no_effect c earlier before (line.Lose packet) = None
+has_no_effect c earlier before (line.Tick site) = Some (not (is_up c before site))
+has_no_effect c earlier before (line.Down one other) = Some (is_cut earlier one other)
+has_no_effect c earlier before (line.Up one other) = Some (not (is_cut earlier one other))
+has_no_effect c earlier before (line.Part site) = Some (is_apart c before site)
+has_no_effect c earlier before (line.Merge site) = Some (not (is_up c before site))
+has_no_effect c earlier before (line.GiveUp site) = Some (is_apart c before site)
+has_no_effect c earlier before (line.Stop site) = Some (not (is_up c before site))
+has_no_effect c earlier before (line.ArmStop site calls leave) = Some false
+has_no_effect c earlier before (line.ArmFail site calls) = Some false
+has_no_effect c earlier before (line.Boot site) = Some (is_up c before site)
+has_no_effect c earlier before (line.Settle most) = Some false
+has_no_effect c earlier before line.Pending = Some false
 
 -- a header line and a line that is passed over are no events, and so never void
-abbrev pub is_void_after : List ScheduleLine → Trace → ScheduleLine → Option Bool
-is_void_after earlier before Passed = Some false
-is_void_after earlier before (Header h) = Some false
-is_void_after earlier before (Event l) = has_no_effect earlier before l
+abbrev pub is_void_after : Config → List ScheduleLine → Trace → ScheduleLine → Option Bool
+is_void_after c earlier before Passed = Some false
+is_void_after c earlier before (Header h) = Some false
+is_void_after c earlier before (Event l) = has_no_effect c earlier before l
 
 -- whether the line with this number is void
 abbrev pub is_void_line : List ScheduleLine → Trace → ℕ → Option Bool
-is_void_line lines trace n = is_void_after (lines_before lines n) (before_line trace n) (line_at lines n)
+is_void_line lines trace n = is_void_after (config_of lines) (lines_before lines n) (before_line trace n) (line_at lines n)
 
 -- it is, or only the packets can tell
 abbrev pub may_be_void : Option Bool → Bool

@@ -20,7 +20,7 @@ use Rattle.lawful_trace.specs.SiteRows.{makes_leave}
 
 -- as the line finds them, a site of the cluster is reached by another
 abbrev pub is_reached : List ScheduleLine → Trace → ℕ → ℕ → ℕ → Bool
-is_reached lines trace n from s = nat_le 1 s && (nat_le s (config_of lines).sites && reaches (lines_before lines n) (before_line trace n) from s)
+is_reached lines trace n from s = nat_le 1 s && (nat_le s (config_of lines).sites && reaches (config_of lines) (lines_before lines n) (before_line trace n) from s)
 
 -- the list has the site, with this boot number
 abbrev pub lists : Option Members → ℕ → ℕ → Bool

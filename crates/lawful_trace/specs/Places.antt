@@ -2,9 +2,11 @@
 use Rattle.std.specs.Prelude.{ℕ, zero, suc, ◌+◌, ◌-◌, ◌==◌, Bool, false, not, ◌&&◌, ◌||◌, cond, List, take, fold, Option, None, Some, slice_index_or}
 use Rattle.std.specs.Option.{is_some}
 use Rattle.std.specs.List.{list_all}
+use Rattle.locus_ids.specs.declared.config.Config.{Config}
 use Rattle.disk_calls.specs.of_schedule_lines.declared.line.ScheduleLine.{ScheduleLine}
 use Rattle.disk_calls.specs.of_schedule_lines.declared.line.ScheduleLine.TheVariants.{Passed, Event}
 use Rattle.disk_calls.specs.of_schedule_lines.declared.line.Line.TheVariants as line
+use Rattle.disk_calls.specs.of_schedule_lines.Cluster.{config_of}
 use Rattle.tree_model.specs.Folds.{Trace, before_line}
 use Rattle.tree_model.specs.Epochs.{is_up, epoch_of}
 use Rattle.tree_model.specs.Packs.{all_sites}
@@ -47,17 +49,17 @@ is_cut lines s t = fold (λ old l. cut_after l s t old) false lines
 
 -- after these lines and these records the first site reaches the second: it is the same, or their circuit isn't cut; and
 -- both are up
-abbrev pub reaches : List ScheduleLine → Trace → ℕ → ℕ → Bool
-reaches lines now s t = is_up now s && is_up now t && ((s == t) || not (is_cut lines s t))
+abbrev pub reaches : Config → List ScheduleLine → Trace → ℕ → ℕ → Bool
+reaches c lines now s t = is_up c now s && is_up c now t && ((s == t) || not (is_cut lines s t))
 
 -- Who starts a protocol.
 
 -- the site that starts to part or to merge by this line: a stopped one doesn't, and one in no epoch doesn't part
-abbrev pub starts_at : ScheduleLine → Trace → Option ℕ
-starts_at (Event (line.Part site)) before = cond (is_up before site && is_some (epoch_of before site)) (Some site) None
-starts_at (Event (line.Merge site)) before = cond (is_up before site) (Some site) None
-starts_at _ before = None
+abbrev pub starts_at : Config → ScheduleLine → Trace → Option ℕ
+starts_at c (Event (line.Part site)) before = cond (is_up c before site && is_some (epoch_of before site)) (Some site) None
+starts_at c (Event (line.Merge site)) before = cond (is_up c before site) (Some site) None
+starts_at c _ before = None
 
 -- the site that starts by the line with this number
 abbrev pub initiator : List ScheduleLine → Trace → ℕ → Option ℕ
-initiator lines trace n = starts_at (line_at lines n) (before_line trace n)
+initiator lines trace n = starts_at (config_of lines) (line_at lines n) (before_line trace n)

@@ -20,8 +20,8 @@ use Rattle.lawful_trace.specs.Disks.{armed_at, is_armed_as, may_cut}
 -- Boots and stops.
 
 -- A stopped site boots with a number above all that it had.
-pub record MayBoot (before : Trace) (site boot : ℕ) : Type 0 where
-  pub stopped : is_up before site ≡ false
+pub record MayBoot (c : Config) (before : Trace) (site boot : ℕ) : Type 0 where
+  pub stopped : is_up c before site ≡ false
   pub above : nat_lt (boot_of before site) boot ≡ true
 
 -- Its line asks for it.
@@ -29,18 +29,18 @@ pub record IsBootAsked (lines : List ScheduleLine) (n site : ℕ) : Type 0 where
   pub asked : line_at lines n ≡ Event (line.Boot site)
 
 -- A running site stops.
-pub record MayStop (before : Trace) (site : ℕ) : Type 0 where
-  pub up : is_up before site ≡ true
+pub record MayStop (c : Config) (before : Trace) (site : ℕ) : Type 0 where
+  pub up : is_up c before site ≡ true
 
 -- Its line asks for it.
 pub record IsStopAsked (lines : List ScheduleLine) (n site : ℕ) : Type 0 where
   pub asked : line_at lines n ≡ Event (line.Stop site)
 
 -- a site that is stopped within a disk call may do so in its boot, and then it doesn't run
-abbrev pub StopRow : Trace → ℕ → StopCause → Type 0
-StopRow before site cause.Asked = MayStop before site
-StopRow before site cause.Fuse = Unit {0}
-StopRow before site cause.Fault = Unit {0}
+abbrev pub StopRow : Config → Trace → ℕ → StopCause → Type 0
+StopRow c before site cause.Asked = MayStop c before site
+StopRow c before site cause.Fuse = Unit {0}
+StopRow c before site cause.Fault = Unit {0}
 
 -- the line boots the site
 abbrev pub boots : ScheduleLine → ℕ → Bool
@@ -49,7 +49,7 @@ boots _ site = false
 
 -- A site that runs or boots is stopped within a disk call, as a line has armed its disk: for a fault, or for a stop.
 pub record IsCutAsked (c : Config) (lines : List ScheduleLine) (n : ℕ) (before : Trace) (site : ℕ) (fault : Bool) : Type 0 where
-  pub working : is_up before site || boots (line_at lines n) site ≡ true
+  pub working : is_up c before site || boots (line_at lines n) site ≡ true
   pub armed : is_armed_as fault (armed_at c lines before n site) ≡ true
   pub counted : may_cut c lines before n site ≡ true
 
@@ -99,8 +99,8 @@ is_asked_for lines before n e = list_any (λ m. starts_in lines before m e.site 
 
 -- A site that runs joins an epoch that it never joined, above all that it joined in this boot, as one of its members;
 -- every member joins it with the same list.
-pub record MayJoin (before : Trace) (site : ℕ) (e : EpochId) (members : Members) : Type 0 where
-  pub up : is_up before site ≡ true
+pub record MayJoin (c : Config) (before : Trace) (site : ℕ) (e : EpochId) (members : Members) : Type 0 where
+  pub up : is_up c before site ≡ true
   pub outside : epoch_of before site ≡ None
   pub new : has_joined before site e ≡ false
   pub later : is_above_joined (last_joined before site) e ≡ true

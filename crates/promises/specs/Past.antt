@@ -29,7 +29,7 @@ use Rattle.lawful_trace.specs.of_call_rules.declared.want.Want.{Want}
 use Rattle.lawful_trace.specs.of_call_rules.Scripts.{wants}
 use Rattle.lawful_trace.specs.of_call_rules.Walks.{root_of}
 use Rattle.lawful_trace.specs.of_tree_model.declared.instance.Granted.{Granted}
-use Rattle.lawful_trace.specs.of_tree_model.Epochs.{is_in}
+use Rattle.lawful_trace.specs.of_tree_model.Epochs.{starts_up, is_in}
 use Rattle.lawful_trace.specs.of_tree_model.Histories.{format_version, format_stamp}
 use Rattle.lawful_trace.specs.of_tree_model.Packs.{has_pack, packs_of, is_member, all_sites, no_sites}
 
@@ -256,7 +256,7 @@ groups = numbers_from 0 4
 abbrev pub first_site : Config → ℕ → Site
 first_site c site = record no_site {
   number = site;
-  up = true;
+  up = starts_up c site;
   boot = 1;
   held = map (λ group. record { file = root_of group; stamp = format_stamp }) (filter (λ group. has_pack c group site) groups);
 }

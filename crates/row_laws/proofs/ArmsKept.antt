@@ -34,7 +34,7 @@ use Rattle.row_laws.proofs.ArmsRun.{stop_arms, acts_arms, boot_arms, ArmsNone, n
 use Rattle.row_laws.proofs.ByLine.{every_line}
 
 pub record Armed (c : Config) (lines : List ScheduleLine) (n : ℕ) (w : World) : Type 0 where
-  pub courses : Courses lines n w
+  pub courses : Courses c lines n w
   pub arms : ArmsInCourse c lines n w
 
 -- ---- lines that arm no disk ----
@@ -121,7 +121,7 @@ arms_kept c lines = record {
   receives = λ n l x v w is d here sent p. record {
     courses = kept.receives n l x v w is d here sent p.courses;
     arms = acts_arms c lines n x.packet.to (causes_of x.packet.to (links_of w x.packet.to) v (Receives x.packet)) v (step c x.packet.to (links_of (passed x.number w) x.packet.to) v (Receives x.packet)) (passed x.number w)
-        (step_forms (DeedsOf w.trace x.packet.to) x.packet.to c (links_of (passed x.number w) x.packet.to) v (Receives x.packet) (p.courses.good.views x.packet.to v here) (p.courses.course.places x.packet.to (Running v) here).2 (sent_polls lines n w x sent p.courses.course)).told
+        (step_forms (DeedsOf w.trace x.packet.to) x.packet.to c (links_of (passed x.number w) x.packet.to) v (Receives x.packet) (p.courses.good.views x.packet.to v here) (p.courses.course.places x.packet.to (Running v) here).2 (sent_polls c lines n w x sent p.courses.course)).told
         (step_disk c x.packet.to (links_of (passed x.number w) x.packet.to) v (Receives x.packet)) (same_arms c lines n w (passed x.number w) refl refl p.arms);
   };
   passes = λ n k w p. record { courses = kept.passes n k w p.courses; arms = same_arms c lines n w _ refl refl p.arms };
@@ -140,7 +140,7 @@ arms_kept c lines = record {
   booting = λ n s d w there is here p. record { courses = kept.booting n s d w there is here p.courses; arms = boot_arms c lines (n + 1) s d w (begun_arms c lines n (line.Boot s) w there is tt p) };
 }
   where
-    kept : KeptIn c lines (Courses lines)
+    kept : KeptIn c lines (Courses c lines)
     kept = courses_kept c lines
 
 first_arms : (c : Config) (lines : List ScheduleLine) → Armed c lines 0 (first_world c)

@@ -38,10 +38,10 @@ stopped_none true d (Some a) = refl
 stopped_none false d (Some a) = refl
 
 stopped_here : (c : Config) (s : ℕ) (why : StopCause) (before : Trace) (d : Disk) → (disk_after (says.Stopped s why) c before s d).armed ≡ None
-stopped_here c s why before d = ap (λ (b : Bool). (cond b (stopped_with (is_up before s) d d.armed) d).armed) (equal_self s) ∙ stopped_none (is_up before s) d d.armed
+stopped_here c s why before d = ap (λ (b : Bool). (cond b (stopped_with (is_up c before s) d d.armed) d).armed) (equal_self s) ∙ stopped_none (is_up c before s) d d.armed
 
 stopped_there : (c : Config) (s t : ℕ) (why : StopCause) (before : Trace) (d : Disk) → s ≢ t → disk_after (says.Stopped s why) c before t d ≡ d
-stopped_there c s t why before d ne = ap (λ (b : Bool). cond b (stopped_with (is_up before t) d d.armed) d) (apart_test s t ne)
+stopped_there c s t why before d ne = ap (λ (b : Bool). cond b (stopped_with (is_up c before t) d d.armed) d) (apart_test s t ne)
 
 -- the site's disk isn't armed any more, and the others are as they were
 stopped_armed : (c : Config) (lines : List ScheduleLine) (m s t : ℕ) (why : StopCause) (before : Trace) (xs : List Script) (old new : Option Script) → new ≡ None ⊎ (s ≢ t) → (s ≢ t → new ≡ old) → (s ≢ t → ArmedAs (armed_at c lines before m t) old) → ArmedAs (armed_at c lines (record { line = m; what = says.Stopped s why } ∷ before) m t) new

@@ -1,4 +1,6 @@
 -- In every run the lines have asked for each record, and the sites stand as the records say.
+use Rattle.locus_ids.specs.declared.config.Config.{Config}
+use Rattle.schedule_lines.specs.Cluster.{config_of}
 use Rattle.std.proofs.Common.{◌≡◌, ◌≢◌, ◌≤◌, ℕ, ◌+◌, ◌==◌, nat_lt, Bool, true, false, cond, ◌||◌, ◌&&◌, not, List, [], ◌∷◌, map, Option, Some, None, refl, sym, ◌∙◌, ap, subst, inl, inr, arith}
 use Rattle.std.proofs.lemmas.Bool.Decides.{nat_tests}
 use Rattle.std.specs.List.{list_any}
@@ -37,15 +39,15 @@ use Rattle.row_laws.proofs.Tracing.{AllRows, ascends_onto, rows_onto, onto_same_
 
 -- ---- one event ----
 
-pub happened_course : (lines : List ScheduleLine) (m : ℕ) (ps : List Packet) (told : List Told) (change : World → World) (w : World) → 1 ≤ m → AllRows lines m told w.trace →
-    ((t : ℕ) (p : Place) → place_at (change w) t ≡ Some p → StandsAs (shown (told_onto m told w.trace)) t p) → (change w).sent ≡ w.sent → (change w).underway ≡ w.underway → (change w).circuits ≡ w.circuits → Every FormingPacket ps →
-    InCourse lines m w → InCourse lines m (happened m ps told change w)
-happened_course lines m ps told change w one rows places sent underway circuits new f =
-    happened_keeps (InCourse lines m) m ps told change w f
+pub happened_course : (c : Config) (lines : List ScheduleLine) (m : ℕ) (ps : List Packet) (told : List Told) (change : World → World) (w : World) → 1 ≤ m → AllRows c lines m told w.trace →
+    ((t : ℕ) (p : Place) → place_at (change w) t ≡ Some p → StandsAs c (shown (told_onto m told w.trace)) t p) → (change w).sent ≡ w.sent → (change w).underway ≡ w.underway → (change w).circuits ≡ w.circuits → Every FormingPacket ps →
+    InCourse c lines m w → InCourse c lines m (happened m ps told change w)
+happened_course c lines m ps told change w one rows places sent underway circuits new f =
+    happened_keeps (InCourse c lines m) m ps told change w f
     (λ l. record { ascends = f.ascends; rows = f.rows; places = f.places; circuits = f.circuits; polls = f.polls; underway = f.underway })
     (λ k b t. record {
       ascends = ascends_onto m told w.trace one f.ascends;
-      rows = rows_onto lines m told w.trace rows f.rows;
+      rows = rows_onto c lines m told w.trace rows f.rows;
       places = places;
       circuits = λ none s. ap (list_any (is_between s s)) circuits ∙ f.circuits none s;
       polls = every_newest N (numbered_from (w.packets + 1) ps) (change w).sent added (subst (λ (xs : List Numbered). Every N xs) (sym sent) f.polls);
@@ -60,18 +62,18 @@ happened_course lines m ps told change w one rows places sent underway circuits 
 
 -- ---- places ----
 
-stands_same : (now later : Trace) (t : ℕ) (p : Place) → is_up later t ≡ is_up now t → boot_of later t ≡ boot_of now t → StandsAs now t p → StandsAs later t p
-stands_same now later t (Running v) up boot h = (up ∙ h.0, boot ∙ h.1, h.2, h.3)
-stands_same now later t (Stopped d) up boot h = (up ∙ h.0, subst (λ (b : ℕ). b ≤ d.label.boot) (sym boot) h.1, h.2)
+stands_same : (c : Config) (now later : Trace) (t : ℕ) (p : Place) → is_up c later t ≡ is_up c now t → boot_of later t ≡ boot_of now t → StandsAs c now t p → StandsAs c later t p
+stands_same c now later t (Running v) up boot h = (up ∙ h.0, boot ∙ h.1, h.2, h.3)
+stands_same c now later t (Stopped d) up boot h = (up ∙ h.0, subst (λ (b : ℕ). b ≤ d.label.boot) (sym boot) h.1, h.2)
 
 -- what is told boots and stops none
-old_places : (lines : List ScheduleLine) (s m n : ℕ) (k : Causes) (told : List Told) (w : World) → Every (SiteTold s k) told → InCourse lines n w → (t : ℕ) (p : Place) → place_at w t ≡ Some p → StandsAs (shown (told_onto m told w.trace)) t p
-old_places lines s m n k told w h f t p here = stands_same (trace_of w) (shown (told_onto m told w.trace)) t p (onto_same_up s t m k told w.trace h) (onto_same_boot s t m k told w.trace h) (f.places t p here)
+old_places : (c : Config) (lines : List ScheduleLine) (s m n : ℕ) (k : Causes) (told : List Told) (w : World) → Every (SiteTold s k) told → InCourse c lines n w → (t : ℕ) (p : Place) → place_at w t ≡ Some p → StandsAs c (shown (told_onto m told w.trace)) t p
+old_places c lines s m n k told w h f t p here = stands_same c (trace_of w) (shown (told_onto m told w.trace)) t p (onto_same_up c s t m k told w.trace h) (onto_same_boot s t m k told w.trace h) (f.places t p here)
 
 -- one place is changed
-one_place : (s : ℕ) (new : Place) (now : Trace) (w : World) → StandsAs now s new → ((t : ℕ) (p : Place) → s ≢ t → place_at w t ≡ Some p → StandsAs now t p) → (t : ℕ) (p : Place) → place_at (puts s new w) t ≡ Some p → StandsAs now t p
-one_place s new now w mine others t p here = at_each s t (StandsAs now t p)
-    (λ e. subst (λ (u : ℕ). StandsAs now u p) e (subst (StandsAs now s) (some_same new p (sym (puts_same s new w) ∙ (ap (place_at (puts s new w)) e ∙ here))) mine))
+one_place : (c : Config) (s : ℕ) (new : Place) (now : Trace) (w : World) → StandsAs c now s new → ((t : ℕ) (p : Place) → s ≢ t → place_at w t ≡ Some p → StandsAs c now t p) → (t : ℕ) (p : Place) → place_at (puts s new w) t ≡ Some p → StandsAs c now t p
+one_place c s new now w mine others t p here = at_each s t (StandsAs c now t p)
+    (λ e. subst (λ (u : ℕ). StandsAs c now u p) e (subst (StandsAs c now s) (some_same new p (sym (puts_same s new w) ∙ (ap (place_at (puts s new w)) e ∙ here))) mine))
     (λ ne. others t p ne (sym (puts_other s t new w ne) ∙ here))
 
 -- a stop or a boot of one site leaves how the others stand
@@ -95,28 +97,28 @@ own_boot s a b = ap (λ (x : Bool). cond x a b) (equal_self s)
 
 -- ---- stops ----
 
-stopped_places : (s m : ℕ) (why : StopCause) (d : Disk) (trace : List Line) (w : World) → IsOfSite s → boot_of (shown trace) s ≤ d.label.boot → ((t : ℕ) (p : Place) → place_at w t ≡ Some p → StandsAs (shown trace) t p) →
-    (t : ℕ) (p : Place) → place_at (puts s (Stopped d) w) t ≡ Some p → StandsAs (record { line = m; what = says.Stopped s why } ∷ shown trace) t p
-stopped_places s m why d trace w of le old = one_place s (Stopped d) (record { line = m; what = says.Stopped s why } ∷ shown trace) w (own_down s (is_up (shown trace) s), le, of)
-    (λ t p ne here. stands_same (shown trace) (record { line = m; what = says.Stopped s why } ∷ shown trace) t p (other_down s t (is_up (shown trace) t) ne) refl (old t p here))
+stopped_places : (c : Config) (s m : ℕ) (why : StopCause) (d : Disk) (trace : List Line) (w : World) → IsOfSite s → boot_of (shown trace) s ≤ d.label.boot → ((t : ℕ) (p : Place) → place_at w t ≡ Some p → StandsAs c (shown trace) t p) →
+    (t : ℕ) (p : Place) → place_at (puts s (Stopped d) w) t ≡ Some p → StandsAs c (record { line = m; what = says.Stopped s why } ∷ shown trace) t p
+stopped_places c s m why d trace w of le old = one_place c s (Stopped d) (record { line = m; what = says.Stopped s why } ∷ shown trace) w (own_down s (is_up c (shown trace) s), le, of)
+    (λ t p ne here. stands_same c (shown trace) (record { line = m; what = says.Stopped s why } ∷ shown trace) t p (other_down s t (is_up c (shown trace) t) ne) refl (old t p here))
 
 -- a stop of a site, by a record that may come
-stop_course : (lines : List ScheduleLine) (m s : ℕ) (why : StopCause) (d : Disk) (w : World) → 1 ≤ m → ToldRow lines m (trace_of w) (Shown (says.Stopped s why)) → IsOfSite s → boot_of (trace_of w) s ≤ d.label.boot → InCourse lines m w → InCourse lines m (happened m [] (Shown (says.Stopped s why) ∷ []) (stops_with s d) w)
-stop_course lines m s why d w one row of le f =
-    happened_course lines m [] (Shown (says.Stopped s why) ∷ []) (stops_with s d) w one (row, tt) (stopped_places s m why d w.trace w of le f.places) refl refl refl tt f
+stop_course : (c : Config) (lines : List ScheduleLine) (m s : ℕ) (why : StopCause) (d : Disk) (w : World) → 1 ≤ m → ToldRow c lines m (trace_of w) (Shown (says.Stopped s why)) → IsOfSite s → boot_of (trace_of w) s ≤ d.label.boot → InCourse c lines m w → InCourse c lines m (happened m [] (Shown (says.Stopped s why) ∷ []) (stops_with s d) w)
+stop_course c lines m s why d w one row of le f =
+    happened_course c lines m [] (Shown (says.Stopped s why) ∷ []) (stops_with s d) w one (row, tt) (stopped_places c s m why d w.trace w of le f.places) refl refl refl tt f
 
 -- the cause of a cut
-cut_row : (lines : List ScheduleLine) (m s : ℕ) (how : Cut) (now : Trace) → (is_up now s || boots_site (line_at lines m) s) ≡ true → ToldRow lines m now (Shown (says.Stopped s (cause_of how)))
-cut_row lines m s (Stops left) now h = (h, tt)
-cut_row lines m s Fails now h = (h, tt)
+cut_row : (c : Config) (lines : List ScheduleLine) (m s : ℕ) (how : Cut) (now : Trace) → (is_up c now s || boots_site (line_at lines m) s) ≡ true → ToldRow c lines m now (Shown (says.Stopped s (cause_of how)))
+cut_row c lines m s (Stops left) now h = (h, tt)
+cut_row c lines m s Fails now h = (h, tt)
 
-cut_course : (lines : List ScheduleLine) (m s : ℕ) (k : Causes) (r : Record) (how : Cut) (d : Disk) (b : Bool) (w : World) → 1 ≤ m → RoleTold (Shown r) → Caused lines m s k (trace_of w) → IsOfSite s → boot_of (trace_of w) s ≤ d.label.boot → InCourse lines m w →
-    InCourse lines m (happened m [] (cond b (Shown r ∷ Shown (says.Stopped s (cause_of how)) ∷ []) (Shown (says.Stopped s (cause_of how)) ∷ [])) (stops_with s d) w)
-cut_course lines m s k r how d false w one role g of le f = stop_course lines m s (cause_of how) d w one (cut_row lines m s how (trace_of w) (either_true (is_up (trace_of w) s) (boots_site (line_at lines m) s) (inl g.up))) of le f
-cut_course lines m s k r how d true w one role g of le f =
-    happened_course lines m [] (Shown r ∷ Shown (says.Stopped s (cause_of how)) ∷ []) (stops_with s d) w one
-    (told_row lines m s k (Shown r) (trace_of w) told g, (cut_row lines m s how (shown first) (either_true (is_up (shown first) s) (boots_site (line_at lines m) s) (inl (told_same_up s s m k (Shown r) (trace_of w) told ∙ g.up))), tt))
-    (stopped_places s m (cause_of how) d first w of (subst (λ (n : ℕ). n ≤ d.label.boot) (sym (onto_same_boot s s m k (Shown r ∷ []) w.trace (told, tt))) le) (old_places lines s m m k (Shown r ∷ []) w (told, tt) f)) refl refl refl tt f
+cut_course : (c : Config) (lines : List ScheduleLine) (m s : ℕ) (k : Causes) (r : Record) (how : Cut) (d : Disk) (b : Bool) (w : World) → 1 ≤ m → RoleTold (Shown r) → Caused c lines m s k (trace_of w) → IsOfSite s → boot_of (trace_of w) s ≤ d.label.boot → InCourse c lines m w →
+    InCourse c lines m (happened m [] (cond b (Shown r ∷ Shown (says.Stopped s (cause_of how)) ∷ []) (Shown (says.Stopped s (cause_of how)) ∷ [])) (stops_with s d) w)
+cut_course c lines m s k r how d false w one role g of le f = stop_course c lines m s (cause_of how) d w one (cut_row c lines m s how (trace_of w) (either_true (is_up c (trace_of w) s) (boots_site (line_at lines m) s) (inl g.up))) of le f
+cut_course c lines m s k r how d true w one role g of le f =
+    happened_course c lines m [] (Shown r ∷ Shown (says.Stopped s (cause_of how)) ∷ []) (stops_with s d) w one
+    (told_row c lines m s k (Shown r) (trace_of w) told g, (cut_row c lines m s how (shown first) (either_true (is_up c (shown first) s) (boots_site (line_at lines m) s) (inl (told_same_up c s s m k (Shown r) (trace_of w) told ∙ g.up))), tt))
+    (stopped_places c s m (cause_of how) d first w of (subst (λ (n : ℕ). n ≤ d.label.boot) (sym (onto_same_boot s s m k (Shown r ∷ []) w.trace (told, tt))) le) (old_places c lines s m m k (Shown r ∷ []) w (told, tt) f)) refl refl refl tt f
   where
     told : SiteTold s k (Shown r)
     told = role_told s k (Shown r) role
@@ -132,23 +134,23 @@ least a b e = omega (arith, e)
 written_role : (d : DiskWrite) (o : Option DiskWrite) → o ≡ Some d → RoleWrite o → RoleTold (Shown d.says)
 written_role d o e h = served_role d.says (subst RoleWrite e h)
 
-pub acts_course : (lines : List ScheduleLine) (m s : ℕ) (k : Causes) (v : SiteView) (o : Outcome SiteView) (w : World) → 1 ≤ m → place_at w s ≡ Some (Running v) → Caused lines m s k (trace_of w) → Forms s v.boot k o → InCourse lines m w → InCourse lines m (acts m s v o w)
-acts_course lines m s k v o w one here g h f =
-    acts_cases (InCourse lines m) m s v o w
-    (happened_course lines m o.sent o.told (λ now. puts s (Running o.view) now) w one rows (places w (λ t p e. e)) refl refl refl h.sent f)
-    (λ a. happened_course lines m o.sent o.told (λ now. puts s (Running o.view) (arms a now)) w one rows (places (arms a w) (λ t p e. e)) refl refl refl h.sent f)
-    (λ d a e. cut_course lines m s k d.says a.how (cut_disk v.boot v.store d a.how a.left) (is_on_disk v.store d a.how a.left) w one (written_role d o.written e h.written) g stood.3 (least (boot_of (trace_of w) s) v.boot stood.1) f)
+pub acts_course : (c : Config) (lines : List ScheduleLine) (m s : ℕ) (k : Causes) (v : SiteView) (o : Outcome SiteView) (w : World) → 1 ≤ m → place_at w s ≡ Some (Running v) → Caused c lines m s k (trace_of w) → Forms s v.boot k o → InCourse c lines m w → InCourse c lines m (acts m s v o w)
+acts_course c lines m s k v o w one here g h f =
+    acts_cases (InCourse c lines m) m s v o w
+    (happened_course c lines m o.sent o.told (λ now. puts s (Running o.view) now) w one rows (places w (λ t p e. e)) refl refl refl h.sent f)
+    (λ a. happened_course c lines m o.sent o.told (λ now. puts s (Running o.view) (arms a now)) w one rows (places (arms a w) (λ t p e. e)) refl refl refl h.sent f)
+    (λ d a e. cut_course c lines m s k d.says a.how (cut_disk v.boot v.store d a.how a.left) (is_on_disk v.store d a.how a.left) w one (written_role d o.written e h.written) g stood.3 (least (boot_of (trace_of w) s) v.boot stood.1) f)
   where
-    stood : StandsAs (trace_of w) s (Running v)
+    stood : StandsAs c (trace_of w) s (Running v)
     stood = f.places s (Running v) here
 
-    rows : AllRows lines m o.told w.trace
-    rows = site_rows lines m s k o.told w.trace h.told g
+    rows : AllRows c lines m o.told w.trace
+    rows = site_rows c lines m s k o.told w.trace h.told g
 
-    places : (u : World) → ((t : ℕ) (p : Place) → place_at u t ≡ Some p → place_at w t ≡ Some p) → (t : ℕ) (p : Place) → place_at (puts s (Running o.view) u) t ≡ Some p → StandsAs (shown (told_onto m o.told w.trace)) t p
-    places u same = one_place s (Running o.view) (shown (told_onto m o.told w.trace)) u
-        (onto_same_up s s m k o.told w.trace h.told ∙ stood.0, onto_same_boot s s m k o.told w.trace h.told ∙ (stood.1 ∙ sym h.boot_is), h.view, stood.3)
-        (λ t p ne e. old_places lines s m m k o.told w h.told f t p (same t p e))
+    places : (u : World) → ((t : ℕ) (p : Place) → place_at u t ≡ Some p → place_at w t ≡ Some p) → (t : ℕ) (p : Place) → place_at (puts s (Running o.view) u) t ≡ Some p → StandsAs c (shown (told_onto m o.told w.trace)) t p
+    places u same = one_place c s (Running o.view) (shown (told_onto m o.told w.trace)) u
+        (onto_same_up c s s m k o.told w.trace h.told ∙ stood.0, onto_same_boot s s m k o.told w.trace h.told ∙ (stood.1 ∙ sym h.boot_is), h.view, stood.3)
+        (λ t p ne e. old_places c lines s m m k o.told w h.told f t p (same t p e))
 
 -- ---- boots ----
 
@@ -158,12 +160,12 @@ above a b c h g = grind (arith, nat_tests)
 boots_here : (l : ScheduleLine) (s : ℕ) → l ≡ EventLine (line.Boot s) → boots_site l s ≡ true
 boots_here l s e = ap (λ (x : ScheduleLine). boots_site x s) e ∙ equal_self s
 
-up_course : (lines : List ScheduleLine) (m s : ℕ) (x : Disk) (change : World → World) (w : World) → 1 ≤ m → IsLine lines m (line.Boot s) → is_up (trace_of w) s ≡ false → nat_lt (boot_of (trace_of w) s) x.label.boot ≡ true → IsOfSite s →
-    ((t : ℕ) → place_at (change w) t ≡ place_at (puts s (Running (fresh x.label.boot x.copies)) w) t) → (change w).sent ≡ w.sent → (change w).underway ≡ w.underway → (change w).circuits ≡ w.circuits → InCourse lines m w → InCourse lines m (happened m [] (Shown (says.Up s x.label.boot) ∷ []) change w)
-up_course lines m s x change w one is down less of same sent underway circuits f =
-    happened_course lines m [] (Shown (says.Up s x.label.boot) ∷ []) change w one ((record { asked = is }, record { stopped = down; above = less }), tt)
-    (λ t p here. one_place s (Running view) now w (own_up s (is_up (trace_of w) s), own_boot s x.label.boot (boot_of (trace_of w) s), record { round = tt; tables = tt; epoch = tt }, of)
-    (λ u q ne e. stands_same (trace_of w) now u q (other_up s u (is_up (trace_of w) u) ne) (other_boot s u x.label.boot (boot_of (trace_of w) u) ne) (f.places u q e)) t p (sym (same t) ∙ here))
+up_course : (c : Config) (lines : List ScheduleLine) (m s : ℕ) (x : Disk) (change : World → World) (w : World) → 1 ≤ m → IsLine lines m (line.Boot s) → is_up (config_of lines) (trace_of w) s ≡ false → nat_lt (boot_of (trace_of w) s) x.label.boot ≡ true → IsOfSite s →
+    ((t : ℕ) → place_at (change w) t ≡ place_at (puts s (Running (fresh x.label.boot x.copies)) w) t) → (change w).sent ≡ w.sent → (change w).underway ≡ w.underway → (change w).circuits ≡ w.circuits → InCourse c lines m w → InCourse c lines m (happened m [] (Shown (says.Up s x.label.boot) ∷ []) change w)
+up_course c lines m s x change w one is down less of same sent underway circuits f =
+    happened_course c lines m [] (Shown (says.Up s x.label.boot) ∷ []) change w one ((record { asked = is }, record { stopped = down; above = less }), tt)
+    (λ t p here. one_place c s (Running view) now w (own_up s (is_up c (trace_of w) s), own_boot s x.label.boot (boot_of (trace_of w) s), record { round = tt; tables = tt; epoch = tt }, of)
+    (λ u q ne e. stands_same c (trace_of w) now u q (other_up s u (is_up c (trace_of w) u) ne) (other_boot s u x.label.boot (boot_of (trace_of w) u) ne) (f.places u q e)) t p (sym (same t) ∙ here))
     sent underway circuits tt f
   where
     view : SiteView
@@ -172,38 +174,38 @@ up_course lines m s x change w one is down less of same sent underway circuits f
     now : Trace
     now = record { line = m; what = says.Up s x.label.boot } ∷ trace_of w
 
-as_course : (lines : List ScheduleLine) (m s : ℕ) (d : Disk) (b : Booted) (w : World) → 1 ≤ m → IsLine lines m (line.Boot s) → place_at w s ≡ Some (Stopped d) → Reached d.label.boot (d.label.boot + 1) b → InCourse lines m w → InCourse lines m (boots_as m s b w)
-as_course lines m s d (Whole x None) w one is here r f = let old : StandsAs (trace_of w) s (Stopped d) = f.places s (Stopped d) here in up_course lines m s x _ w one is old.0 (above (boot_of (trace_of w) s) d.label.boot x.label.boot old.1 r) old.2 (λ t. refl) refl refl refl f
-as_course lines m s d (Whole x (Some a)) w one is here r f = let old : StandsAs (trace_of w) s (Stopped d) = f.places s (Stopped d) here in up_course lines m s x _ w one is old.0 (above (boot_of (trace_of w) s) d.label.boot x.label.boot old.1 r) old.2 (λ t. refl) refl refl refl f
-as_course lines m s d (CutOff x how) w one is here r f =
-    let old : StandsAs (trace_of w) s (Stopped d) = f.places s (Stopped d) here in
-    stop_course lines m s (cause_of how) x w one (cut_row lines m s how (trace_of w) (either_true (is_up (trace_of w) s) (boots_site (line_at lines m) s) (inr (boots_here (line_at lines m) s is)))) old.2 (at_most_of (boot_of (trace_of w) s) d.label.boot x.label.boot old.1 r) f
+as_course : (c : Config) (lines : List ScheduleLine) (m s : ℕ) (d : Disk) (b : Booted) (w : World) → 1 ≤ m → IsLine lines m (line.Boot s) → place_at w s ≡ Some (Stopped d) → Reached d.label.boot (d.label.boot + 1) b → InCourse c lines m w → InCourse c lines m (boots_as m s b w)
+as_course c lines m s d (Whole x None) w one is here r f = let old : StandsAs c (trace_of w) s (Stopped d) = f.places s (Stopped d) here in up_course c lines m s x _ w one is old.0 (above (boot_of (trace_of w) s) d.label.boot x.label.boot old.1 r) old.2 (λ t. refl) refl refl refl f
+as_course c lines m s d (Whole x (Some a)) w one is here r f = let old : StandsAs c (trace_of w) s (Stopped d) = f.places s (Stopped d) here in up_course c lines m s x _ w one is old.0 (above (boot_of (trace_of w) s) d.label.boot x.label.boot old.1 r) old.2 (λ t. refl) refl refl refl f
+as_course c lines m s d (CutOff x how) w one is here r f =
+    let old : StandsAs c (trace_of w) s (Stopped d) = f.places s (Stopped d) here in
+    stop_course c lines m s (cause_of how) x w one (cut_row c lines m s how (trace_of w) (either_true (is_up c (trace_of w) s) (boots_site (line_at lines m) s) (inr (boots_here (line_at lines m) s is)))) old.2 (at_most_of (boot_of (trace_of w) s) d.label.boot x.label.boot old.1 r) f
 
-pub boot_course : (lines : List ScheduleLine) (m s : ℕ) (d : Disk) (w : World) → 1 ≤ m → IsLine lines m (line.Boot s) → place_at w s ≡ Some (Stopped d) → InCourse lines m w → InCourse lines m (boots_as m s (boots (script_of w s) d) w)
-boot_course lines m s d w one is here f = as_course lines m s d (boots (script_of w s) d) w one is here (boots_reached (script_of w s) d) f
+pub boot_course : (c : Config) (lines : List ScheduleLine) (m s : ℕ) (d : Disk) (w : World) → 1 ≤ m → IsLine lines m (line.Boot s) → place_at w s ≡ Some (Stopped d) → InCourse c lines m w → InCourse c lines m (boots_as m s (boots (script_of w s) d) w)
+boot_course c lines m s d w one is here f = as_course c lines m s d (boots (script_of w s) d) w one is here (boots_reached (script_of w s) d) f
 
 -- ---- a stop by its line ----
 
-pub asked_course : (lines : List ScheduleLine) (m s : ℕ) (v : SiteView) (w : World) → 1 ≤ m → IsLine lines m (line.Stop s) → place_at w s ≡ Some (Running v) → InCourse lines m w → InCourse lines m (happened m [] (Shown (says.Stopped s cause.Asked) ∷ []) (stops_with s (disk_of v)) w)
-asked_course lines m s v w one is here f =
-    let old : StandsAs (trace_of w) s (Running v) = f.places s (Running v) here in
-    stop_course lines m s cause.Asked (disk_of v) w one (record { asked = is }, record { up = old.0 }) old.3 (least (boot_of (trace_of w) s) v.boot old.1) f
+pub asked_course : (c : Config) (lines : List ScheduleLine) (m s : ℕ) (v : SiteView) (w : World) → 1 ≤ m → IsLine lines m (line.Stop s) → place_at w s ≡ Some (Running v) → InCourse c lines m w → InCourse c lines m (happened m [] (Shown (says.Stopped s cause.Asked) ∷ []) (stops_with s (disk_of v)) w)
+asked_course c lines m s v w one is here f =
+    let old : StandsAs c (trace_of w) s (Running v) = f.places s (Running v) here in
+    stop_course c lines m s cause.Asked (disk_of v) w one (record { asked = is }, record { up = old.0 }) old.3 (least (boot_of (trace_of w) s) v.boot old.1) f
 
 -- ---- what the world itself tells ----
 
-pub world_course : (lines : List ScheduleLine) (m : ℕ) (told : List Told) (w : World) → 1 ≤ m → AllRows lines m told w.trace → ((t : ℕ) → is_up (shown (told_onto m told w.trace)) t ≡ is_up (trace_of w) t) → ((t : ℕ) → boot_of (shown (told_onto m told w.trace)) t ≡ boot_of (trace_of w) t) →
-    InCourse lines m w → InCourse lines m (happened m [] told (λ now. now) w)
-world_course lines m told w one rows up boot f =
-    happened_course lines m [] told (λ now. now) w one rows (λ t p here. stands_same (trace_of w) (shown (told_onto m told w.trace)) t p (up t) (boot t) (f.places t p here)) refl refl refl tt f
+pub world_course : (c : Config) (lines : List ScheduleLine) (m : ℕ) (told : List Told) (w : World) → 1 ≤ m → AllRows c lines m told w.trace → ((t : ℕ) → is_up (config_of lines) (shown (told_onto m told w.trace)) t ≡ is_up (config_of lines) (trace_of w) t) → ((t : ℕ) → boot_of (shown (told_onto m told w.trace)) t ≡ boot_of (trace_of w) t) →
+    InCourse c lines m w → InCourse c lines m (happened m [] told (λ now. now) w)
+world_course c lines m told w one rows up boot f =
+    happened_course c lines m [] told (λ now. now) w one rows (λ t p here. stands_same c (trace_of w) (shown (told_onto m told w.trace)) t p (up t) (boot t) (f.places t p here)) refl refl refl tt f
 
 -- listed packets
-pub listed_rows : (lines : List ScheduleLine) (m : ℕ) (xs : List Numbered) (trace : List Line) → IsLine lines m line.Pending → AllRows lines m (map packet_record xs) trace
-listed_rows lines m [] trace is = tt
-listed_rows lines m (x ∷ xs) trace is = ((record { listed = subst (λ (l : ScheduleLine). lists_packets l ≡ true) (sym is) refl }, tt), listed_rows lines m xs (record { number = m; told = packet_record x } ∷ trace) is)
+pub listed_rows : (c : Config) (lines : List ScheduleLine) (m : ℕ) (xs : List Numbered) (trace : List Line) → IsLine lines m line.Pending → AllRows c lines m (map packet_record xs) trace
+listed_rows c lines m [] trace is = tt
+listed_rows c lines m (x ∷ xs) trace is = ((record { listed = subst (λ (l : ScheduleLine). lists_packets l ≡ true) (sym is) refl }, tt), listed_rows c lines m xs (record { number = m; told = packet_record x } ∷ trace) is)
 
-pub listed_up : (m t : ℕ) (xs : List Numbered) (trace : List Line) → is_up (shown (told_onto m (map packet_record xs) trace)) t ≡ is_up (shown trace) t
-listed_up m t [] trace = refl
-listed_up m t (x ∷ xs) trace = listed_up m t xs (record { number = m; told = packet_record x } ∷ trace)
+pub listed_up : (c : Config) (m t : ℕ) (xs : List Numbered) (trace : List Line) → is_up c (shown (told_onto m (map packet_record xs) trace)) t ≡ is_up c (shown trace) t
+listed_up c m t [] trace = refl
+listed_up c m t (x ∷ xs) trace = listed_up c m t xs (record { number = m; told = packet_record x } ∷ trace)
 
 pub listed_boot : (m t : ℕ) (xs : List Numbered) (trace : List Line) → boot_of (shown (told_onto m (map packet_record xs) trace)) t ≡ boot_of (shown trace) t
 listed_boot m t [] trace = refl

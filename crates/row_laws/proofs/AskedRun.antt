@@ -44,15 +44,15 @@ use Rattle.row_laws.proofs.ByLine.{every_line}
 
 -- ---- the invariant ----
 
-pub record Courses (lines : List ScheduleLine) (n : ℕ) (w : World) : Type 0 where
+pub record Courses (c : Config) (lines : List ScheduleLine) (n : ℕ) (w : World) : Type 0 where
   pub good : Good w
-  pub course : InCourse lines n w
+  pub course : InCourse c lines n w
 
-next_course : (lines : List ScheduleLine) (n : ℕ) (w : World) → InCourse lines n w → InCourse lines (n + 1) w
-next_course lines n w f = record { ascends = ascends_later n (n + 1) w.trace (omega arith) f.ascends; rows = f.rows; places = f.places; circuits = f.circuits; polls = f.polls; underway = f.underway }
+next_course : (c : Config) (lines : List ScheduleLine) (n : ℕ) (w : World) → InCourse c lines n w → InCourse c lines (n + 1) w
+next_course c lines n w f = record { ascends = ascends_later n (n + 1) w.trace (omega arith) f.ascends; rows = f.rows; places = f.places; circuits = f.circuits; polls = f.polls; underway = f.underway }
 
-passed_course : (lines : List ScheduleLine) (n k : ℕ) (w : World) → InCourse lines n w → InCourse lines n (passed k w)
-passed_course lines n k w f = record { ascends = f.ascends; rows = f.rows; places = f.places; circuits = f.circuits; polls = f.polls; underway = every_without (λ (x : Numbered). FormingPacket x.packet) number_of k w.underway f.underway }
+passed_course : (c : Config) (lines : List ScheduleLine) (n k : ℕ) (w : World) → InCourse c lines n w → InCourse c lines n (passed k w)
+passed_course c lines n k w f = record { ascends = f.ascends; rows = f.rows; places = f.places; circuits = f.circuits; polls = f.polls; underway = every_without (λ (x : Numbered). FormingPacket x.packet) number_of k w.underway f.underway }
 
 pub own_given : (w : World) (l : LineWords) (s : ℕ) (e : Event) → Gives w l s e → IsOwn e
 own_given w l s (Calls process words) g = tt
@@ -115,35 +115,35 @@ fewer_any p q (x ∷ xs) h =
 mends_other : (one other s : ℕ) (w : World) → is_cut w s s ≡ false → is_cut (mends_circuit one other w) s s ≡ false
 mends_other one other s w h = fewer_any (is_between s s) (λ x. not (is_between one other x)) w.circuits h
 
-pub courses_kept : (c : Config) (lines : List ScheduleLine) → KeptIn c lines (Courses lines)
+pub courses_kept : (c : Config) (lines : List ScheduleLine) → KeptIn c lines (Courses c lines)
 courses_kept c lines = record {
-  begins = λ n w there quiet p. record { good = p.good; course = next_course lines n w p.course };
+  begins = λ n w there quiet p. record { good = p.good; course = next_course c lines n w p.course };
   ticks = λ n most s v w is here p. record {
     good = kept.steps n s Ticks v w here tt p.good;
-    course = acts_course lines n s (causes_of s (links_of w s) v Ticks) v (step c s (links_of w s) v Ticks) w (one_of lines n (line.Settle most) is) here (tick_caused lines n n s v w here p.course)
+    course = acts_course c lines n s (causes_of s (links_of w s) v Ticks) v (step c s (links_of w s) v Ticks) w (one_of lines n (line.Settle most) is) here (tick_caused c lines n n s v w here p.course)
         (step_forms (DeedsOf w.trace s) s c (links_of w s) v Ticks (p.good.views s v here) (p.course.places s (Running v) here).2 tt) p.course;
   };
   receives = λ n l x v w is d here sent p. record {
     good = kept.receives n x v w here sent p.good;
-    course = acts_course lines n x.packet.to (causes_of x.packet.to (links_of w x.packet.to) v (Receives x.packet)) v (step c x.packet.to (links_of (passed x.number w) x.packet.to) v (Receives x.packet)) (passed x.number w) (one_of lines n l is) here
-        (receive_caused lines n l x v w is d here sent p.good p.course)
-        (step_forms (DeedsOf w.trace x.packet.to) x.packet.to c (links_of (passed x.number w) x.packet.to) v (Receives x.packet) (p.good.views x.packet.to v here) (p.course.places x.packet.to (Running v) here).2 (sent_polls lines n w x sent p.course)) (passed_course lines n x.number w p.course);
+    course = acts_course c lines n x.packet.to (causes_of x.packet.to (links_of w x.packet.to) v (Receives x.packet)) v (step c x.packet.to (links_of (passed x.number w) x.packet.to) v (Receives x.packet)) (passed x.number w) (one_of lines n l is) here
+        (receive_caused c lines n l x v w is d here sent p.good p.course)
+        (step_forms (DeedsOf w.trace x.packet.to) x.packet.to c (links_of (passed x.number w) x.packet.to) v (Receives x.packet) (p.good.views x.packet.to v here) (p.course.places x.packet.to (Running v) here).2 (sent_polls c lines n w x sent p.course)) (passed_course c lines n x.number w p.course);
   };
-  passes = λ n k w p. record { good = kept.passes k w p.good; course = passed_course lines n k w p.course };
-  drops = λ n k w p. record { good = kept.drops k w p.good; course = (let f : InCourse lines n (passed k w) = passed_course lines n k w p.course in record { ascends = f.ascends; rows = f.rows; places = f.places; circuits = f.circuits; polls = f.polls; underway = f.underway }) };
-  budgets = λ n most w is p. record { good = kept.budgets n w p.good; course = world_course lines n (Shown says.Budget ∷ []) w (one_of lines n (line.Settle most) is) ((record { round = subst (λ (l : ScheduleLine). settles l ≡ true) (sym is) refl }, tt), tt) (λ t. refl) (λ t. refl) p.course };
-  voiding = λ n l w there is void p. record { good = kept.voiding (n + 1) w p.good; course = world_course lines (n + 1) (Shown says.Void ∷ []) w (from_one n) ((tt, tt), tt) (λ t. refl) (λ t. refl) (next_course lines n w p.course) };
+  passes = λ n k w p. record { good = kept.passes k w p.good; course = passed_course c lines n k w p.course };
+  drops = λ n k w p. record { good = kept.drops k w p.good; course = (let f : InCourse c lines n (passed k w) = passed_course c lines n k w p.course in record { ascends = f.ascends; rows = f.rows; places = f.places; circuits = f.circuits; polls = f.polls; underway = f.underway }) };
+  budgets = λ n most w is p. record { good = kept.budgets n w p.good; course = world_course c lines n (Shown says.Budget ∷ []) w (one_of lines n (line.Settle most) is) ((record { round = subst (λ (l : ScheduleLine). settles l ≡ true) (sym is) refl }, tt), tt) (λ t. refl) (λ t. refl) p.course };
+  voiding = λ n l w there is void p. record { good = kept.voiding (n + 1) w p.good; course = world_course c lines (n + 1) (Shown says.Void ∷ []) w (from_one n) ((tt, tt), tt) (λ t. refl) (λ t. refl) (next_course c lines n w p.course) };
   steps = λ n s l e v w there is g here p. record {
     good = kept.steps (n + 1) s e v w here (own_given w l s e g) p.good;
-    course = acts_course lines (n + 1) s (causes_of s (links_of w s) v e) v (step c s (links_of w s) v e) w (from_one n) here (line_caused lines n s l e v w is g here p.good p.course)
-        (step_forms (DeedsOf w.trace s) s c (links_of w s) v e (p.good.views s v here) (p.course.places s (Running v) here).2 (comes_own e (own_given w l s e g))) (next_course lines n w p.course);
+    course = acts_course c lines (n + 1) s (causes_of s (links_of w s) v e) v (step c s (links_of w s) v e) w (from_one n) here (line_caused c lines n s l e v w is g here p.good p.course)
+        (step_forms (DeedsOf w.trace s) s c (links_of w s) v e (p.good.views s v here) (p.course.places s (Running v) here).2 (comes_own e (own_given w l s e g))) (next_course c lines n w p.course);
   };
-  cutting = λ n one other w there is cut p. record { good = kept.recuts _ w p.good; course = (let f : InCourse lines (n + 1) w = next_course lines n w p.course in record { ascends = f.ascends; rows = f.rows; places = f.places; circuits = λ none s. cuts_other one other s (λ e g. none (n + 1) one (is ∙ ap (λ (x : ℕ). EventLine (line.Down one x)) (g ∙ sym e))) w (f.circuits none s); polls = f.polls; underway = f.underway }) };
-  mending = λ n one other w there is cut p. record { good = kept.recuts _ w p.good; course = (let f : InCourse lines (n + 1) w = next_course lines n w p.course in record { ascends = f.ascends; rows = f.rows; places = f.places; circuits = λ none s. mends_other one other s w (f.circuits none s); polls = f.polls; underway = f.underway }) };
-  arming = λ n l a w there is so p. record { good = kept.arming a w p.good; course = (let f : InCourse lines (n + 1) w = next_course lines n w p.course in record { ascends = f.ascends; rows = f.rows; places = f.places; circuits = f.circuits; polls = f.polls; underway = f.underway }) };
-  pending = λ n w there is p. record { good = kept.pending (n + 1) w p.good; course = world_course lines (n + 1) (map packet_record w.underway) w (from_one n) (listed_rows lines (n + 1) w.underway w.trace is) (λ t. listed_up (n + 1) t w.underway w.trace) (λ t. listed_boot (n + 1) t w.underway w.trace) (next_course lines n w p.course) };
-  stopping = λ n s v w there is here p. record { good = kept.stopping (n + 1) s v w here p.good; course = asked_course lines (n + 1) s v w (from_one n) is here (next_course lines n w p.course) };
-  booting = λ n s d w there is here p. record { good = kept.booting (n + 1) s d w here p.good; course = boot_course lines (n + 1) s d w (from_one n) is here (next_course lines n w p.course) };
+  cutting = λ n one other w there is cut p. record { good = kept.recuts _ w p.good; course = (let f : InCourse c lines (n + 1) w = next_course c lines n w p.course in record { ascends = f.ascends; rows = f.rows; places = f.places; circuits = λ none s. cuts_other one other s (λ e g. none (n + 1) one (is ∙ ap (λ (x : ℕ). EventLine (line.Down one x)) (g ∙ sym e))) w (f.circuits none s); polls = f.polls; underway = f.underway }) };
+  mending = λ n one other w there is cut p. record { good = kept.recuts _ w p.good; course = (let f : InCourse c lines (n + 1) w = next_course c lines n w p.course in record { ascends = f.ascends; rows = f.rows; places = f.places; circuits = λ none s. mends_other one other s w (f.circuits none s); polls = f.polls; underway = f.underway }) };
+  arming = λ n l a w there is so p. record { good = kept.arming a w p.good; course = (let f : InCourse c lines (n + 1) w = next_course c lines n w p.course in record { ascends = f.ascends; rows = f.rows; places = f.places; circuits = f.circuits; polls = f.polls; underway = f.underway }) };
+  pending = λ n w there is p. record { good = kept.pending (n + 1) w p.good; course = world_course c lines (n + 1) (map packet_record w.underway) w (from_one n) (listed_rows c lines (n + 1) w.underway w.trace is) (λ t. listed_up c (n + 1) t w.underway w.trace) (λ t. listed_boot (n + 1) t w.underway w.trace) (next_course c lines n w p.course) };
+  stopping = λ n s v w there is here p. record { good = kept.stopping (n + 1) s v w here p.good; course = asked_course c lines (n + 1) s v w (from_one n) is here (next_course c lines n w p.course) };
+  booting = λ n s d w there is here p. record { good = kept.booting (n + 1) s d w here p.good; course = boot_course c lines (n + 1) s d w (from_one n) is here (next_course c lines n w p.course) };
 }
   where
     kept : Kept c Good
@@ -151,14 +151,14 @@ courses_kept c lines = record {
 
 -- ---- the first world ----
 
-pub first_courses : (c : Config) (lines : List ScheduleLine) → Courses lines 0 (first_world c)
+pub first_courses : (c : Config) (lines : List ScheduleLine) → Courses c lines 0 (first_world c)
 first_courses c lines = record {
   good = first_good c;
-  course = record { ascends = tt; rows = tt; places = first_places c (StandsAs []) (λ s own. (refl, refl, record { round = tt; tables = tt; epoch = tt }, own.0)); circuits = λ none s. refl; polls = tt; underway = tt };
+  course = record { ascends = tt; rows = tt; places = first_places c (StandsAs c []) (λ s own. (refl, refl, record { round = tt; tables = tt; epoch = tt }, own.0)); circuits = λ none s. refl; polls = tt; underway = tt };
 }
 
-pub run_courses : (c : Config) (lines : List ScheduleLine) → Courses lines (length lines) (run_in c lines)
-run_courses c lines = every_line c lines (Courses lines) (courses_kept c lines) (first_courses c lines)
+pub run_courses : (c : Config) (lines : List ScheduleLine) → Courses c lines (length lines) (run_in c lines)
+run_courses c lines = every_line c lines (Courses c lines) (courses_kept c lines) (first_courses c lines)
 
 -- ---- a join goes back to its promise ----
 
@@ -199,26 +199,26 @@ asked_for lines now n id g =
 
 -- ---- the rows ----
 
-join_asked : (lines : List ScheduleLine) (n s : ℕ) (id : EpochId) (older : List Line) → Ascends n older → EachTold lines older → ((standing s older).promised ≡ id) × ((standing s older).installed ≡ false) × ((standing s older).epoch ≡ None) → is_asked_for lines (shown older) n id ≡ true
-join_asked lines n s id older a rows m = asked_for lines (shown older) n id (promise_started lines n s id older a rows (subst (λ (i : EpochId). Has Promised s i older) m.0 (promised_has s older m.1)))
+join_asked : (c : Config) (lines : List ScheduleLine) (n s : ℕ) (id : EpochId) (older : List Line) → Ascends n older → EachTold c lines older → ((standing s older).promised ≡ id) × ((standing s older).installed ≡ false) × ((standing s older).epoch ≡ None) → is_asked_for lines (shown older) n id ≡ true
+join_asked c lines n s id older a rows m = asked_for lines (shown older) n id (promise_started c lines n s id older a rows (subst (λ (i : EpochId). Has Promised s i older) m.0 (promised_has s older m.1)))
 
-record_asked : (lines : List ScheduleLine) (n : ℕ) (r : Record) (older : List Line) → Ascends n older → EachTold lines older → GoesOn (Shown r) older → AskedHere lines n (shown older) r → AskedRecord lines n (shown older) r
-record_asked lines n (says.Join s id members) older a rows m h = record { asked = join_asked lines n s id older a rows m }
-record_asked lines n (says.Up s boot) older a rows m h = h
-record_asked lines n (says.Stopped s why) older a rows m h = h
-record_asked lines n (says.Leave s id) older a rows m h = h
-record_asked lines n (says.Accept s process call words) older a rows m h = h
-record_asked lines n (says.Packet number from to kind) older a rows m h = h
-record_asked lines n says.Budget older a rows m h = h
-record_asked lines n _ older a rows m h = tt
+record_asked : (c : Config) (lines : List ScheduleLine) (n : ℕ) (r : Record) (older : List Line) → Ascends n older → EachTold c lines older → GoesOn (Shown r) older → AskedHere lines n (shown older) r → AskedRecord lines n (shown older) r
+record_asked c lines n (says.Join s id members) older a rows m h = record { asked = join_asked c lines n s id older a rows m }
+record_asked c lines n (says.Up s boot) older a rows m h = h
+record_asked c lines n (says.Stopped s why) older a rows m h = h
+record_asked c lines n (says.Leave s id) older a rows m h = h
+record_asked c lines n (says.Accept s process call words) older a rows m h = h
+record_asked c lines n (says.Packet number from to kind) older a rows m h = h
+record_asked c lines n says.Budget older a rows m h = h
+record_asked c lines n _ older a rows m h = tt
 
-told_asked : (lines : List ScheduleLine) (n : ℕ) (x : Told) (older : List Line) → Ascends n older → EachTold lines older → ToldRow lines n (shown older) x → GoesOn x older → EachRecord (IsAskedFor lines) (shown older) → EachRecord (IsAskedFor lines) (with_told n x (shown older))
-told_asked lines n (Shown r) older a rows h m rest = (record_asked lines n r older a rows m h.0, rest)
-told_asked lines n _ older a rows h m rest = rest
+told_asked : (c : Config) (lines : List ScheduleLine) (n : ℕ) (x : Told) (older : List Line) → Ascends n older → EachTold c lines older → ToldRow c lines n (shown older) x → GoesOn x older → EachRecord (IsAskedFor lines) (shown older) → EachRecord (IsAskedFor lines) (with_told n x (shown older))
+told_asked c lines n (Shown r) older a rows h m rest = (record_asked c lines n r older a rows m h.0, rest)
+told_asked c lines n _ older a rows h m rest = rest
 
-each_asked : (lines : List ScheduleLine) (n : ℕ) (trace : List Line) → Ascends n trace → EachTold lines trace → EpochsGoOn trace → EachRecord (IsAskedFor lines) (shown trace)
-each_asked lines n [] a rows g = tt
-each_asked lines n (x ∷ older) a rows g = told_asked lines x.number x.told older a.2 rows.1 rows.0 g.0 (each_asked lines x.number older a.2 rows.1 g.1)
+each_asked : (c : Config) (lines : List ScheduleLine) (n : ℕ) (trace : List Line) → Ascends n trace → EachTold c lines trace → EpochsGoOn trace → EachRecord (IsAskedFor lines) (shown trace)
+each_asked c lines n [] a rows g = tt
+each_asked c lines n (x ∷ older) a rows g = told_asked c lines x.number x.told older a.2 rows.1 rows.0 g.0 (each_asked c lines x.number older a.2 rows.1 g.1)
 
 told_within : (n k : ℕ) (x : Told) (now : Trace) → k ≤ n → last_line now ≤ k → last_line (with_told k x now) ≤ n
 told_within n k (Shown r) now h g = h
@@ -248,10 +248,10 @@ each_placed lines n (x ∷ older) le a = told_placed lines x.number x.told (show
 -- ---- the laws ----
 
 pub run_placed : (c : Config) (lines : List ScheduleLine) → EachRecord (IsPlaced lines) (trace_of (run_in c lines))
-run_placed c lines = let p : Courses lines (length lines) (run_in c lines) = run_courses c lines in each_placed lines (length lines) (run_in c lines).trace (omega arith) p.course.ascends
+run_placed c lines = let p : Courses c lines (length lines) (run_in c lines) = run_courses c lines in each_placed lines (length lines) (run_in c lines).trace (omega arith) p.course.ascends
 
 pub run_asked : (c : Config) (lines : List ScheduleLine) → EachRecord (IsAskedFor lines) (trace_of (run_in c lines))
-run_asked c lines = let p : Courses lines (length lines) (run_in c lines) = run_courses c lines in each_asked lines (length lines) (run_in c lines).trace p.course.ascends p.course.rows p.good.law
+run_asked c lines = let p : Courses c lines (length lines) (run_in c lines) = run_courses c lines in each_asked c lines (length lines) (run_in c lines).trace p.course.ascends p.course.rows p.good.law
 
 -- ---- lists ----
 
@@ -259,45 +259,45 @@ member_record : (lines : List ScheduleLine) (n : ℕ) (r : Record) (before : Tra
 member_record lines n (says.Join s id members) before none h = h.0 none
 member_record lines n _ before none h = tt
 
-each_member : (lines : List ScheduleLine) (trace : List Line) → CutsNoSelf lines → EachTold lines trace → EachRecord IsMemberRow (shown trace)
-each_member lines [] none rows = tt
-each_member lines (x ∷ older) none rows = by_told (each_member lines older none rows.1) x.told rows.0
+each_member : (c : Config) (lines : List ScheduleLine) (trace : List Line) → CutsNoSelf lines → EachTold c lines trace → EachRecord IsMemberRow (shown trace)
+each_member c lines [] none rows = tt
+each_member c lines (x ∷ older) none rows = by_told (each_member c lines older none rows.1) x.told rows.0
   where
-    by_told : EachRecord IsMemberRow (shown older) → (y : Told) → ToldRow lines x.number (shown older) y → EachRecord IsMemberRow (with_told x.number y (shown older))
+    by_told : EachRecord IsMemberRow (shown older) → (y : Told) → ToldRow c lines x.number (shown older) y → EachRecord IsMemberRow (with_told x.number y (shown older))
     by_told rest (Shown r) row = (member_record lines x.number r (shown older) none row.0, rest)
     by_told rest _ row = rest
 
 pub run_members : (c : Config) (lines : List ScheduleLine) → CutsNoSelf lines → EachRecord IsMemberRow (trace_of (run_in c lines))
-run_members c lines none = let p : Courses lines (length lines) (run_in c lines) = run_courses c lines in each_member lines (run_in c lines).trace none p.course.rows
+run_members c lines none = let p : Courses c lines (length lines) (run_in c lines) = run_courses c lines in each_member c lines (run_in c lines).trace none p.course.rows
 
 -- each list that was ever joined is of sites 1 to 16
-joined_short : (lines : List ScheduleLine) (trace : List Line) → EachTold lines trace → (s : ℕ) (id : EpochId) (m : Members) → Joined s id m trace → IsShort m
-joined_short lines [] rows s id m j = absurd j
-joined_short lines (x ∷ older) rows s id m (inr j) = joined_short lines older rows.1 s id m j
-joined_short lines (x ∷ older) rows s id m (inl j) = by_told x.told rows.0 j
+joined_short : (c : Config) (lines : List ScheduleLine) (trace : List Line) → EachTold c lines trace → (s : ℕ) (id : EpochId) (m : Members) → Joined s id m trace → IsShort m
+joined_short c lines [] rows s id m j = absurd j
+joined_short c lines (x ∷ older) rows s id m (inr j) = joined_short c lines older rows.1 s id m j
+joined_short c lines (x ∷ older) rows s id m (inl j) = by_told x.told rows.0 j
   where
     by_record : (r : Record) → AskedHere lines x.number (shown older) r → IsJoinRecord s id m r → IsShort m
     by_record (says.Join t i n) row k = subst IsShort k.2 row.1
     by_record _ row k = absurd k
 
-    by_told : (y : Told) → ToldRow lines x.number (shown older) y → IsJoin s id m y → IsShort m
+    by_told : (y : Told) → ToldRow c lines x.number (shown older) y → IsJoin s id m y → IsShort m
     by_told (Shown r) row k = by_record r row.0 k
     by_told _ row k = absurd k
 
 pub run_short : (c : Config) (lines : List ScheduleLine) (s : ℕ) (id : EpochId) (m : Members) → Joined s id m (run_in c lines).trace → IsShort m
-run_short c lines s id m j = let p : Courses lines (length lines) (run_in c lines) = run_courses c lines in joined_short lines (run_in c lines).trace p.course.rows s id m j
+run_short c lines s id m j = let p : Courses c lines (length lines) (run_in c lines) = run_courses c lines in joined_short c lines (run_in c lines).trace p.course.rows s id m j
 
 short_record : (lines : List ScheduleLine) (n : ℕ) (r : Record) (before : Trace) → AskedHere lines n before r → ShortRecord r
 short_record lines n (says.Join s id members) before h = h.1
 short_record lines n _ before h = tt
 
-each_short : (lines : List ScheduleLine) (trace : List Line) → EachTold lines trace → EachRecord IsShortRow (shown trace)
-each_short lines [] rows = tt
-each_short lines (x ∷ older) rows = by_told (each_short lines older rows.1) x.told rows.0
+each_short : (c : Config) (lines : List ScheduleLine) (trace : List Line) → EachTold c lines trace → EachRecord IsShortRow (shown trace)
+each_short c lines [] rows = tt
+each_short c lines (x ∷ older) rows = by_told (each_short c lines older rows.1) x.told rows.0
   where
-    by_told : EachRecord IsShortRow (shown older) → (y : Told) → ToldRow lines x.number (shown older) y → EachRecord IsShortRow (with_told x.number y (shown older))
+    by_told : EachRecord IsShortRow (shown older) → (y : Told) → ToldRow c lines x.number (shown older) y → EachRecord IsShortRow (with_told x.number y (shown older))
     by_told rest (Shown r) row = (short_record lines x.number r (shown older) row.0, rest)
     by_told rest _ row = rest
 
 pub run_lists : (c : Config) (lines : List ScheduleLine) → EachRecord IsShortRow (trace_of (run_in c lines))
-run_lists c lines = let p : Courses lines (length lines) (run_in c lines) = run_courses c lines in each_short lines (run_in c lines).trace p.course.rows
+run_lists c lines = let p : Courses c lines (length lines) (run_in c lines) = run_courses c lines in each_short c lines (run_in c lines).trace p.course.rows

@@ -17,8 +17,8 @@ use Rattle.row_laws.specs.Shown.{trace_of}
 use Rattle.row_laws.proofs.AskedRun.{run_courses}
 
 -- a record leaves a site's boot number, or gives it a greater one
-pub boot_step : (before : Trace) (r : Record) (site : ℕ) → SiteRecordRow before r → boot_of before site ≤ boot_after r site (boot_of before site)
-boot_step before (says.Up s boot) site row = at (s == site) refl
+pub boot_step : (c : Config) (before : Trace) (r : Record) (site : ℕ) → SiteRecordRow c before r → boot_of before site ≤ boot_after r site (boot_of before site)
+boot_step c before (says.Up s boot) site row = at (s == site) refl
   where
     above : boot_of before s < boot
     above = less (boot_of before s) boot row.above
@@ -26,16 +26,16 @@ boot_step before (says.Up s boot) site row = at (s == site) refl
     at : (b : Bool) → (s == site) ≡ b → boot_of before site ≤ cond b boot (boot_of before site)
     at true e = let same : boot_of before s ≡ boot_of before site = ap (boot_of before) (equal s site e) in omega (arith, same, above)
     at false e = omega arith
-boot_step before _ site row = omega arith
+boot_step c before _ site row = omega arith
 
 -- a site that has a place stands by the records as it is
-low_there : (w : World) (site : ℕ) (p : Place) → boot_number w site ≤ 134217729 → place_at w site ≡ Some p → StandsAs (trace_of w) site p → boot_of (trace_of w) site ≤ 134217729
-low_there w site (Running v) low here stands =
+low_there : (c : Config) (w : World) (site : ℕ) (p : Place) → boot_number w site ≤ 134217729 → place_at w site ≡ Some p → StandsAs c (trace_of w) site p → boot_of (trace_of w) site ≤ 134217729
+low_there c w site (Running v) low here stands =
     let own : boot_number w site ≡ v.boot = ap boot_on here in
     let is : boot_of (trace_of w) site ≡ v.boot = stands.1 in omega arith
-low_there w site (Stopped d) low here stands =
+low_there c w site (Stopped d) low here stands =
     let own : boot_number w site ≡ d.label.boot = ap boot_on here in
     let is : boot_of (trace_of w) site ≤ d.label.boot = stands.1 in omega arith
 
 pub run_boots_told : (c : Config) (lines : List ScheduleLine) (site : ℕ) (p : Place) → place_at (run_in c lines) site ≡ Some p → boot_of (trace_of (run_in c lines)) site ≤ 134217729
-run_boots_told c lines site p here = low_there (run_in c lines) site p (run_boots_low c lines site) here ((run_courses c lines).course.places site p here)
+run_boots_told c lines site p here = low_there c (run_in c lines) site p (run_boots_low c lines site) here ((run_courses c lines).course.places site p here)

@@ -139,29 +139,29 @@ above_last s n id members older (Some last) rise h =
 rises_before : (x : Line) (older : List Line) → JoinsRise (x ∷ older) → JoinsRise older
 rises_before x older rise s j k later id members others newer between rest e stays = rise s j k later id members others (x ∷ newer) between rest (ap (λ (ls : List Line). x ∷ ls) e) stays
 
-record_site : (lines : List ScheduleLine) (n : ℕ) (r : Record) (older : List Line) → UpRecord (shown older) r → GoesOn (Shown r) older → FirstJoin (past_of older) (Shown r) → OneList (record { number = n; told = Shown r } ∷ older) → JoinsRise (record { number = n; told = Shown r } ∷ older) → SiteRecordRow (shown older) r
-record_site lines n (says.Up s boot) older up go first one rise = up
-record_site lines n (says.Stopped s why) older up go first one rise = up
-record_site lines n (says.Leave s id) older up go first one rise = record { inside = epoch_standing s older up ∙ go }
-record_site lines n (says.Join s id members) older up go first one rise = record {
+record_site : (c : Config) (lines : List ScheduleLine) (n : ℕ) (r : Record) (older : List Line) → UpRecord c (shown older) r → GoesOn (Shown r) older → FirstJoin (past_of older) (Shown r) → OneList (record { number = n; told = Shown r } ∷ older) → JoinsRise (record { number = n; told = Shown r } ∷ older) → SiteRecordRow c (shown older) r
+record_site c lines n (says.Up s boot) older up go first one rise = up
+record_site c lines n (says.Stopped s why) older up go first one rise = up
+record_site c lines n (says.Leave s id) older up go first one rise = record { inside = epoch_standing c s older up ∙ go }
+record_site c lines n (says.Join s id members) older up go first one rise = record {
   up = up;
-  outside = epoch_standing s older up ∙ go.2;
+  outside = epoch_standing c s older up ∙ go.2;
   new = is_new s id older first;
   later = above_last s n id members older (last_joined (shown older) s) rise (last_before s older);
   same = same_list id members (members_of (shown older) id) (λ m e. (let g : (t : ℕ) × Joined t id m older = listed_before id older m e in one g.0 s id m members (inr g.1) (inl (refl, refl, refl))));
 }
-record_site lines n _ older up go first one rise = tt
+record_site c lines n _ older up go first one rise = tt
 
-told_site : (lines : List ScheduleLine) (n : ℕ) (x : Told) (older : List Line) → ToldRow lines n (shown older) x → GoesOn x older → FirstJoin (past_of older) x → OneList (record { number = n; told = x } ∷ older) → JoinsRise (record { number = n; told = x } ∷ older) → EachRecord IsSiteRow (shown older) → EachRecord IsSiteRow (with_told n x (shown older))
-told_site lines n (Shown r) older row go first one rise rest = (record_site lines n r older row.1 go first one rise, rest)
-told_site lines n _ older row go first one rise rest = rest
+told_site : (c : Config) (lines : List ScheduleLine) (n : ℕ) (x : Told) (older : List Line) → ToldRow c lines n (shown older) x → GoesOn x older → FirstJoin (past_of older) x → OneList (record { number = n; told = x } ∷ older) → JoinsRise (record { number = n; told = x } ∷ older) → EachRecord (IsSiteRow c) (shown older) → EachRecord (IsSiteRow c) (with_told n x (shown older))
+told_site c lines n (Shown r) older row go first one rise rest = (record_site c lines n r older row.1 go first one rise, rest)
+told_site c lines n _ older row go first one rise rest = rest
 
-each_site : (lines : List ScheduleLine) (trace : List Line) → EachTold lines trace → EpochsGoOn trace → JoinsAreOnce (past_of trace) → OneList trace → JoinsRise trace → EachRecord IsSiteRow (shown trace)
-each_site lines [] rows go first one rise = tt
-each_site lines (x ∷ older) rows go first one rise =
-    told_site lines x.number x.told older rows.0 go.0 first.0 one rise (each_site lines older rows.1 go.1 first.1 (λ s t id m n h g. one s t id m n (inr h) (inr g)) (rises_before x older rise))
+each_site : (c : Config) (lines : List ScheduleLine) (trace : List Line) → EachTold c lines trace → EpochsGoOn trace → JoinsAreOnce (past_of trace) → OneList trace → JoinsRise trace → EachRecord (IsSiteRow c) (shown trace)
+each_site c lines [] rows go first one rise = tt
+each_site c lines (x ∷ older) rows go first one rise =
+    told_site c lines x.number x.told older rows.0 go.0 first.0 one rise (each_site c lines older rows.1 go.1 first.1 (λ s t id m n h g. one s t id m n (inr h) (inr g)) (rises_before x older rise))
 
-pub run_sites : (c : Config) (lines : List ScheduleLine) → EachRecord IsSiteRow (trace_of (run_in c lines))
+pub run_sites : (c : Config) (lines : List ScheduleLine) → EachRecord (IsSiteRow c) (trace_of (run_in c lines))
 run_sites c lines =
-    let p : Courses lines (length lines) (run_in c lines) = run_courses c lines in
-    each_site lines (run_in c lines).trace p.course.rows p.good.law (run_joins_once c lines) (one_list c lines) (run_joins_rise c lines)
+    let p : Courses c lines (length lines) (run_in c lines) = run_courses c lines in
+    each_site c lines (run_in c lines).trace p.course.rows p.good.law (run_joins_once c lines) (one_list c lines) (run_joins_rise c lines)

@@ -34,7 +34,7 @@ stop_line c lines n before site cause.Asked a k r = a
 stop_line c lines n before site cause.Fuse a k r = record { working = a; armed = k; counted = r }
 stop_line c lines n before site cause.Fault a k r = record { working = a; armed = k; counted = r }
 
-record_comes : (c : Config) (lines : List ScheduleLine) (n : ℕ) (before : Trace) (r : Record) → SiteRecordRow before r → MemberRecord before r → RestRecord c lines n before r → MayCome c before r
+record_comes : (c : Config) (lines : List ScheduleLine) (n : ℕ) (before : Trace) (r : Record) → SiteRecordRow c before r → MemberRecord before r → RestRecord c lines n before r → MayCome c before r
 record_comes c lines n before (says.Up site boot) s m r = s
 record_comes c lines n before (says.Stopped site why) s m r = s
 record_comes c lines n before (says.Leave site epoch) s m r = s
@@ -68,14 +68,14 @@ record_is_asked c lines n before says.Void a k v r = void_asked (is_call (line_a
 record_is_asked c lines n before says.Budget a k v r = a
 record_is_asked c lines n before _ a k v r = tt
 
-one_comes : (c : Config) (lines : List ScheduleLine) (before : Trace) (r : Entry) → IsPlaced lines before r → IsAskedFor lines before r → IsSiteRow before r → IsMemberRow before r → IsArmedFor c lines before r → IsVoidRow lines before r → IsRestRow c lines before r → Comes c lines before r
+one_comes : (c : Config) (lines : List ScheduleLine) (before : Trace) (r : Entry) → IsPlaced lines before r → IsAskedFor lines before r → IsSiteRow c before r → IsMemberRow before r → IsArmedFor c lines before r → IsVoidRow lines before r → IsRestRow c lines before r → Comes c lines before r
 one_comes c lines before r p a s m k v rest = record {
   consistent = record { ascending = p.ascending; row = record_comes c lines r.line before r.what s m rest };
   placed = p.placed;
   asked = record_is_asked c lines r.line before r.what a k v rest;
 }
 
-all_come : (c : Config) (lines : List ScheduleLine) (trace : Trace) → EachRecord (IsPlaced lines) trace → EachRecord (IsAskedFor lines) trace → EachRecord IsSiteRow trace → EachRecord IsMemberRow trace → EachRecord (IsArmedFor c lines) trace → EachRecord (IsVoidRow lines) trace → EachRecord (IsRestRow c lines) trace → EachComes c lines trace
+all_come : (c : Config) (lines : List ScheduleLine) (trace : Trace) → EachRecord (IsPlaced lines) trace → EachRecord (IsAskedFor lines) trace → EachRecord (IsSiteRow c) trace → EachRecord IsMemberRow trace → EachRecord (IsArmedFor c lines) trace → EachRecord (IsVoidRow lines) trace → EachRecord (IsRestRow c lines) trace → EachComes c lines trace
 all_come c lines [] p a s m k v rest = tt
 all_come c lines (r ∷ before) p a s m k v rest = (one_comes c lines before r p.0 a.0 s.0 m.0 k.0 v.0 rest.0, all_come c lines before p.1 a.1 s.1 m.1 k.1 v.1 rest.1)
 

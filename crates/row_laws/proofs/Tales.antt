@@ -1,4 +1,6 @@
 -- What the lines of a trace tell, record by record.
+use Rattle.locus_ids.specs.declared.config.Config.{Config}
+use Rattle.schedule_lines.specs.Cluster.{config_of}
 use Rattle.std.proofs.Common.{◌≡◌, ◌≢◌, ◌≤◌, ◌<◌, ℕ, ◌+◌, ◌==◌, nat_le, Bool, true, false, cond, ◌||◌, ◌&&◌, not, List, [], ◌∷◌, length, take, filter, Option, Some, None, refl, sym, ◌∙◌, ap, subst, arith, ◌⊎◌, inl, inr}
 use Rattle.std.proofs.lemmas.Bool.Decides.{nat_tests}
 use Rattle.role_steps.proofs.of_plain_facts.Numbers.{apart_test, equal_self}
@@ -78,7 +80,7 @@ told_by_same (Some false) (Header h) m later now same = refl
 told_by_same (Some false) (EventLine l) m later now same = ap (λ (k : ℕ). not (must_tell l) || (k == 1)) (same (tale l))
 
 void_same : (lines : List ScheduleLine) (k m : ℕ) (x : Told) (now : Trace) → m ≤ k → is_void_line lines (with_told k x now) m ≡ is_void_line lines now m
-void_same lines k m x now h = ap (λ (t : Trace). is_void_after (lines_before lines m) t (line_at lines m)) (before_told k m x now h)
+void_same lines k m x now h = ap (λ (t : Trace). is_void_after (config_of lines) (lines_before lines m) t (line_at lines m)) (before_told k m x now h)
 
 told_same : (lines : List ScheduleLine) (k m : ℕ) (x : Told) (now : Trace) → m ≤ k → k ≢ m → is_told lines (with_told k x now) m ≡ is_told lines now m
 told_same lines k m x now h ne =
@@ -119,8 +121,8 @@ onto_before k m [] trace h = refl
 onto_before k m (x ∷ xs) trace h = onto_before k m xs (record { number = k; told = x } ∷ trace) h ∙ before_told k m x (shown trace) h
 
 -- whether it is void, also after what it tells
-pub void_here : (lines : List ScheduleLine) (n : ℕ) (l : LineWords) (told : List Told) (w : World) → IsLine lines (n + 1) l → InCourse lines n w → is_void_line lines (shown (told_onto (n + 1) told w.trace)) (n + 1) ≡ has_no_effect (take n lines) (trace_of w) l
-void_here lines n l told w is f = ap (λ (t : Trace). is_void_after (lines_before lines (n + 1)) t (line_at lines (n + 1))) (onto_before (n + 1) (n + 1) told w.trace (omega arith)) ∙ void_now lines n l w is f
+pub void_here : (c : Config) (lines : List ScheduleLine) (n : ℕ) (l : LineWords) (told : List Told) (w : World) → IsLine lines (n + 1) l → InCourse c lines n w → is_void_line lines (shown (told_onto (n + 1) told w.trace)) (n + 1) ≡ has_no_effect (config_of lines) (take n lines) (trace_of w) l
+void_here c lines n l told w is f = ap (λ (t : Trace). is_void_after c (lines_before lines (n + 1)) t (line_at lines (n + 1))) (onto_before (n + 1) (n + 1) told w.trace (omega arith)) ∙ void_now c lines n l w is f
 
 by_words : (lines : List ScheduleLine) (m : ℕ) (l : LineWords) (d e : Option Bool) (now : Trace) → IsLine lines m l → is_void_line lines now m ≡ d → d ≡ e → is_told_by e (EventLine l) m now ≡ true → is_told lines now m ≡ true
 by_words lines m l d e now is v q h = ap (λ (x : Option Bool). is_told_by x (line_at lines m) m now) (v ∙ q) ∙ (ap (λ (x : ScheduleLine). is_told_by e x m now) is ∙ h)
@@ -134,21 +136,21 @@ void_told (Some false) l m now h k = absurd (never h)
     never e = cc
 
 -- a void line tells that it is, once
-pub voids_told : (lines : List ScheduleLine) (n : ℕ) (l : LineWords) (w : World) → IsLine lines (n + 1) l → InCourse lines n w → may_be_void (has_no_effect (take n lines) (trace_of w) l) ≡ true → is_told lines (record { line = n + 1; what = says.Void } ∷ trace_of w) (n + 1) ≡ true
-voids_told lines n l w is f void =
-    by_words lines (n + 1) l (has_no_effect (take n lines) (trace_of w) l) (has_no_effect (take n lines) (trace_of w) l) (record { line = n + 1; what = says.Void } ∷ trace_of w) is (void_here lines n l (Shown says.Void ∷ []) w is f) refl
-    (void_told (has_no_effect (take n lines) (trace_of w) l) (EventLine l) (n + 1) (record { line = n + 1; what = says.Void } ∷ trace_of w) void (many_one is_void (n + 1) says.Void (trace_of w) refl ∙ ap (λ (k : ℕ). k + 1) (none_yet is_void n (n + 1) w.trace f.ascends (omega arith))))
+pub voids_told : (c : Config) (lines : List ScheduleLine) (n : ℕ) (l : LineWords) (w : World) → IsLine lines (n + 1) l → InCourse c lines n w → may_be_void (has_no_effect (config_of lines) (take n lines) (trace_of w) l) ≡ true → is_told lines (record { line = n + 1; what = says.Void } ∷ trace_of w) (n + 1) ≡ true
+voids_told c lines n l w is f void =
+    by_words lines (n + 1) l (has_no_effect c (take n lines) (trace_of w) l) (has_no_effect c (take n lines) (trace_of w) l) (record { line = n + 1; what = says.Void } ∷ trace_of w) is (void_here c lines n l (Shown says.Void ∷ []) w is f) refl
+    (void_told (has_no_effect c (take n lines) (trace_of w) l) (EventLine l) (n + 1) (record { line = n + 1; what = says.Void } ∷ trace_of w) void (many_one is_void (n + 1) says.Void (trace_of w) refl ∙ ap (λ (k : ℕ). k + 1) (none_yet is_void n (n + 1) w.trace f.ascends (omega arith))))
 
 -- a line that isn't void, and must tell nothing
-pub silent_told : (lines : List ScheduleLine) (n : ℕ) (l : LineWords) (told : List Told) (w : World) → IsLine lines (n + 1) l → InCourse lines n w → has_no_effect (take n lines) (trace_of w) l ≡ Some false → must_tell l ≡ false → is_told lines (shown (told_onto (n + 1) told w.trace)) (n + 1) ≡ true
-silent_told lines n l told w is f none must =
-    by_words lines (n + 1) l (has_no_effect (take n lines) (trace_of w) l) (Some false) (shown (told_onto (n + 1) told w.trace)) is (void_here lines n l told w is f) none
+pub silent_told : (c : Config) (lines : List ScheduleLine) (n : ℕ) (l : LineWords) (told : List Told) (w : World) → IsLine lines (n + 1) l → InCourse c lines n w → has_no_effect (config_of lines) (take n lines) (trace_of w) l ≡ Some false → must_tell l ≡ false → is_told lines (shown (told_onto (n + 1) told w.trace)) (n + 1) ≡ true
+silent_told c lines n l told w is f none must =
+    by_words lines (n + 1) l (has_no_effect c (take n lines) (trace_of w) l) (Some false) (shown (told_onto (n + 1) told w.trace)) is (void_here c lines n l told w is f) none
     (ap (λ (b : Bool). not b || (how_many (tale l) (n + 1) (shown (told_onto (n + 1) told w.trace)) == 1)) must)
 
 -- a line that isn't void, and tells what it must, first
-pub tale_told : (lines : List ScheduleLine) (n : ℕ) (l : LineWords) (r : Record) (rest : List Told) (w : World) → IsLine lines (n + 1) l → InCourse lines n w → has_no_effect (take n lines) (trace_of w) l ≡ Some false → tale l r ≡ true → Every (Passes (tale l) false) rest → is_told lines (shown (told_onto (n + 1) (Shown r ∷ rest) w.trace)) (n + 1) ≡ true
-tale_told lines n l r rest w is f none here others =
-    by_words lines (n + 1) l (has_no_effect (take n lines) (trace_of w) l) (Some false) now is (void_here lines n l (Shown r ∷ rest) w is f) none
+pub tale_told : (c : Config) (lines : List ScheduleLine) (n : ℕ) (l : LineWords) (r : Record) (rest : List Told) (w : World) → IsLine lines (n + 1) l → InCourse c lines n w → has_no_effect (config_of lines) (take n lines) (trace_of w) l ≡ Some false → tale l r ≡ true → Every (Passes (tale l) false) rest → is_told lines (shown (told_onto (n + 1) (Shown r ∷ rest) w.trace)) (n + 1) ≡ true
+tale_told c lines n l r rest w is f none here others =
+    by_words lines (n + 1) l (has_no_effect c (take n lines) (trace_of w) l) (Some false) now is (void_here c lines n l (Shown r ∷ rest) w is f) none
     (ap (λ (k : ℕ). not (must_tell l) || (k == 1)) once ∙ or_true (not (must_tell l)))
   where
     now : Trace
@@ -172,7 +174,7 @@ no_voids (x ∷ xs) h = (of_told x h.0, no_voids xs h.1)
     of_told _ h = tt
 
 quiet_line : (lines : List ScheduleLine) (m : ℕ) (l : ScheduleLine) (now : Trace) → line_at lines m ≡ l → begins_quietly l ≡ true → how_many is_void m now ≤ 1 → is_told lines now m ≡ true
-quiet_line lines m l now is q few = ap (λ (x : ScheduleLine). is_told_by (is_void_after (lines_before lines m) (before_line now m) x) x m now) is ∙ of_line l q
+quiet_line lines m l now is q few = ap (λ (x : ScheduleLine). is_told_by (is_void_after (config_of lines) (lines_before lines m) (before_line now m) x) x m now) is ∙ of_line l q
   where
     never : false ≡ true → ⊥
     never e = cc
@@ -180,7 +182,7 @@ quiet_line lines m l now is q few = ap (λ (x : ScheduleLine). is_told_by (is_vo
     at_most : (k : ℕ) → k ≤ 1 → nat_le k 1 ≡ true
     at_most k h = grind (arith, nat_tests)
 
-    of_line : (l : ScheduleLine) → begins_quietly l ≡ true → is_told_by (is_void_after (lines_before lines m) (before_line now m) l) l m now ≡ true
+    of_line : (l : ScheduleLine) → begins_quietly l ≡ true → is_told_by (is_void_after (config_of lines) (lines_before lines m) (before_line now m) l) l m now ≡ true
     of_line Passed q = refl
     of_line (Header h) q = refl
     of_line (EventLine (line.Deliver packet)) q = at_most (how_many is_void m now) few
@@ -203,19 +205,19 @@ few_of : (k : ℕ) → k ≡ 0 → k ≤ 1
 few_of k e = omega (arith, e)
 
 -- it begins
-pub quiet_told : (lines : List ScheduleLine) (n : ℕ) (w : World) → begins_quietly (line_at lines (n + 1)) ≡ true → InCourse lines n w → is_told lines (trace_of w) (n + 1) ≡ true
-quiet_told lines n w q f = quiet_line lines (n + 1) (line_at lines (n + 1)) (trace_of w) refl q (few_of (how_many is_void (n + 1) (trace_of w)) (none_yet is_void n (n + 1) w.trace f.ascends (omega arith)))
+pub quiet_told : (c : Config) (lines : List ScheduleLine) (n : ℕ) (w : World) → begins_quietly (line_at lines (n + 1)) ≡ true → InCourse c lines n w → is_told lines (trace_of w) (n + 1) ≡ true
+quiet_told c lines n w q f = quiet_line lines (n + 1) (line_at lines (n + 1)) (trace_of w) refl q (few_of (how_many is_void (n + 1) (trace_of w)) (none_yet is_void n (n + 1) w.trace f.ascends (omega arith)))
 
 -- what else it tells is no void line
-void_few : (lines : List ScheduleLine) (m : ℕ) (l : ScheduleLine) (now : Trace) → line_at lines m ≡ l → is_told_by (is_void_after (lines_before lines m) (before_line now m) l) l m now ≡ true → begins_quietly l ≡ true → (later : Trace) → how_many is_void m later ≡ how_many is_void m now → is_told lines later m ≡ true
+void_few : (lines : List ScheduleLine) (m : ℕ) (l : ScheduleLine) (now : Trace) → line_at lines m ≡ l → is_told_by (is_void_after (config_of lines) (lines_before lines m) (before_line now m) l) l m now ≡ true → begins_quietly l ≡ true → (later : Trace) → how_many is_void m later ≡ how_many is_void m now → is_told lines later m ≡ true
 void_few lines m Passed now is t q later same = quiet_passed
   where
     quiet_passed : is_told lines later m ≡ true
-    quiet_passed = ap (λ (x : ScheduleLine). is_told_by (is_void_after (lines_before lines m) (before_line later m) x) x m later) is
-void_few lines m (Header h) now is t q later same = ap (λ (x : ScheduleLine). is_told_by (is_void_after (lines_before lines m) (before_line later m) x) x m later) is
-void_few lines m (EventLine (line.Settle most)) now is t q later same = ap (λ (x : ScheduleLine). is_told_by (is_void_after (lines_before lines m) (before_line later m) x) x m later) is
-void_few lines m (EventLine (line.Deliver packet)) now is t q later same = ap (λ (x : ScheduleLine). is_told_by (is_void_after (lines_before lines m) (before_line later m) x) x m later) is ∙ (ap (λ (k : ℕ). nat_le k 1) same ∙ t)
-void_few lines m (EventLine (line.Lose packet)) now is t q later same = ap (λ (x : ScheduleLine). is_told_by (is_void_after (lines_before lines m) (before_line later m) x) x m later) is ∙ (ap (λ (k : ℕ). nat_le k 1) same ∙ t)
+    quiet_passed = ap (λ (x : ScheduleLine). is_told_by (is_void_after (config_of lines) (lines_before lines m) (before_line later m) x) x m later) is
+void_few lines m (Header h) now is t q later same = ap (λ (x : ScheduleLine). is_told_by (is_void_after (config_of lines) (lines_before lines m) (before_line later m) x) x m later) is
+void_few lines m (EventLine (line.Settle most)) now is t q later same = ap (λ (x : ScheduleLine). is_told_by (is_void_after (config_of lines) (lines_before lines m) (before_line later m) x) x m later) is
+void_few lines m (EventLine (line.Deliver packet)) now is t q later same = ap (λ (x : ScheduleLine). is_told_by (is_void_after (config_of lines) (lines_before lines m) (before_line later m) x) x m later) is ∙ (ap (λ (k : ℕ). nat_le k 1) same ∙ t)
+void_few lines m (EventLine (line.Lose packet)) now is t q later same = ap (λ (x : ScheduleLine). is_told_by (is_void_after (config_of lines) (lines_before lines m) (before_line later m) x) x m later) is ∙ (ap (λ (k : ℕ). nat_le k 1) same ∙ t)
 void_few lines m (EventLine (line.Call site process words)) now is t q later same = absurd (never q)
   where
     never : false ≡ true → ⊥
@@ -234,7 +236,7 @@ void_few lines m (EventLine line.Pending) now is t q later same = absurd (cc)
 
 pub course_told : (lines : List ScheduleLine) (m : ℕ) (l : ScheduleLine) (told : List Told) (trace : List Line) → line_at lines m ≡ l → begins_quietly l ≡ true → Every NoVoid told → is_told lines (shown trace) m ≡ true → is_told lines (shown (told_onto m told trace)) m ≡ true
 course_told lines m l told trace is q h t =
-    void_few lines m l (shown trace) is (ap (λ (x : ScheduleLine). is_told_by (is_void_after (lines_before lines m) (before_line (shown trace) m) x) x m (shown trace)) (sym is) ∙ t) q (shown (told_onto m told trace)) (many_onto is_void m told trace (no_voids told h))
+    void_few lines m l (shown trace) is (ap (λ (x : ScheduleLine). is_told_by (is_void_after (config_of lines) (lines_before lines m) (before_line (shown trace) m) x) x m (shown trace)) (sym is) ∙ t) q (shown (told_onto m told trace)) (many_onto is_void m told trace (no_voids told h))
 
 -- ---- within the limits ----
 

@@ -1,4 +1,5 @@
 -- In every run whose lines fit the cluster, and that passes no limit, each line is told, where it isn't a call.
+use Rattle.schedule_lines.specs.Cluster.{config_of}
 use Rattle.std.proofs.Common.{◌≡◌, ◌≤◌, ◌<◌, ℕ, zero, suc, ◌+◌, ◌==◌, Bool, true, false, cond, ◌||◌, not, List, [], ◌∷◌, ◌++◌, length, take, map, Option, Some, None, refl, sym, ◌∙◌, ap, subst, arith}
 use Rattle.std.proofs.lemmas.Bool.Decides.{nat_tests}
 use Rattle.std.specs.Option.{is_none, is_some}
@@ -101,10 +102,10 @@ some_here : (o : Option InEpoch) → not (is_some o) ≡ false → is_none (epoc
 some_here None e = absurd (false_true (sym e))
 some_here (Some x) e = refl
 
-not_apart : (lines : List ScheduleLine) (n s : ℕ) (v : SiteView) (w : World) → place_at w s ≡ Some (Running v) → is_in_no_epoch (place_at w s) ≡ false → Good w → InCourse lines n w → is_apart (trace_of w) s ≡ false
-not_apart lines n s v w here inside good f =
+not_apart : (c : Config) (lines : List ScheduleLine) (n s : ℕ) (v : SiteView) (w : World) → place_at w s ≡ Some (Running v) → is_in_no_epoch (place_at w s) ≡ false → Good w → InCourse c lines n w → is_apart (config_of lines) (trace_of w) s ≡ false
+not_apart c lines n s v w here inside good f =
     ap (λ (b : Bool). not b || is_none (epoch_of (trace_of w) s)) (f.places s (Running v) here).0
-    ∙ (ap is_none (epoch_here lines n s v w here good f) ∙ some_here v.epoch (sym (ap is_in_no_epoch here) ∙ inside))
+    ∙ (ap is_none (epoch_here c lines n s v w here good f) ∙ some_here v.epoch (sym (ap is_in_no_epoch here) ∙ inside))
 
 -- ---- a line that has its site leave ----
 
@@ -154,7 +155,7 @@ give_tales c lines n s v w is here inside p =
     subst (λ (x : Option DiskWrite). TalesTold lines (n + 1) (acts_of (n + 1) s v o x w)) (sym g.none)
     (happened_tales lines (n + 1) o.sent o.told (λ now. puts s (Running o.view) now) w
     (next_told lines n o.told w p.tales (λ none. subst (λ (xs : List Told). is_told lines (shown (told_onto (n + 1) xs w.trace)) (n + 1) ≡ true) (sym g.told_is)
-    (tale_told lines n (line.GiveUp s) g.first g.rest w is p.voids.courses.course (ap Some (not_apart lines n s v w here inside p.voids.courses.good p.voids.courses.course)) g.leaves_so g.others))))
+    (tale_told c lines n (line.GiveUp s) g.first g.rest w is p.voids.courses.course (ap Some (not_apart c lines n s v w here inside p.voids.courses.good p.voids.courses.course)) g.leaves_so g.others))))
   where
     o : Outcome SiteView
     o = step c s (links_of w s) v GivesUp
@@ -164,10 +165,10 @@ give_tales c lines n s v w is here inside p =
 
 -- ---- the other lines of sites ----
 
-silent_tales : (c : Config) (lines : List ScheduleLine) (n s : ℕ) (l : LineWords) (e : Event) (v : SiteView) (w : World) → Comes e → IsLine lines (n + 1) l → has_no_effect (take n lines) (trace_of w) l ≡ Some false → must_tell l ≡ false → place_at w s ≡ Some (Running v) → TalesOf c lines n w → TalesTold lines (n + 1) (acts (n + 1) s v (step c s (links_of w s) v e) w)
+silent_tales : (c : Config) (lines : List ScheduleLine) (n s : ℕ) (l : LineWords) (e : Event) (v : SiteView) (w : World) → Comes e → IsLine lines (n + 1) l → has_no_effect c (take n lines) (trace_of w) l ≡ Some false → must_tell l ≡ false → place_at w s ≡ Some (Running v) → TalesOf c lines n w → TalesTold lines (n + 1) (acts (n + 1) s v (step c s (links_of w s) v e) w)
 silent_tales c lines n s l e v w comes is none must here p =
     acts_tales lines (n + 1) s (causes_of s (links_of w s) v e) v (step c s (links_of w s) v e) w (step_forms (DeedsOf w.trace s) s c (links_of w s) v e (p.voids.courses.good.views s v here) (p.voids.courses.course.places s (Running v) here).2 comes)
-    (λ told h. next_told lines n told w p.tales (λ q. silent_told lines n l told w is p.voids.courses.course none must))
+    (λ told h. next_told lines n told w p.tales (λ q. silent_told c lines n l told w is p.voids.courses.course none must))
 
 call_tales : (c : Config) (lines : List ScheduleLine) (n s : ℕ) (l : LineWords) (e : Event) (v : SiteView) (w : World) → Comes e → IsLine lines (n + 1) l → is_call (EventLine l) ≡ true → place_at w s ≡ Some (Running v) → TalesOf c lines n w → TalesTold lines (n + 1) (acts (n + 1) s v (step c s (links_of w s) v e) w)
 call_tales c lines n s l e v w comes is call here p =
@@ -176,27 +177,27 @@ call_tales c lines n s l e v w comes is call here p =
 
 step_tales : (c : Config) (lines : List ScheduleLine) (n s : ℕ) (l : LineWords) (e : Event) (v : SiteView) (w : World) → IsLine lines (n + 1) l → Gives w l s e → place_at w s ≡ Some (Running v) → TalesOf c lines n w → TalesTold lines (n + 1) (acts (n + 1) s v (step c s (links_of w s) v e) w)
 step_tales c lines n s (line.Call site process words) (Calls p x) v w is g here q = call_tales c lines n s (line.Call site process words) (Calls p x) v w tt is refl here q
-step_tales c lines n s (line.Tick site) Ticks v w is g here q = silent_tales c lines n s (line.Tick site) Ticks v w tt is (ap (λ (t : ℕ). Some (not (is_up (trace_of w) t))) g ∙ some_false (is_up (trace_of w) s) (q.voids.courses.course.places s (Running v) here).0) refl here q
-step_tales c lines n s (line.Merge site) Merges v w is g here q = silent_tales c lines n s (line.Merge site) Merges v w tt is (ap (λ (t : ℕ). Some (not (is_up (trace_of w) t))) g ∙ some_false (is_up (trace_of w) s) (q.voids.courses.course.places s (Running v) here).0) refl here q
+step_tales c lines n s (line.Tick site) Ticks v w is g here q = silent_tales c lines n s (line.Tick site) Ticks v w tt is (ap (λ (t : ℕ). Some (not (is_up c (trace_of w) t))) g ∙ some_false (is_up c (trace_of w) s) (q.voids.courses.course.places s (Running v) here).0) refl here q
+step_tales c lines n s (line.Merge site) Merges v w is g here q = silent_tales c lines n s (line.Merge site) Merges v w tt is (ap (λ (t : ℕ). Some (not (is_up c (trace_of w) t))) g ∙ some_false (is_up c (trace_of w) s) (q.voids.courses.course.places s (Running v) here).0) refl here q
 step_tales c lines n s (line.Part site) Parts v w is g here q =
-    silent_tales c lines n s (line.Part site) Parts v w tt is (ap (λ (t : ℕ). Some (is_apart (trace_of w) t)) g.0 ∙ ap Some (not_apart lines n s v w here (subst (λ (t : ℕ). is_in_no_epoch (place_at w t) ≡ false) g.0 g.1) q.voids.courses.good q.voids.courses.course)) refl here q
+    silent_tales c lines n s (line.Part site) Parts v w tt is (ap (λ (t : ℕ). Some (is_apart c (trace_of w) t)) g.0 ∙ ap Some (not_apart c lines n s v w here (subst (λ (t : ℕ). is_in_no_epoch (place_at w t) ≡ false) g.0 g.1) q.voids.courses.good q.voids.courses.course)) refl here q
 step_tales c lines n s (line.GiveUp site) GivesUp v w is g here q =
     give_tales c lines n s v w (subst (λ (t : ℕ). IsLine lines (n + 1) (line.GiveUp t)) g.0 is) here (subst (λ (t : ℕ). is_in_no_epoch (place_at w t) ≡ false) g.0 g.1) q
 step_tales c lines n s _ _ v w is g here q = absurd g
 
 -- ---- boots ----
 
-booted_tales : (c : Config) (lines : List ScheduleLine) (n s : ℕ) (b : Booted) (w : World) → IsLine lines (n + 1) (line.Boot s) → is_up (trace_of w) s ≡ false → TalesOf c lines n w → TalesTold lines (n + 1) (boots_as (n + 1) s b w)
+booted_tales : (c : Config) (lines : List ScheduleLine) (n s : ℕ) (b : Booted) (w : World) → IsLine lines (n + 1) (line.Boot s) → is_up c (trace_of w) s ≡ false → TalesOf c lines n w → TalesTold lines (n + 1) (boots_as (n + 1) s b w)
 booted_tales c lines n s (Whole d a) w is down p =
-    happened_tales lines (n + 1) [] (Shown (says.Up s d.label.boot) ∷ []) _ w (next_told lines n (Shown (says.Up s d.label.boot) ∷ []) w p.tales (λ q. tale_told lines n (line.Boot s) (says.Up s d.label.boot) [] w is p.voids.courses.course (ap Some down) (equal_self s) tt))
+    happened_tales lines (n + 1) [] (Shown (says.Up s d.label.boot) ∷ []) _ w (next_told lines n (Shown (says.Up s d.label.boot) ∷ []) w p.tales (λ q. tale_told c lines n (line.Boot s) (says.Up s d.label.boot) [] w is p.voids.courses.course (ap Some down) (equal_self s) tt))
 booted_tales c lines n s (CutOff d how) w is down p =
-    happened_tales lines (n + 1) [] (Shown (says.Stopped s (cause_of how)) ∷ []) (stops_with s d) w (next_told lines n (Shown (says.Stopped s (cause_of how)) ∷ []) w p.tales (λ q. tale_told lines n (line.Boot s) (says.Stopped s (cause_of how)) [] w is p.voids.courses.course (ap Some down) (equal_self s) tt))
+    happened_tales lines (n + 1) [] (Shown (says.Stopped s (cause_of how)) ∷ []) (stops_with s d) w (next_told lines n (Shown (says.Stopped s (cause_of how)) ∷ []) w p.tales (λ q. tale_told c lines n (line.Boot s) (says.Stopped s (cause_of how)) [] w is p.voids.courses.course (ap Some down) (equal_self s) tt))
 
 -- ---- every event and change ----
 
 arming_silent : (c : Config) (lines : List ScheduleLine) (n : ℕ) (l : LineWords) (a : _) (w : World) → IsLine lines (n + 1) l → ArmsAs l a → TalesOf c lines n w → is_told lines (trace_of w) (n + 1) ≡ true
-arming_silent c lines n (line.ArmStop site calls left) a w is so p = silent_told lines n (line.ArmStop site calls left) [] w is p.voids.courses.course refl refl
-arming_silent c lines n (line.ArmFail site calls) a w is so p = silent_told lines n (line.ArmFail site calls) [] w is p.voids.courses.course refl refl
+arming_silent c lines n (line.ArmStop site calls left) a w is so p = silent_told c lines n (line.ArmStop site calls left) [] w is p.voids.courses.course refl refl
+arming_silent c lines n (line.ArmFail site calls) a w is so p = silent_told c lines n (line.ArmFail site calls) [] w is p.voids.courses.course refl refl
 arming_silent c lines n (line.Call site process words) a w is so p = absurd so
 arming_silent c lines n (line.Deliver packet) a w is so p = absurd so
 arming_silent c lines n (line.Lose packet) a w is so p = absurd so
@@ -234,7 +235,7 @@ line_one lines (suc n) l is = omega arith
 
 tales_kept : (c : Config) (lines : List ScheduleLine) → LinesFit c lines → KeptIn c lines (TalesOf c lines)
 tales_kept c lines fit = record {
-  begins = λ n w there quiet p. record { voids = kept.begins n w there quiet p.voids; tales = λ none. told_to_next lines n (trace_of w) (p.tales none) (λ q. quiet_told lines n w quiet p.voids.courses.course) };
+  begins = λ n w there quiet p. record { voids = kept.begins n w there quiet p.voids; tales = λ none. told_to_next lines n (trace_of w) (p.tales none) (λ q. quiet_told c lines n w quiet p.voids.courses.course) };
   ticks = λ n most s v w is here p. record {
     voids = kept.ticks n most s v w is here p.voids;
     tales = acts_tales lines n s (causes_of s (links_of w s) v Ticks) v (step c s (links_of w s) v Ticks) w (step_forms (DeedsOf w.trace s) s c (links_of w s) v Ticks (p.voids.courses.good.views s v here) (p.voids.courses.course.places s (Running v) here).2 tt)
@@ -243,7 +244,7 @@ tales_kept c lines fit = record {
   receives = λ n l x v w is d here sent p. record {
     voids = kept.receives n l x v w is d here sent p.voids;
     tales = acts_tales lines n x.packet.to (causes_of x.packet.to (links_of w x.packet.to) v (Receives x.packet)) v (step c x.packet.to (links_of (passed x.number w) x.packet.to) v (Receives x.packet)) (passed x.number w)
-        (step_forms (DeedsOf w.trace x.packet.to) x.packet.to c (links_of (passed x.number w) x.packet.to) v (Receives x.packet) (p.voids.courses.good.views x.packet.to v here) (p.voids.courses.course.places x.packet.to (Running v) here).2 (sent_polls lines n w x sent p.voids.courses.course))
+        (step_forms (DeedsOf w.trace x.packet.to) x.packet.to c (links_of (passed x.number w) x.packet.to) v (Receives x.packet) (p.voids.courses.good.views x.packet.to v here) (p.voids.courses.course.places x.packet.to (Running v) here).2 (sent_polls c lines n w x sent p.voids.courses.course))
         (λ told h none. course_to lines n l told w is (delivers_quietly l d) h (line_one lines n l is) (p.tales none));
   };
   passes = λ n k w p. record { voids = kept.passes n k w p.voids; tales = p.tales };
@@ -251,17 +252,17 @@ tales_kept c lines fit = record {
   budgets = λ n most w is p. record { voids = kept.budgets n most w is p.voids; tales = happened_tales lines n [] (Shown says.Budget ∷ []) (λ now. now) w (λ none. course_to lines n (line.Settle most) (Shown says.Budget ∷ []) w is refl (tt, tt) (line_one lines n (line.Settle most) is) (p.tales none)) };
   voiding = λ n l w there is void p. record {
     voids = kept.voiding n l w there is void p.voids;
-    tales = happened_tales lines (n + 1) [] (Shown says.Void ∷ []) (λ now. now) w (next_told lines n (Shown says.Void ∷ []) w p.tales (λ q. voids_told lines n l w is p.voids.courses.course (void_says c lines n l w (fit (n + 1) l is) (sym (ap is_call is) ∙ q) void p.voids.courses.good p.voids.courses.course p.voids.voids.places p.voids.voids.circuits)));
+    tales = happened_tales lines (n + 1) [] (Shown says.Void ∷ []) (λ now. now) w (next_told lines n (Shown says.Void ∷ []) w p.tales (λ q. voids_told c lines n l w is p.voids.courses.course (void_says c lines n l w (fit (n + 1) l is) (sym (ap is_call is) ∙ q) void p.voids.courses.good p.voids.courses.course p.voids.voids.places p.voids.voids.circuits)));
   };
   steps = λ n s l e v w there is g here p. record { voids = kept.steps n s l e v w there is g here p.voids; tales = step_tales c lines n s l e v w is g here p };
-  cutting = λ n one other w there is cut p. record { voids = kept.cutting n one other w there is cut p.voids; tales = λ none. told_to_next lines n (trace_of w) (p.tales none) (λ q. silent_told lines n (line.Down one other) [] w is p.voids.courses.course (ap Some (sym (p.voids.voids.circuits one other) ∙ cut)) refl) };
-  mending = λ n one other w there is cut p. record { voids = kept.mending n one other w there is cut p.voids; tales = λ none. told_to_next lines n (trace_of w) (p.tales none) (λ q. silent_told lines n (line.Up one other) [] w is p.voids.courses.course (ap Some (ap not (sym (p.voids.voids.circuits one other)) ∙ cut)) refl) };
+  cutting = λ n one other w there is cut p. record { voids = kept.cutting n one other w there is cut p.voids; tales = λ none. told_to_next lines n (trace_of w) (p.tales none) (λ q. silent_told c lines n (line.Down one other) [] w is p.voids.courses.course (ap Some (sym (p.voids.voids.circuits one other) ∙ cut)) refl) };
+  mending = λ n one other w there is cut p. record { voids = kept.mending n one other w there is cut p.voids; tales = λ none. told_to_next lines n (trace_of w) (p.tales none) (λ q. silent_told c lines n (line.Up one other) [] w is p.voids.courses.course (ap Some (ap not (sym (p.voids.voids.circuits one other)) ∙ cut)) refl) };
   arming = λ n l a w there is so p. record { voids = kept.arming n l a w there is so p.voids; tales = λ none. told_to_next lines n (trace_of w) (p.tales none) (λ q. arming_silent c lines n l a w is so p) };
-  pending = λ n w there is p. record { voids = kept.pending n w there is p.voids; tales = happened_tales lines (n + 1) [] (map packet_record w.underway) (λ now. now) w (next_told lines n (map packet_record w.underway) w p.tales (λ q. silent_told lines n line.Pending (map packet_record w.underway) w is p.voids.courses.course refl refl)) };
+  pending = λ n w there is p. record { voids = kept.pending n w there is p.voids; tales = happened_tales lines (n + 1) [] (map packet_record w.underway) (λ now. now) w (next_told lines n (map packet_record w.underway) w p.tales (λ q. silent_told c lines n line.Pending (map packet_record w.underway) w is p.voids.courses.course refl refl)) };
   stopping = λ n s v w there is here p. record {
     voids = kept.stopping n s v w there is here p.voids;
     tales = happened_tales lines (n + 1) [] (Shown (says.Stopped s cause.Asked) ∷ []) (stops_with s (disk_of v)) w (next_told lines n (Shown (says.Stopped s cause.Asked) ∷ []) w p.tales
-        (λ q. tale_told lines n (line.Stop s) (says.Stopped s cause.Asked) [] w is p.voids.courses.course (some_false (is_up (trace_of w) s) (p.voids.courses.course.places s (Running v) here).0) (equal_self s) tt));
+        (λ q. tale_told c lines n (line.Stop s) (says.Stopped s cause.Asked) [] w is p.voids.courses.course (some_false (is_up c (trace_of w) s) (p.voids.courses.course.places s (Running v) here).0) (equal_self s) tt));
   };
   booting = λ n s d w there is here p. record { voids = kept.booting n s d w there is here p.voids; tales = booted_tales c lines n s (boots (script_of w s) d) w is (p.voids.courses.course.places s (Stopped d) here).0 p };
 }

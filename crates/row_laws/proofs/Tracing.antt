@@ -1,4 +1,6 @@
 -- A trace that grows by the records of one line: what was started stays so, and the records keep their rows.
+use Rattle.locus_ids.specs.declared.config.Config.{Config}
+use Rattle.schedule_lines.specs.Cluster.{config_of}
 use Rattle.std.proofs.Common.{◌≡◌, ◌≢◌, ◌≤◌, ◌<◌, ℕ, zero, suc, ◌+◌, ◌-◌, ◌==◌, ◌⊎◌, nat_lt, Bool, true, false, cond, ◌||◌, not, List, [], ◌∷◌, Option, Some, refl, sym, ◌∙◌, ap, subst, inl, inr, arith}
 use Rattle.std.proofs.lemmas.Bool.Decides.{nat_tests}
 use Rattle.std.specs.List.{list_any}
@@ -53,7 +55,7 @@ started_told lines n k s boot x now h g =
       line = g.line;
       from = g.from;
       to = g.to;
-      starter = ap (λ (t : Trace). starts_at (line_at lines g.line) t) (before_told k g.line x now le) ∙ g.starter;
+      starter = ap (λ (t : Trace). starts_at (config_of lines) (line_at lines g.line) t) (before_told k g.line x now le) ∙ g.starter;
       boot_is = ap (λ (t : Trace). boot_of t s) (before_told k g.line x now le) ∙ g.boot_is;
     }
 
@@ -61,11 +63,11 @@ pub started_later : (lines : List ScheduleLine) (n k s boot : ℕ) (now : Trace)
 started_later lines n k s boot now h g = record { line = g.line; from = g.from; to = (let to : g.line ≤ n = g.to in omega (arith, to, h)); starter = g.starter; boot_is = g.boot_is }
 
 -- what was promised was started
-pub promise_started : (lines : List ScheduleLine) (n t : ℕ) (id : EpochId) (trace : List Line) → Ascends n trace → EachTold lines trace → Has Promised t id trace → Started lines (shown trace) n id.site id.boot
-promise_started lines n t id [] a rows h = absurd h
-promise_started lines n t id (x ∷ older) a rows (inl h) = by_told x.told h rows.0
+pub promise_started : (c : Config) (lines : List ScheduleLine) (n t : ℕ) (id : EpochId) (trace : List Line) → Ascends n trace → EachTold c lines trace → Has Promised t id trace → Started lines (shown trace) n id.site id.boot
+promise_started c lines n t id [] a rows h = absurd h
+promise_started c lines n t id (x ∷ older) a rows (inl h) = by_told x.told h rows.0
   where
-    by_told : (y : Told) → IsDeed Promised t id y → ToldRow lines x.number (shown older) y → Started lines (with_told x.number y (shown older)) n id.site id.boot
+    by_told : (y : Told) → IsDeed Promised t id y → ToldRow c lines x.number (shown older) y → Started lines (with_told x.number y (shown older)) n id.site id.boot
     by_told (Promises s i reach) d row = subst (λ (j : EpochId). Started lines (shown older) n j.site j.boot) d.1 (started_later lines x.number n i.site i.boot (shown older) a.1 row)
     by_told (Shown r) d row = absurd (no_record r d)
       where
@@ -73,9 +75,9 @@ promise_started lines n t id (x ∷ older) a rows (inl h) = by_told x.told h row
         no_record (says.Join s i members) d = d
         no_record _ d = d
     by_told _ d row = absurd d
-promise_started lines n t id (x ∷ older) a rows (inr h) =
+promise_started c lines n t id (x ∷ older) a rows (inr h) =
     started_later lines x.number n id.site id.boot (with_told x.number x.told (shown older)) a.1
-    (started_told lines x.number x.number id.site id.boot x.told (shown older) (omega arith) (promise_started lines x.number t id older a.2 rows.1 h))
+    (started_told lines x.number x.number id.site id.boot x.told (shown older) (omega arith) (promise_started c lines x.number t id older a.2 rows.1 h))
 
 -- ---- numbers of lines ----
 
@@ -89,46 +91,46 @@ ascends_onto m (x ∷ xs) trace h a = ascends_onto m xs (record { number = m; to
 
 -- ---- the rows of what is told ----
 
-abbrev pub AllRows : List ScheduleLine → ℕ → List Told → List Line → Type 0
-AllRows lines m [] trace = Unit {0}
-AllRows lines m (x ∷ xs) trace = ToldRow lines m (shown trace) x × AllRows lines m xs (record { number = m; told = x } ∷ trace)
+abbrev pub AllRows : Config → List ScheduleLine → ℕ → List Told → List Line → Type 0
+AllRows c lines m [] trace = Unit {0}
+AllRows c lines m (x ∷ xs) trace = ToldRow c lines m (shown trace) x × AllRows c lines m xs (record { number = m; told = x } ∷ trace)
 
-pub rows_onto : (lines : List ScheduleLine) (m : ℕ) (told : List Told) (trace : List Line) → AllRows lines m told trace → EachTold lines trace → EachTold lines (told_onto m told trace)
-rows_onto lines m [] trace h g = g
-rows_onto lines m (x ∷ xs) trace h g = rows_onto lines m xs (record { number = m; told = x } ∷ trace) h.1 (h.0, g)
+pub rows_onto : (c : Config) (lines : List ScheduleLine) (m : ℕ) (told : List Told) (trace : List Line) → AllRows c lines m told trace → EachTold c lines trace → EachTold c lines (told_onto m told trace)
+rows_onto c lines m [] trace h g = g
+rows_onto c lines m (x ∷ xs) trace h g = rows_onto c lines m xs (record { number = m; told = x } ∷ trace) h.1 (h.0, g)
 
 -- ---- an event of a site ----
 
 -- it boots and stops none
-record_same_up : (s t m : ℕ) (k : Causes) (r : Record) (now : Trace) → SiteRecord s k r → is_up (record { line = m; what = r } ∷ now) t ≡ is_up now t
-record_same_up s t m k (says.Up u boot) now h = absurd h
-record_same_up s t m k (says.Stopped u why) now h = absurd h
-record_same_up s t m k _ now h = refl
+record_same_up : (c : Config) (s t m : ℕ) (k : Causes) (r : Record) (now : Trace) → SiteRecord s k r → is_up c (record { line = m; what = r } ∷ now) t ≡ is_up c now t
+record_same_up c s t m k (says.Up u boot) now h = absurd h
+record_same_up c s t m k (says.Stopped u why) now h = absurd h
+record_same_up c s t m k _ now h = refl
 
 record_same_boot : (s t m : ℕ) (k : Causes) (r : Record) (now : Trace) → SiteRecord s k r → boot_of (record { line = m; what = r } ∷ now) t ≡ boot_of now t
 record_same_boot s t m k (says.Up u boot) now h = absurd h
 record_same_boot s t m k _ now h = refl
 
-pub told_same_up : (s t m : ℕ) (k : Causes) (x : Told) (now : Trace) → SiteTold s k x → is_up (with_told m x now) t ≡ is_up now t
-told_same_up s t m k (Shown r) now h = record_same_up s t m k r now h
-told_same_up s t m k _ now h = refl
+pub told_same_up : (c : Config) (s t m : ℕ) (k : Causes) (x : Told) (now : Trace) → SiteTold s k x → is_up c (with_told m x now) t ≡ is_up c now t
+told_same_up c s t m k (Shown r) now h = record_same_up c s t m k r now h
+told_same_up c s t m k _ now h = refl
 
 told_same_boot : (s t m : ℕ) (k : Causes) (x : Told) (now : Trace) → SiteTold s k x → boot_of (with_told m x now) t ≡ boot_of now t
 told_same_boot s t m k (Shown r) now h = record_same_boot s t m k r now h
 told_same_boot s t m k _ now h = refl
 
-pub onto_same_up : (s t m : ℕ) (k : Causes) (told : List Told) (trace : List Line) → Every (SiteTold s k) told → is_up (shown (told_onto m told trace)) t ≡ is_up (shown trace) t
-onto_same_up s t m k [] trace h = refl
-onto_same_up s t m k (x ∷ xs) trace h = onto_same_up s t m k xs (record { number = m; told = x } ∷ trace) h.1 ∙ told_same_up s t m k x (shown trace) h.0
+pub onto_same_up : (c : Config) (s t m : ℕ) (k : Causes) (told : List Told) (trace : List Line) → Every (SiteTold s k) told → is_up c (shown (told_onto m told trace)) t ≡ is_up c (shown trace) t
+onto_same_up c s t m k [] trace h = refl
+onto_same_up c s t m k (x ∷ xs) trace h = onto_same_up c s t m k xs (record { number = m; told = x } ∷ trace) h.1 ∙ told_same_up c s t m k x (shown trace) h.0
 
 pub onto_same_boot : (s t m : ℕ) (k : Causes) (told : List Told) (trace : List Line) → Every (SiteTold s k) told → boot_of (shown (told_onto m told trace)) t ≡ boot_of (shown trace) t
 onto_same_boot s t m k [] trace h = refl
 onto_same_boot s t m k (x ∷ xs) trace h = onto_same_boot s t m k xs (record { number = m; told = x } ∷ trace) h.1 ∙ told_same_boot s t m k x (shown trace) h.0
 
 -- its causes stay as it tells
-pub caused_told : (lines : List ScheduleLine) (m s : ℕ) (k : Causes) (x : Told) (now : Trace) → SiteTold s k x → Caused lines m s k now → Caused lines m s k (with_told m x now)
-caused_told lines m s k x now h g = record {
-  up = told_same_up s s m k x now h ∙ g.up;
+pub caused_told : (c : Config) (lines : List ScheduleLine) (m s : ℕ) (k : Causes) (x : Told) (now : Trace) → SiteTold s k x → Caused c lines m s k now → Caused c lines m s k (with_told m x now)
+caused_told c lines m s k x now h g = record {
+  up = told_same_up c s s m k x now h ∙ g.up;
   leave = λ l. by_leave (g.leave l);
   promise = λ id p. started_told lines m m id.site id.boot x now (omega arith) (g.promise id p);
   join = λ members j. (λ none. (g.join members j).0 none ∙ sym (told_same_boot s s m k x now h), (g.join members j).1);
@@ -203,26 +205,26 @@ mend_line lines n site process (call.Commit fd) h = absurd h
 mend_line lines n site process (call.Abort fd) h = absurd h
 mend_line lines n site process (call.Close fd) h = absurd h
 
-accept_line : (lines : List ScheduleLine) (m s t process : ℕ) (k : Causes) (words : Call) (now : Trace) → Caused lines m s k now → IsMend words ⊎ ((t ≡ s) × k.accept process words) → CallLine lines m t process words
-accept_line lines m s t process k words now g (inl h) = mend_line lines m t process words h
-accept_line lines m s t process k words now g (inr h) = subst (λ (u : ℕ). CallLine lines m u process words) (sym h.0) (g.accept process words h.1)
+accept_line : (c : Config) (lines : List ScheduleLine) (m s t process : ℕ) (k : Causes) (words : Call) (now : Trace) → Caused c lines m s k now → IsMend words ⊎ ((t ≡ s) × k.accept process words) → CallLine lines m t process words
+accept_line c lines m s t process k words now g (inl h) = mend_line lines m t process words h
+accept_line c lines m s t process k words now g (inr h) = subst (λ (u : ℕ). CallLine lines m u process words) (sym h.0) (g.accept process words h.1)
 
-record_row : (lines : List ScheduleLine) (m s : ℕ) (k : Causes) (r : Record) (now : Trace) → SiteRecord s k r → Caused lines m s k now → AskedHere lines m now r × UpRecord now r
-record_row lines m s k (says.Leave t id) now h g = (record { cause = subst (λ (u : ℕ). makes_leave (line_at lines m) u || was_polled lines now m u ≡ true) (sym h.0) (leave_cause lines now m s (g.leave h.1)) }, subst (λ (u : ℕ). is_up now u ≡ true) (sym h.0) g.up)
-record_row lines m s k (says.Join t id members) now h g = (subst (λ (u : ℕ). HasItself lines now u members × IsShort members) (sym h.0) (g.join members h.1), subst (λ (u : ℕ). is_up now u ≡ true) (sym h.0) g.up)
-record_row lines m s k (says.Accept t process c words) now h g = (accept_line lines m s t process k words now g h, tt)
-record_row lines m s k (says.Up t boot) now h g = absurd h
-record_row lines m s k (says.Stopped t why) now h g = absurd h
-record_row lines m s k (says.Packet number from to kind) now h g = absurd h
-record_row lines m s k says.Void now h g = absurd h
-record_row lines m s k says.Budget now h g = absurd h
-record_row lines m s k _ now h g = (tt, tt)
+record_row : (c : Config) (lines : List ScheduleLine) (m s : ℕ) (k : Causes) (r : Record) (now : Trace) → SiteRecord s k r → Caused c lines m s k now → AskedHere lines m now r × UpRecord c now r
+record_row c lines m s k (says.Leave t id) now h g = (record { cause = subst (λ (u : ℕ). makes_leave (line_at lines m) u || was_polled lines now m u ≡ true) (sym h.0) (leave_cause lines now m s (g.leave h.1)) }, subst (λ (u : ℕ). is_up c now u ≡ true) (sym h.0) g.up)
+record_row c lines m s k (says.Join t id members) now h g = (subst (λ (u : ℕ). HasItself lines now u members × IsShort members) (sym h.0) (g.join members h.1), subst (λ (u : ℕ). is_up c now u ≡ true) (sym h.0) g.up)
+record_row c lines m s k (says.Accept t process id words) now h g = (accept_line c lines m s t process k words now g h, tt)
+record_row c lines m s k (says.Up t boot) now h g = absurd h
+record_row c lines m s k (says.Stopped t why) now h g = absurd h
+record_row c lines m s k (says.Packet number from to kind) now h g = absurd h
+record_row c lines m s k says.Void now h g = absurd h
+record_row c lines m s k says.Budget now h g = absurd h
+record_row c lines m s k _ now h g = (tt, tt)
 
-pub told_row : (lines : List ScheduleLine) (m s : ℕ) (k : Causes) (x : Told) (now : Trace) → SiteTold s k x → Caused lines m s k now → ToldRow lines m now x
-told_row lines m s k (Shown r) now h g = record_row lines m s k r now h g
-told_row lines m s k (Promises t id reach) now h g = g.promise id h.1
-told_row lines m s k _ now h g = tt
+pub told_row : (c : Config) (lines : List ScheduleLine) (m s : ℕ) (k : Causes) (x : Told) (now : Trace) → SiteTold s k x → Caused c lines m s k now → ToldRow c lines m now x
+told_row c lines m s k (Shown r) now h g = record_row c lines m s k r now h g
+told_row c lines m s k (Promises t id reach) now h g = g.promise id h.1
+told_row c lines m s k _ now h g = tt
 
-pub site_rows : (lines : List ScheduleLine) (m s : ℕ) (k : Causes) (told : List Told) (trace : List Line) → Every (SiteTold s k) told → Caused lines m s k (shown trace) → AllRows lines m told trace
-site_rows lines m s k [] trace h g = tt
-site_rows lines m s k (x ∷ xs) trace h g = (told_row lines m s k x (shown trace) h.0 g, site_rows lines m s k xs (record { number = m; told = x } ∷ trace) h.1 (caused_told lines m s k x (shown trace) h.0 g))
+pub site_rows : (c : Config) (lines : List ScheduleLine) (m s : ℕ) (k : Causes) (told : List Told) (trace : List Line) → Every (SiteTold s k) told → Caused c lines m s k (shown trace) → AllRows c lines m told trace
+site_rows c lines m s k [] trace h g = tt
+site_rows c lines m s k (x ∷ xs) trace h g = (told_row c lines m s k x (shown trace) h.0 g, site_rows c lines m s k xs (record { number = m; told = x } ∷ trace) h.1 (caused_told c lines m s k x (shown trace) h.0 g))

@@ -1,4 +1,5 @@
 -- In every run whose lines fit the cluster, a line that tells that it is void is so, where it isn't a call.
+use Rattle.schedule_lines.specs.Cluster.{config_of}
 use Rattle.std.proofs.Common.{◌≡◌, ◌<◌, ℕ, ◌+◌, ◌-◌, Bool, true, false, cond, ◌||◌, not, List, [], ◌∷◌, length, take, map, Option, Some, None, refl, sym, ◌∙◌, ap, subst, arith}
 use Rattle.std.specs.Option.{is_none, is_some}
 use Rattle.role_steps.proofs.of_plain_facts.Tests.{false_true, true_false}
@@ -49,37 +50,37 @@ use Rattle.row_laws.proofs.ByLine.{every_line}
 -- ---- how a site of the cluster stands, by the world and by the trace ----
 
 -- the same of a place that is there
-stopped_down : (now : Trace) (s : ℕ) (o : Option Place) (p : Place) → o ≡ Some p → StandsAs now s p → is_stopped o ≡ true → not (is_up now s) ≡ true
-stopped_down now s o (Running v) e h k = absurd (false_true (sym (ap is_stopped e) ∙ k))
-stopped_down now s o (Stopped d) e h k = ap not h.0
+stopped_down : (c : Config) (now : Trace) (s : ℕ) (o : Option Place) (p : Place) → o ≡ Some p → StandsAs c now s p → is_stopped o ≡ true → not (is_up c now s) ≡ true
+stopped_down c now s o (Running v) e h k = absurd (false_true (sym (ap is_stopped e) ∙ k))
+stopped_down c now s o (Stopped d) e h k = ap not h.0
 
-no_boot_up : (now : Trace) (s : ℕ) (o : Option Place) (p : Place) → o ≡ Some p → StandsAs now s p → cannot_boot o ≡ true → is_up now s ≡ true
-no_boot_up now s o (Running v) e h k = h.0
-no_boot_up now s o (Stopped d) e h k = absurd (false_true (sym (ap cannot_boot e) ∙ k))
+no_boot_up : (c : Config) (now : Trace) (s : ℕ) (o : Option Place) (p : Place) → o ≡ Some p → StandsAs c now s p → cannot_boot o ≡ true → is_up c now s ≡ true
+no_boot_up c now s o (Running v) e h k = h.0
+no_boot_up c now s o (Stopped d) e h k = absurd (false_true (sym (ap cannot_boot e) ∙ k))
 
 no_epoch : (o : Option InEpoch) → not (is_some o) ≡ true → is_none (epoch_id o) ≡ true
 no_epoch None e = refl
 no_epoch (Some x) e = absurd (false_true e)
 
-apart_of : (now : Trace) (s : ℕ) (o : Option Place) (p : Place) → o ≡ Some p → StandsAs now s p → ((v : SiteView) → p ≡ Running v → epoch_of now s ≡ epoch_id v.epoch) → is_in_no_epoch o ≡ true → is_apart now s ≡ true
-apart_of now s o (Running v) e h epoch k = ap (λ (b : Bool). not b || is_none (epoch_of now s)) h.0 ∙ (ap is_none (epoch v refl) ∙ no_epoch v.epoch (sym (ap is_in_no_epoch e) ∙ k))
-apart_of now s o (Stopped d) e h epoch k = ap (λ (b : Bool). not b || is_none (epoch_of now s)) h.0
+apart_of : (c : Config) (now : Trace) (s : ℕ) (o : Option Place) (p : Place) → o ≡ Some p → StandsAs c now s p → ((v : SiteView) → p ≡ Running v → epoch_of now s ≡ epoch_id v.epoch) → is_in_no_epoch o ≡ true → is_apart c now s ≡ true
+apart_of c now s o (Running v) e h epoch k = ap (λ (b : Bool). not b || is_none (epoch_of now s)) h.0 ∙ (ap is_none (epoch v refl) ∙ no_epoch v.epoch (sym (ap is_in_no_epoch e) ∙ k))
+apart_of c now s o (Stopped d) e h epoch k = ap (λ (b : Bool). not b || is_none (epoch_of now s)) h.0
 
 -- ---- a void line ----
 
 -- by the line's words
-pub void_says : (c : Config) (lines : List ScheduleLine) (n : ℕ) (l : LineWords) (w : World) → fits_event c.sites l ≡ true → is_call (EventLine l) ≡ false → IsVoidIn w l → Good w → InCourse lines n w → HasPlaces c w → CircuitsAs lines n w → may_be_void (has_no_effect (take n lines) (trace_of w) l) ≡ true
+pub void_says : (c : Config) (lines : List ScheduleLine) (n : ℕ) (l : LineWords) (w : World) → fits_event c.sites l ≡ true → is_call (EventLine l) ≡ false → IsVoidIn w l → Good w → InCourse c lines n w → HasPlaces c w → CircuitsAs lines n w → may_be_void (has_no_effect c (take n lines) (trace_of w) l) ≡ true
 void_says c lines n (line.Call site process words) w fit none void good f has cuts = absurd (true_false none)
 void_says c lines n (line.Deliver packet) w fit none void good f has cuts = refl
 void_says c lines n (line.Lose packet) w fit none void good f has cuts = refl
-void_says c lines n (line.Tick site) w fit none void good f has cuts = let r : (p : Place) × (place_at w site ≡ Some p) = has site fit in stopped_down (trace_of w) site (place_at w site) r.0 r.1 (f.places site r.0 r.1) void
+void_says c lines n (line.Tick site) w fit none void good f has cuts = let r : (p : Place) × (place_at w site ≡ Some p) = has site fit in stopped_down c (trace_of w) site (place_at w site) r.0 r.1 (f.places site r.0 r.1) void
 void_says c lines n (line.Down one other) w fit none void good f has cuts = sym (cuts one other) ∙ void
 void_says c lines n (line.Up one other) w fit none void good f has cuts = ap not (sym (cuts one other)) ∙ void
-void_says c lines n (line.Part site) w fit none void good f has cuts = let r : (p : Place) × (place_at w site ≡ Some p) = has site fit in apart_of (trace_of w) site (place_at w site) r.0 r.1 (f.places site r.0 r.1) (λ v e. epoch_here lines n site v w (r.1 ∙ ap Some e) good f) void
-void_says c lines n (line.Merge site) w fit none void good f has cuts = let r : (p : Place) × (place_at w site ≡ Some p) = has site fit in stopped_down (trace_of w) site (place_at w site) r.0 r.1 (f.places site r.0 r.1) void
-void_says c lines n (line.GiveUp site) w fit none void good f has cuts = let r : (p : Place) × (place_at w site ≡ Some p) = has site fit in apart_of (trace_of w) site (place_at w site) r.0 r.1 (f.places site r.0 r.1) (λ v e. epoch_here lines n site v w (r.1 ∙ ap Some e) good f) void
-void_says c lines n (line.Stop site) w fit none void good f has cuts = let r : (p : Place) × (place_at w site ≡ Some p) = has site fit in stopped_down (trace_of w) site (place_at w site) r.0 r.1 (f.places site r.0 r.1) void
-void_says c lines n (line.Boot site) w fit none void good f has cuts = let r : (p : Place) × (place_at w site ≡ Some p) = has site fit in no_boot_up (trace_of w) site (place_at w site) r.0 r.1 (f.places site r.0 r.1) void
+void_says c lines n (line.Part site) w fit none void good f has cuts = let r : (p : Place) × (place_at w site ≡ Some p) = has site fit in apart_of c (trace_of w) site (place_at w site) r.0 r.1 (f.places site r.0 r.1) (λ v e. epoch_here c lines n site v w (r.1 ∙ ap Some e) good f) void
+void_says c lines n (line.Merge site) w fit none void good f has cuts = let r : (p : Place) × (place_at w site ≡ Some p) = has site fit in stopped_down c (trace_of w) site (place_at w site) r.0 r.1 (f.places site r.0 r.1) void
+void_says c lines n (line.GiveUp site) w fit none void good f has cuts = let r : (p : Place) × (place_at w site ≡ Some p) = has site fit in apart_of c (trace_of w) site (place_at w site) r.0 r.1 (f.places site r.0 r.1) (λ v e. epoch_here c lines n site v w (r.1 ∙ ap Some e) good f) void
+void_says c lines n (line.Stop site) w fit none void good f has cuts = let r : (p : Place) × (place_at w site ≡ Some p) = has site fit in stopped_down c (trace_of w) site (place_at w site) r.0 r.1 (f.places site r.0 r.1) void
+void_says c lines n (line.Boot site) w fit none void good f has cuts = let r : (p : Place) × (place_at w site ≡ Some p) = has site fit in no_boot_up c (trace_of w) site (place_at w site) r.0 r.1 (f.places site r.0 r.1) void
 void_says c lines n (line.ArmStop site calls left) w fit none void good f has cuts = absurd void
 void_says c lines n (line.ArmFail site calls) w fit none void good f has cuts = absurd void
 void_says c lines n (line.Settle most) w fit none void good f has cuts = absurd void
@@ -89,15 +90,15 @@ one_back : (n : ℕ) → n + 1 - 1 ≡ n
 one_back n = omega arith
 
 -- whether the line that begins is void, by the records so far
-pub void_now : (lines : List ScheduleLine) (n : ℕ) (l : LineWords) (w : World) → IsLine lines (n + 1) l → InCourse lines n w → is_void_line lines (trace_of w) (n + 1) ≡ has_no_effect (take n lines) (trace_of w) l
-void_now lines n l w is f =
-    ap (λ (x : ScheduleLine). is_void_after (lines_before lines (n + 1)) (before_line (trace_of w) (n + 1)) x) is
-    ∙ (ap (λ (t : Trace). has_no_effect (lines_before lines (n + 1)) t l) (before_all n (n + 1) w.trace f.ascends (omega arith))
-    ∙ ap (λ (k : ℕ). has_no_effect (take k lines) (trace_of w) l) (one_back n))
+pub void_now : (c : Config) (lines : List ScheduleLine) (n : ℕ) (l : LineWords) (w : World) → IsLine lines (n + 1) l → InCourse c lines n w → is_void_line lines (trace_of w) (n + 1) ≡ has_no_effect (config_of lines) (take n lines) (trace_of w) l
+void_now c lines n l w is f =
+    ap (λ (x : ScheduleLine). is_void_after c (lines_before lines (n + 1)) (before_line (trace_of w) (n + 1)) x) is
+    ∙ (ap (λ (t : Trace). has_no_effect c (lines_before lines (n + 1)) t l) (before_all n (n + 1) w.trace f.ascends (omega arith))
+    ∙ ap (λ (k : ℕ). has_no_effect c (take k lines) (trace_of w) l) (one_back n))
 
-void_row : (c : Config) (lines : List ScheduleLine) (n : ℕ) (l : LineWords) (w : World) → LinesFit c lines → IsLine lines (n + 1) l → IsVoidIn w l → Courses lines n w → VoidsInCourse c lines n w → is_call (line_at lines (n + 1)) ≡ false → IsVoidAsked lines (n + 1) (trace_of w)
+void_row : (c : Config) (lines : List ScheduleLine) (n : ℕ) (l : LineWords) (w : World) → LinesFit c lines → IsLine lines (n + 1) l → IsVoidIn w l → Courses c lines n w → VoidsInCourse c lines n w → is_call (line_at lines (n + 1)) ≡ false → IsVoidAsked lines (n + 1) (trace_of w)
 void_row c lines n l w fit is void p q none = record {
-  silent = ap may_be_void (void_now lines n l w is p.course) ∙ void_says c lines n l w (fit (n + 1) l is) (sym (ap is_call is) ∙ none) void p.good p.course q.places q.circuits;
+  silent = ap may_be_void (void_now c lines n l w is p.course) ∙ void_says c lines n l w (fit (n + 1) l is) (sym (ap is_call is) ∙ none) void p.good p.course q.places q.circuits;
 }
 
 -- ---- what tells of no void line ----
@@ -171,7 +172,7 @@ boots_quiet lines m s (CutOff d how) w q = happened_quiet lines m [] _ (stops_wi
 -- ---- every event and change ----
 
 pub record Voids (c : Config) (lines : List ScheduleLine) (n : ℕ) (w : World) : Type 0 where
-  pub courses : Courses lines n w
+  pub courses : Courses c lines n w
   pub voids : VoidsInCourse c lines n w
 
 quiet_of : (c : Config) (lines : List ScheduleLine) (n : ℕ) (w : World) → VoidsInCourse c lines n w → Quiet lines n w
@@ -236,7 +237,7 @@ voids_kept c lines fit = record {
   receives = λ n l x v w is d here sent p. record {
     courses = kept.receives n l x v w is d here sent p.courses;
     voids = with_quiet c lines n _ (has.receives n x v w here sent p.voids.places) (acts_quiet lines n x.packet.to (causes_of x.packet.to (links_of w x.packet.to) v (Receives x.packet)) v (step c x.packet.to (links_of (passed x.number w) x.packet.to) v (Receives x.packet)) (passed x.number w)
-        (step_forms (DeedsOf w.trace x.packet.to) x.packet.to c (links_of (passed x.number w) x.packet.to) v (Receives x.packet) (p.courses.good.views x.packet.to v here) (p.courses.course.places x.packet.to (Running v) here).2 (sent_polls lines n w x sent p.courses.course)) (record { circuits = p.voids.circuits; rows = p.voids.rows }));
+        (step_forms (DeedsOf w.trace x.packet.to) x.packet.to c (links_of (passed x.number w) x.packet.to) v (Receives x.packet) (p.courses.good.views x.packet.to v here) (p.courses.course.places x.packet.to (Running v) here).2 (sent_polls c lines n w x sent p.courses.course)) (record { circuits = p.voids.circuits; rows = p.voids.rows }));
   };
   passes = λ n k w p. record { courses = kept.passes n k w p.courses; voids = record { places = p.voids.places; circuits = p.voids.circuits; rows = p.voids.rows } };
   drops = λ n k w p. record { courses = kept.drops n k w p.courses; voids = record { places = p.voids.places; circuits = p.voids.circuits; rows = p.voids.rows } };
@@ -255,7 +256,7 @@ voids_kept c lines fit = record {
   booting = λ n s d w there is here p. record { courses = kept.booting n s d w there is here p.courses; voids = with_quiet c lines (n + 1) _ (has.booting (n + 1) s d w here p.voids.places) (boots_quiet lines (n + 1) s (boots (script_of w s) d) w (next_quiet c lines n w there (subst NoCircuit (sym is) tt) p.voids)) };
 }
   where
-    kept : KeptIn c lines (Courses lines)
+    kept : KeptIn c lines (Courses c lines)
     kept = courses_kept c lines
 
     has : Kept c (HasPlaces c)

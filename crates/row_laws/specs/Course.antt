@@ -3,6 +3,7 @@ use Rattle.std.specs.Prelude.{ℕ, ◌≡◌, ◌≤◌, ◌≢◌, ◌+◌, ◌
 use Rattle.locus_ids.specs.declared.ids.EpochId.{EpochId}
 use Rattle.locus_ids.specs.declared.sites.Members.{Members}
 use Rattle.locus_ids.specs.Sizes.{sites_max}
+use Rattle.locus_ids.specs.declared.config.Config.{Config}
 use Rattle.trace_book.specs.declared.call.Call.{Call}
 use Rattle.trace_book.specs.declared.record.Record.{Record}
 use Rattle.trace_book.specs.declared.record.Record.TheVariants as says
@@ -50,22 +51,22 @@ AskedHere lines n before (says.Join site epoch members) = HasItself lines before
 AskedHere lines n before r = AskedRecord lines n before r
 
 -- a stopped site boots; a running one stops, leaves and joins
-abbrev pub UpRecord : Trace → Record → Type 0
-UpRecord before (says.Up site boot) = MayBoot before site boot
-UpRecord before (says.Stopped site why) = StopRow before site why
-UpRecord before (says.Leave site epoch) = is_up before site ≡ true
-UpRecord before (says.Join site epoch members) = is_up before site ≡ true
-UpRecord before _ = Unit {0}
+abbrev pub UpRecord : Config → Trace → Record → Type 0
+UpRecord c before (says.Up site boot) = MayBoot c before site boot
+UpRecord c before (says.Stopped site why) = StopRow c before site why
+UpRecord c before (says.Leave site epoch) = is_up c before site ≡ true
+UpRecord c before (says.Join site epoch members) = is_up c before site ≡ true
+UpRecord c before _ = Unit {0}
 
 -- what is promised is an id of a site that started a protocol in that boot
-abbrev pub ToldRow : List ScheduleLine → ℕ → Trace → Told → Type 0
-ToldRow lines n before (Shown r) = AskedHere lines n before r × UpRecord before r
-ToldRow lines n before (Promises site id reach) = Started lines before n id.site id.boot
-ToldRow lines n before _ = Unit {0}
+abbrev pub ToldRow : Config → List ScheduleLine → ℕ → Trace → Told → Type 0
+ToldRow c lines n before (Shown r) = AskedHere lines n before r × UpRecord c before r
+ToldRow c lines n before (Promises site id reach) = Started lines before n id.site id.boot
+ToldRow c lines n before _ = Unit {0}
 
-abbrev pub EachTold : List ScheduleLine → List Line → Type 0
-EachTold lines [] = Unit {0}
-EachTold lines (x ∷ older) = ToldRow lines x.number (shown older) x.told × EachTold lines older
+abbrev pub EachTold : Config → List ScheduleLine → List Line → Type 0
+EachTold c lines [] = Unit {0}
+EachTold c lines (x ∷ older) = ToldRow c lines x.number (shown older) x.told × EachTold c lines older
 
 -- the numbers of lines ascend from 1, and none is above this one
 abbrev pub Ascends : ℕ → List Line → Type 0
@@ -79,24 +80,24 @@ abbrev pub IsOfSite : ℕ → Type 0
 IsOfSite s = (1 ≤ s) × (s ≤ sites_max)
 
 -- a site stands as the records say
-abbrev pub StandsAs : Trace → ℕ → Place → Type 0
-StandsAs now s (Running v) = (is_up now s ≡ true) × (boot_of now s ≡ v.boot) × ViewForms s v × IsOfSite s
-StandsAs now s (Stopped d) = (is_up now s ≡ false) × (boot_of now s ≤ d.label.boot) × IsOfSite s
+abbrev pub StandsAs : Config → Trace → ℕ → Place → Type 0
+StandsAs c now s (Running v) = (is_up c now s ≡ true) × (boot_of now s ≡ v.boot) × ViewForms s v × IsOfSite s
+StandsAs c now s (Stopped d) = (is_up c now s ≡ false) × (boot_of now s ≤ d.label.boot) × IsOfSite s
 
 -- ---- the world, where the line with this number is the last one that has begun ----
 
-pub record InCourse (lines : List ScheduleLine) (n : ℕ) (w : World) : Type 0 where
+pub record InCourse (c : Config) (lines : List ScheduleLine) (n : ℕ) (w : World) : Type 0 where
   pub ascends : Ascends n w.trace
-  pub rows : EachTold lines w.trace
-  pub places : (s : ℕ) (p : Place) → place_at w s ≡ Some p → StandsAs (trace_of w) s p
+  pub rows : EachTold c lines w.trace
+  pub places : (s : ℕ) (p : Place) → place_at w s ≡ Some p → StandsAs c (trace_of w) s p
   pub circuits : CutsNoSelf lines → (s : ℕ) → is_cut w s s ≡ false
   pub polls : Every (λ (x : Numbered). FormingPacket x.packet) w.sent
   pub underway : Every (λ (x : Numbered). FormingPacket x.packet) w.underway
 
 -- ---- an event of a running site, whose causes are there ----
 
-pub record Caused (lines : List ScheduleLine) (n s : ℕ) (k : Causes) (now : Trace) : Type 0 where
-  pub up : is_up now s ≡ true
+pub record Caused (c : Config) (lines : List ScheduleLine) (n s : ℕ) (k : Causes) (now : Trace) : Type 0 where
+  pub up : is_up c now s ≡ true
   pub leave : k.leave → (makes_leave (line_at lines n) s ≡ true) ⊎ Polled lines now n s
   pub promise : (id : EpochId) → k.promise id → Started lines now n id.site id.boot
   pub join : (members : Members) → k.join members → HasItself lines now s members × IsShort members

@@ -9,6 +9,7 @@ use Rattle.trace_book.specs.declared.record.Record.TheVariants as says
 use Rattle.trace_book.specs.declared.record.StopCause.{StopCause}
 use Rattle.trace_book.specs.declared.record.StopCause.TheVariants as cause
 use Rattle.schedule_lines.specs.declared.line.ScheduleLine.{ScheduleLine}
+use Rattle.schedule_lines.specs.Cluster.{config_of}
 use Rattle.lawful_trace.specs.of_tree_model.Folds.{Trace, last_line}
 use Rattle.lawful_trace.specs.of_tree_model.Epochs.{is_up, boot_of, epoch_of, has_joined, last_joined, is_above_joined, members_of}
 use Rattle.lawful_trace.specs.of_tree_model.Packs.{boot_in}
@@ -31,8 +32,8 @@ pub record IsPlaced (lines : List ScheduleLine) (before : Trace) (r : Entry) : T
 -- a stop by its line; or one within a disk call, of a site that runs or boots
 abbrev pub StopAsked : List ScheduleLine → ℕ → Trace → ℕ → StopCause → Type 0
 StopAsked lines n before site cause.Asked = IsStopAsked lines n site
-StopAsked lines n before site cause.Fuse = is_up before site || boots (line_at lines n) site ≡ true
-StopAsked lines n before site cause.Fault = is_up before site || boots (line_at lines n) site ≡ true
+StopAsked lines n before site cause.Fuse = is_up (config_of lines) before site || boots (line_at lines n) site ≡ true
+StopAsked lines n before site cause.Fault = is_up (config_of lines) before site || boots (line_at lines n) site ≡ true
 
 abbrev pub AskedRecord : List ScheduleLine → ℕ → Trace → Record → Type 0
 AskedRecord lines n before (says.Up site boot) = IsBootAsked lines n site
@@ -52,23 +53,23 @@ IsAskedFor lines before r = AskedRecord lines r.line before r.what
 
 -- A site that runs joins an epoch that it never joined, above all that it joined in this boot; every member joins it with
 -- the same list.
-pub record JoinsAnew (before : Trace) (site : ℕ) (e : EpochId) (members : Members) : Type 0 where
-  pub up : is_up before site ≡ true
+pub record JoinsAnew (c : Config) (before : Trace) (site : ℕ) (e : EpochId) (members : Members) : Type 0 where
+  pub up : is_up c before site ≡ true
   pub outside : epoch_of before site ≡ None
   pub new : has_joined before site e ≡ false
   pub later : is_above_joined (last_joined before site) e ≡ true
   pub same : members_of before e ≡ None ⊎ members_of before e ≡ Some members
 
-abbrev pub SiteRecordRow : Trace → Record → Type 0
-SiteRecordRow before (says.Up site boot) = MayBoot before site boot
-SiteRecordRow before (says.Stopped site why) = StopRow before site why
-SiteRecordRow before (says.Leave site epoch) = MayLeave before site epoch
-SiteRecordRow before (says.Join site epoch members) = JoinsAnew before site epoch members
-SiteRecordRow before _ = Unit {0}
+abbrev pub SiteRecordRow : Config → Trace → Record → Type 0
+SiteRecordRow c before (says.Up site boot) = MayBoot c before site boot
+SiteRecordRow c before (says.Stopped site why) = StopRow c before site why
+SiteRecordRow c before (says.Leave site epoch) = MayLeave before site epoch
+SiteRecordRow c before (says.Join site epoch members) = JoinsAnew c before site epoch members
+SiteRecordRow c before _ = Unit {0}
 
 -- a boot, a stop, a leave or a join comes as it may
-abbrev pub IsSiteRow : Trace → Entry → Type 0
-IsSiteRow before r = SiteRecordRow before r.what
+abbrev pub IsSiteRow : Config → Trace → Entry → Type 0
+IsSiteRow c before r = SiteRecordRow c before r.what
 
 abbrev pub MemberRecord : Trace → Record → Type 0
 MemberRecord before (says.Join site epoch members) = boot_in members site ≡ boot_of before site

@@ -29,7 +29,7 @@ pub fn records_are_asked_for()
 /// had; a running one stops, leaves the epoch that it is in, and joins, in no epoch, one that it never joined, above all
 /// that it joined in this boot, with the list of all others that join it.
 pub fn sites_go_on()
-    ensures { (c : Config) (lines : List ScheduleLine) → EachRecord IsSiteRow (trace_of (run_in c lines)) }
+    ensures { (c : Config) (lines : List ScheduleLine) → EachRecord (IsSiteRow c) (trace_of (run_in c lines)) }
 {}
 
 /// After every schedule in which no line cuts a site off from itself, the list that a site joins has it, with the boot number

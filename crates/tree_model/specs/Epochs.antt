@@ -2,10 +2,15 @@
 use Rattle.std.specs.Prelude.{ℕ, ◌+◌, ◌==◌, Bool, true, false, not, ◌&&◌, ◌||◌, Option, None, Some, cond, nat_lt}
 use Rattle.locus_ids.specs.declared.sites.Members.{Members}
 use Rattle.locus_ids.specs.declared.ids.EpochId.{EpochId}
+use Rattle.locus_ids.specs.declared.config.Config.{Config}
 use Rattle.dir_reconcile.specs.of_trace_book.Same.{same_epoch}
 use Rattle.dir_reconcile.specs.of_trace_book.declared.record.Record.{Record}
 use Rattle.dir_reconcile.specs.of_trace_book.declared.record.Record.TheVariants.{Up, Stopped, Leave, Join, Accept}
 use Rattle.tree_model.specs.Folds.{Trace, over}
+
+-- the site runs from the start: in each cluster all do
+abbrev pub starts_up : Config → ℕ → Bool
+starts_up c site = true
 
 abbrev pub up_after : Record → ℕ → Bool → Bool
 up_after (Up s boot) site old = (s == site) || old
@@ -13,8 +18,8 @@ up_after (Stopped s cause) site old = not (s == site) && old
 up_after _ site old = old
 
 -- the site runs: from the start or its boot to its stop
-abbrev pub is_up : Trace → ℕ → Bool
-is_up trace site = over true (λ r before old. up_after r.what site old) trace
+abbrev pub is_up : Config → Trace → ℕ → Bool
+is_up c trace site = over (starts_up c site) (λ r before old. up_after r.what site old) trace
 
 abbrev pub boot_after : Record → ℕ → ℕ → ℕ
 boot_after (Up s boot) site old = cond (s == site) boot old
