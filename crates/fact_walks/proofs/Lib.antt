@@ -1,11 +1,12 @@
 pub mod Boots
-pub mod Roles
 pub mod Outcomes
 pub mod Forming
 pub mod Pulls
+pub mod Untouched
 pub mod Packets
 pub mod Steps
 pub mod Run
+pub use Rattle.run_laws.proofs.of_the_run.Roles as Roles
 pub use Rattle.run_laws.proofs as of_run_laws
 pub use Rattle.run_laws.proofs.of_law_walks as of_law_walks
 pub use Rattle.run_laws.proofs.of_the_run as of_the_run

@@ -39,23 +39,4 @@ module _ (Q : Body → Outcome SiteView → (SiteView → Outcome SiteView) → 
       k.pulled _ refl (λ f. notify_silent f p.from (copy_of v.store file) (record { file = file; kind = kind; set = set; size = size; stamp = stamp; vector = vector; holder = holder; base = None; wanted = None; content = [] }) v.pulls)
   by_packet (body.Page file stamp page bytes) = k.pulled _ refl (λ f. page_silent f stamp page bytes (pull_of v.pulls file) v.pulls)
   by_packet (body.Delta file wanted pages) = k.pulled _ refl (λ f. delta_silent f (pages_in (copy_of v.store file)) wanted pages (pull_of v.pulls file) v.pulls)
-  by_packet (body.Report group copies) = k.inside _ refl
-  by_packet (body.ReportOk group) = k.inside _ refl
-  by_packet (body.Open serial call process request file how) = k.inside _ refl
-  by_packet (body.OpenSs inst file mode set kind base vector parents) = k.inside _ refl
-  by_packet (body.Opened inst answer) = k.inside _ refl
-  by_packet (body.OpenDone serial answer) = k.inside _ refl
-  by_packet (body.Op serial n o seen) = k.inside _ refl
-  by_packet (body.ReadHeld serial n at len) = k.inside _ refl
-  by_packet (body.OpDone serial n result) = k.inside _ refl
-  by_packet (body.AsHeld serial n len) = k.inside _ refl
-  by_packet (body.Close serial) = k.inside _ refl
-  by_packet (body.Closed inst made) = k.inside _ refl
-  by_packet (body.ClosedOk inst) = k.inside _ refl
-  by_packet (body.CloseDone serial answer) = k.inside _ refl
-  by_packet (body.Look call process request take file what) = k.inside _ refl
-  by_packet (body.LookSs us call process request take file what serve) = k.inside _ refl
-  by_packet (body.LookDone call request take answer) = k.inside _ refl
-  by_packet (body.Pull file stamp page) = k.inside _ refl
-  by_packet (body.Want file wanted own) = k.inside _ refl
-  by_packet (body.Have file stamp) = k.inside _ refl
+  by_packet x = k.inside x refl

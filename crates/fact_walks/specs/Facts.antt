@@ -5,13 +5,13 @@ use Rattle.trace_book.specs.declared.record.Record.{Record}
 use Rattle.trace_book.specs.declared.record.Record.TheVariants as says
 use Rattle.run_laws.specs.of_wire_messages.declared.packet.Packet.{Packet}
 use Rattle.run_laws.specs.of_wire_messages.declared.body.Body.{Body}
-use Rattle.run_laws.specs.of_wire_messages.declared.body.Body.TheVariants as body
 use Rattle.run_laws.specs.of_role_steps.Own.{Every}
 use Rattle.run_laws.specs.of_role_steps.Views.{SiteView, Told, Shown, Promises, DiskWrite, Event, Receives, Outcome}
 use Rattle.run_laws.specs.of_role_steps.declared.copies.FileCopy.{FileCopy}
 use Rattle.run_laws.specs.of_role_steps.declared.pulls.Pull.{Pull}
 use Rattle.run_laws.specs.of_the_run.Worlds.{World, Place, Running, Stopped, Numbered, Line, place_at}
 use Rattle.run_laws.specs.Naming.{Good}
+pub use Rattle.run_laws.specs.of_the_run.Roles.{IsOfForming}
 
 -- ---- what was told ----
 
@@ -73,15 +73,6 @@ EventIn facts past me (Receives p) = facts.carries past p.from me p.epoch p.body
 EventIn facts past me _ = Unit {0}
 
 -- ---- what the walk sees to itself ----
-
--- a packet by which sites agree on an epoch
-abbrev pub IsOfForming : Body → Type 0
-IsOfForming body.Poll = Unit {0}
-IsOfForming (body.Promise reach) = Unit {0}
-IsOfForming (body.Refuse promised) = Unit {0}
-IsOfForming (body.Install members) = Unit {0}
-IsOfForming body.Joined = Unit {0}
-IsOfForming _ = ⊥
 
 -- it tells how a site stands, or what a line of the schedule brings
 abbrev pub IsOutsideRecord : Record → Type 0

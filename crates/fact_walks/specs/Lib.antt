@@ -1,6 +1,6 @@
 pub mod Facts
-pub mod Roles
 pub mod Keeping
+pub use Rattle.run_laws.specs.of_the_run.Roles as Roles
 pub use Rattle.run_laws.specs as of_run_laws
 pub use Rattle.run_laws.specs.of_law_walks as of_law_walks
 pub use Rattle.run_laws.specs.of_schedule_lines as of_schedule_lines

@@ -1,7 +1,6 @@
 -- Each handler of a site promises, joins and leaves lawfully, and each packet that it sends names its epoch.
 use Rattle.std.proofs.Common.{◌≡◌, ℕ, ◌+◌, ◌≤◌, Bool, true, false, cond, ◌&&◌, not, List, [], ◌∷◌, ◌++◌, map, Option, Some, None, refl, sym, ◌∙◌, ap, subst, inl, inr, arith}
 use Rattle.std.proofs.lemmas.Bool.Decides.{nat_tests}
-use Rattle.std.specs.List.{flat_map}
 use Rattle.law_walks.proofs.of_plain_facts.Options.{none_some, some_same}
 use Rattle.law_walks.proofs.of_plain_facts.Tests.{both_true, not_true, true_false}
 use Rattle.locus_ids.specs.declared.ids.EpochId.{EpochId}
@@ -18,20 +17,19 @@ use Rattle.law_walks.specs.of_role_steps.Own.{Every}
 use Rattle.law_walks.specs.of_role_steps.Tables.{without_row}
 use Rattle.law_walks.specs.of_role_steps.Views.{Frame, SiteView, Told, Shown, Promises, Outcome, Event, Calls, Receives, Ticks, Parts, Merges, GivesUp, quiet, sends, tells, and_then, joined_to, to_some, sync_site}
 use Rattle.law_walks.specs.of_role_steps.Using.{reply_record}
-use Rattle.law_walks.specs.of_role_steps.Reports.{sync_repeats, new_table}
-use Rattle.law_walks.specs.of_role_steps.Storage.{store_repeats, report_of}
-use Rattle.law_walks.specs.of_role_steps.Pulling.{pull_repeats}
-use Rattle.law_walks.specs.of_role_steps.Requests.{users_repeats}
+use Rattle.law_walks.specs.of_role_steps.Reports.{new_table}
+use Rattle.law_walks.specs.of_role_steps.Storage.{report_of}
 use Rattle.law_walks.specs.of_role_steps.Epochs.{is_epoch_below, frame_in, leaves_of, leaves, promises, promised_view, reached, new_round, poll_packet, polled_sites, polls, round_id, begins_round, starts_merge, boots_where, merge_boot, part_boot, starts_part_of, starts_part, promise_packet, refuse_packet, on_poll, counts_promise, with_promise, on_promise_of, on_refuse_of, joined_view, report_packets, all_reports, joins, may_install, is_in, joined_packet, on_install, on_joined, passed_over, unanswered, chosen_members, chosen_set, others_of, install_packet, installs_all, decides, decides_if, passes_over_of, passes_over, poll_repeats, install_repeats}
 use Rattle.law_walks.specs.of_role_steps.declared.rounds.InEpoch.{InEpoch}
 use Rattle.law_walks.specs.of_role_steps.declared.rounds.Round.{Round}
 use Rattle.law_walks.specs.of_role_steps.declared.users.WaitingCall.{WaitingCall}
 use Rattle.law_walks.proofs.of_role_steps.Sending.{every_append, every_map, every_flat_map}
 use Rattle.law_walks.specs.of_the_run.Steps.{in_order, is_dropped, takes_framed, takes, tries_at, adopts_in, starts_mends_of, ends_event, whole, repeats_inside, repeats_of, repeats, ticks_after, call_frame, epoch_id, takes_call, step}
-use Rattle.law_walks.specs.of_the_run.Joins.{Unclaimed, TableOk, Plain}
+use Rattle.law_walks.specs.of_the_run.Joins.{TableOk, Plain}
 use Rattle.law_walks.proofs.of_the_run.StepSends.{order_sent}
-use Rattle.law_walks.proofs.of_the_run.InsideSync.{sync_plain, sync_repeats_plain}
-use Rattle.law_walks.proofs.of_the_run.InsideRoles.{store_repeats_plain, pull_repeats_plain, users_repeats_plain, on_call_still}
+use Rattle.law_walks.proofs.SiteWalks.{repeats_inside_walk}
+use Rattle.law_walks.proofs.of_the_run.InsideSync.{joins_nothing, plain_keeps}
+use Rattle.law_walks.proofs.of_the_run.InsideRoles.{on_call_still}
 use Rattle.law_walks.proofs.of_the_run.InsideSites.{adopts_of_plain, tries_plain, mends_of_plain, framed_plain}
 use Rattle.law_walks.proofs.of_the_run.Joining.{plain_quiet}
 use Rattle.run_laws.specs.Words.{Inside}
@@ -295,20 +293,12 @@ polls_names K me v (Some r) here h =
     let k : (r.id ≡ v.promised) × (v.installed ≡ false) = h.round_is r here in
     every_map (PacketNames K) (poll_packet me v.boot r.id r.polled) (unanswered r) (λ s. subst (λ (i : EpochId). K Promised i) (sym k.0) (h.waits k.1).1)
 
-inside_unclaimed : (f : Frame) (e : InEpoch) (v : SiteView) → Every Unclaimed (repeats_inside f e v)
-inside_unclaimed f e v =
-    every_append Unclaimed (in_order (all_reports f v)) _ (order_sent Unclaimed (all_reports f v) (every_flat_map Unclaimed (report_packets f v) v.reports (λ g. sync_plain f g _ tt)))
-    (every_append Unclaimed (users_repeats f v.users) _ (users_repeats_plain f v.users)
-    (every_append Unclaimed (in_order (store_repeats f v.store)) _ (order_sent Unclaimed (store_repeats f v.store) (store_repeats_plain f v.store))
-    (every_append Unclaimed (in_order (pull_repeats f v.pulls)) _ (order_sent Unclaimed (pull_repeats f v.pulls) (pull_repeats_plain f v.pulls))
-    (order_sent Unclaimed (flat_map (sync_repeats f) v.tables) (every_flat_map Unclaimed (sync_repeats f) v.tables (sync_repeats_plain f))))))
-
 repeats_names : (K : Deeds) (c : Config) (me : ℕ) (o : Option InEpoch) (v : SiteView) → v.epoch ≡ o → ViewOk K v → Every (PacketNames K) (repeats_of c me o v)
 repeats_names K c me None v here h = order_sent (PacketNames K) (poll_repeats me v v.round) (polls_names K me v v.round refl h)
 repeats_names K c me (Some e) v here h =
     every_append (PacketNames K) (in_order (poll_repeats me v v.round ++ install_repeats me v e)) (repeats_inside (frame_in c me v.boot e) e v)
     (order_sent (PacketNames K) (poll_repeats me v v.round ++ install_repeats me v e) (every_append (PacketNames K) (poll_repeats me v v.round) (install_repeats me v e) (polls_names K me v v.round refl h) (every_map (PacketNames K) (install_packet me v.boot e.id e.members) v.installs (λ t. (h.joined e here).0))))
-    (epoch_names K v (repeats_inside (frame_in c me v.boot e) e v) h (subst (λ (x : Option InEpoch). Every (IsInEpoch x) (repeats_inside (frame_in c me v.boot e) e v)) (sym here) (repeats_in_epoch c me v.boot e v)) (inside_unclaimed (frame_in c me v.boot e) e v))
+    (epoch_names K v (repeats_inside (frame_in c me v.boot e) e v) h (subst (λ (x : Option InEpoch). Every (IsInEpoch x) (repeats_inside (frame_in c me v.boot e) e v)) (sym here) (repeats_in_epoch c me v.boot e v)) (repeats_inside_walk joins_nothing (frame_in c me v.boot e) (plain_keeps (frame_in c me v.boot e)) e v))
 
 ticks_fine : (K : Deeds) (s : ℕ) (c : Config) (links : Links) (v : SiteView) (a : Outcome SiteView) → ViewOk K v → Plain v a → Inner v a → Fine K s v (ticks_after c s links a)
 ticks_fine K s c links v a h p i =
