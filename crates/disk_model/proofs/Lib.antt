@@ -1,4 +1,5 @@
 pub mod Spans
+pub mod PutBack
 pub mod SparseBytes
 pub mod Images
 pub mod Cuts

@@ -57,37 +57,6 @@ covers-one x k = step (is_within x.at x.len k)
 pub in_range_push : (spans : List Span) (span : Span) (n : ℕ) → AreInRange spans n → span.at + span.len ≤ n → AreInRange (spans ++ span ∷ []) n
 in_range_push spans span n all fits = λ k d lt. grind (arith, common_steps)
 
--- one range more is copied
-pub copy_more : (from to : List ℕ) (spans : List Span) (i : ℕ) (span : Span) (piece : List ℕ) → i < length spans → span ≡ get_or spans i span → piece ≡ take span.len (drop span.at from) → length to ≡ length from → span.at + span.len ≤ length from
-    → SameOutside (drop i spans) to from → SameOutside (drop (i + 1) spans) (overwritten to span.at piece) from
-copy_more from to spans i span piece lt is_span is_piece long fits so_far = λ k none. ⊎_elim (here k) (there k none) (cases_Bool (is_within span.at span.len k))
-  where
-    length-piece : length piece ≡ span.len
-    length-piece = omega (arith, fits, ap length is_piece, length-take span.len (drop span.at from), length-drop span.at from)
-
-    fits_to : span.at + length piece ≤ length to
-    fits_to = omega (arith, fits, long, length-piece)
-
-    here : (k : ℕ) → is_within span.at span.len k ≡ true → get_or (overwritten to span.at piece) k 0 ≡ get_or from k 0
-    here k is =
-        let low = (within_bounds span.at span.len k is).0 in
-        let high = (within_bounds span.at span.len k is).1 in
-        put_within span.at to piece k fits_to (ap (λ (n : ℕ). is_within span.at n k) length-piece ∙ is)
-        ∙ ap (λ (l : List ℕ). get_or l (k - span.at) 0) is_piece
-        ∙ get_or-take span.len (drop span.at from) (k - span.at) 0 (omega arith)
-        ∙ get_or-drop span.at from (k - span.at) 0
-        ∙ (let e : span.at + (k - span.at) ≡ k = omega arith in ap (λ (n : ℕ). get_or from n 0) e)
-
-    there : (k : ℕ) → covers (drop (i + 1) spans) k ≡ false → is_within span.at span.len k ≡ false → get_or (overwritten to span.at piece) k 0 ≡ get_or from k 0
-    there k none is =
-        put_outside span.at to piece k fits_to (ap (λ (n : ℕ). is_within span.at n k) length-piece ∙ is)
-        ∙ so_far k (ap (λ (l : List Span). covers l k) (drop_more spans i span lt)
-        ∙ ap (λ (s : Span). covers (s ∷ drop (i + 1) spans) k) (sym is_span)
-        ∙ ap (λ (b : Bool). b || covers (drop (i + 1) spans) k) is ∙ none)
-
-pub copied : (from to : List ℕ) (spans : List Span) (i : ℕ) → length spans ≤ i → length to ≡ length from → SameOutside (drop i spans) to from → to ≡ from
-copied from to spans i all long so_far = same_lists to from long (λ k d lt. get_or_default to k d 0 lt ∙ so_far k (ap (λ (l : List Span). covers l k) (drop_all i spans all)) ∙ get_or_default from k 0 d (omega (arith, long)))
-
 or_true : (b : Bool) → (b || true) ≡ true
 or_true true = refl
 or_true false = refl

@@ -9,4 +9,5 @@ pub mod Script
 pub mod ScriptLaws
 pub mod ScriptDisk
 pub mod Store
+pub mod Durable
 pub mod SparseBytes

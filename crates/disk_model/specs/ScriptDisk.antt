@@ -14,6 +14,7 @@ use Rattle.disk_model.specs.Cut as cut
 use Rattle.disk_model.specs.Script.{passing_of, how_of}
 use Rattle.disk_model.specs.Images.{overwritten, covers, IsImage}
 use Rattle.disk_model.specs.Store.{left_in, with_room, durable_with_room}
+use Rattle.disk_model.specs.Durable.{durable_in}
 
 -- what a read gives
 abbrev pub seen : ScriptDisk → List ℕ
@@ -21,7 +22,7 @@ seen disk = disk.store.seen
 
 -- what was on the disk when it was last synced, or has been made durable since
 abbrev pub durable : ScriptDisk → List ℕ
-durable disk = disk.store.durable
+durable disk = durable_in disk.store
 
 -- the ranges written since then, the oldest first
 abbrev pub unsynced : ScriptDisk → List Span

@@ -1,5 +1,5 @@
 // A disk's bytes, of which only those that were written are kept.
-ghost use Rattle.std.specs.Prelude.{◌≡◌, ◌≤◌, ◌<◌, ◌+◌, ℕ, [], ◌∷◌, length, replicate, slice_index, IsTrue, ◌%◌, IfOk, IfSome};
+ghost use Rattle.std.specs.Prelude.{◌≡◌, ◌≤◌, ◌<◌, ◌+◌, ℕ, [], ◌∷◌, ◌++◌, length, replicate, slice_index, IsTrue, ◌%◌, IfOk, IfSome, vec_capacity};
 ghost use Rattle.disk_model.specs.Images.{overwritten, bytes_at};
 
 use crate::chunk::{CHUNK, Chunk};
@@ -136,6 +136,40 @@ impl SparseBytes {
         }
     }
 
+    /// Adds the bytes of a range to others, for which there is memory.
+    #[inline]
+    pub(crate) fn save(&self, span: Span, to: &mut Vec<u8>)
+        requires inside { span.at + span.len ≤ length self.now }
+        requires fit { length to.old.items + span.len ≤ vec_capacity to.old }
+        ensures items { to.new.items ≡ to.old.items ++ bytes_at self.now span.at span.len }
+        ensures room { vec_capacity to.old ≤ vec_capacity to.new }
+    {
+        match self.run(span.at as usize, span.len as usize) {
+            Some(bytes) => append(to, bytes),
+            None => self.save_pieces(span, to),
+        }
+    }
+
+    /// Adds the bytes of a range piece by piece.
+    #[inline(never)]
+    fn save_pieces(&self, span: Span, to: &mut Vec<u8>)
+        requires inside { span.at + span.len ≤ length self.now }
+        requires fit { length to.old.items + span.len ≤ vec_capacity to.old }
+        ensures items { to.new.items ≡ to.old.items ++ bytes_at self.now span.at span.len }
+        ensures room { vec_capacity to.old ≤ vec_capacity to.new }
+    {
+        let _len = self.len();
+        let mut bytes = [0; PIECE as usize];
+        let mut done = 0;
+        while done < span.len {
+            let end = done + PIECE.min(span.len - done);
+            let piece = &mut bytes[..(end - done) as usize];
+            self.read(span.at + done, piece);
+            append(to, piece);
+            done = end;
+        }
+    }
+
     /// Reads the bytes from a place on.
     pub(crate) fn read(&self, at: u32, buf: &mut [u8])
         requires { at + length buf.old ≤ length self.now }
@@ -202,4 +236,14 @@ impl SparseBytes {
         let from = at % CHUNK;
         len <= CHUNK - from && self.chunks[at / CHUNK].is_blank_from(from)
     }
+}
+
+/// Adds bytes to others, for which there is memory.
+#[inline]
+fn append(to: &mut Vec<u8>, bytes: &[u8])
+    requires fit { length to.old.items + length bytes.now ≤ vec_capacity to.old }
+    ensures items { to.new.items ≡ to.old.items ++ bytes.now }
+    ensures room { vec_capacity to.old ≤ vec_capacity to.new }
+{
+    let _ = to.extend_from_slice(bytes);
 }

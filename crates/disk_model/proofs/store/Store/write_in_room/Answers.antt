@@ -1,29 +1,39 @@
-use Rattle.std.proofs.Common.{◌≡◌, ◌≤◌, ◌+◌, ◌++◌, [], ◌∷◌, ap, sym, ◌∙◌, subst, List, ℕ, arith, length}
+use Rattle.std.proofs.Common.{◌≡◌, ◌≤◌, ◌+◌, ◌++◌, [], ◌∷◌, ap, sym, ◌∙◌, subst, refl, arith, List, ℕ, length}
 use Rattle.disk_model.specs.declared.store.Span.{Span}
 use Rattle.disk_model.specs.Images.{overwritten}
-use Rattle.disk_model.specs.Store.{AreInRange, SameOutside}
-use Rattle.disk_model.proofs.Spans.{in_range_push, synced_push, synced_write, length-overwritten}
+use Rattle.disk_model.specs.Store.{AreInRange, SameOutside, durable_of}
+use Rattle.disk_model.proofs.Spans.{length-overwritten, synced_push, synced_write}
 use Rattle.disk_model.proofs.store.Store.write_in_room.Goals as goal
 
 pub invariant_of-self : goal.invariant_of-self
 invariant_of-self c =
-    let s = c.args.self.now in
+    let s = c.keep.new.self in
+    let old = c.make_bytes_room.new.self in
     let bytes = c.args.bytes.now in
     let span : Span = record { at = c.args.at; len = length bytes } in
-    let more = s.unsynced.items ++ span ∷ [] in
-    let fits : c.args.at + length bytes ≤ length s.seen = c.requires.inside in
-    let long = length-overwritten s.seen c.args.at bytes fits in
-    let items : c.push_reserved.new.self.items ≡ more = c.push_reserved.ensures.items in
-    let is : c.write.new.self ≡ overwritten s.seen c.args.at bytes = c.write.ensures in
-    let synced : SameOutside c.push_reserved.new.self.items s.durable (overwritten s.seen c.args.at bytes) =
-    subst (λ (l : List Span). SameOutside l s.durable (overwritten s.seen c.args.at bytes)) (sym items)
-    (synced_write s.unsynced.items span s.durable s.seen bytes (omega arith) fits
-    (synced_push s.unsynced.items span s.durable s.seen s.synced)) in
+    let same_seen : s.seen ≡ old.seen = c.keep.ensures.seen in
+    let fits : c.args.at + length bytes ≤ length old.seen = omega (arith, ap (λ (l : List ℕ). length l) c.make_bytes_room.ensures.seen, c.requires.inside) in
+    let is : c.write.new.self ≡ overwritten old.seen c.args.at bytes = c.write.ensures ∙ ap (λ (l : List ℕ). overwritten l c.args.at bytes) same_seen in
+    let long : length c.write.new.self ≡ length s.seen = ap (λ (l : List ℕ). length l) is ∙ length-overwritten old.seen c.args.at bytes fits ∙ sym (ap (λ (l : List ℕ). length l) same_seen) in
+    let durable : durable_of s.is_apart s.durable s.unsynced.items s.before.items c.write.new.self ≡ durable_of old.is_apart old.durable old.unsynced.items old.before.items old.seen = ap (λ (l : List ℕ). durable_of s.is_apart s.durable s.unsynced.items s.before.items l) is ∙ c.keep.ensures.later bytes refl in
     record {
-      same_length = s.same_length ∙ sym (ap length is ∙ long);
-      short = omega (arith, s.short, ap length is, long);
-      room = omega (arith, s.room, c.push_reserved.ensures.capacity);
-      in_range = subst (λ (n : ℕ). AreInRange c.push_reserved.new.self.items n) (sym (ap length is ∙ long))
-          (subst (λ (l : List Span). AreInRange l (length s.seen)) (sym items) (in_range_push s.unsynced.items span (length s.seen) s.in_range fits));
-      synced = subst (λ (l : List ℕ). SameOutside c.push_reserved.new.self.items s.durable l) (sym is) synced;
+      short = omega (arith, s.short, long);
+      long = s.long ∙ sym long;
+      room = s.room;
+      bytes_room = s.bytes_room;
+      in_range = subst (λ (n : ℕ). AreInRange s.unsynced.items n) (sym long) s.in_range;
+      kept = s.kept;
+      in_room = s.in_room;
+      same_length = ap (λ (l : List ℕ). length l) durable ∙ old.same_length ∙ sym (long ∙ ap (λ (l : List ℕ). length l) same_seen);
+      synced = subst (λ (l : List ℕ). SameOutside s.unsynced.items l c.write.new.self) (sym durable)
+          (subst (λ (l : List ℕ). SameOutside s.unsynced.items (durable_of old.is_apart old.durable old.unsynced.items old.before.items old.seen) l) (sym is)
+          (subst (λ (l : List Span). SameOutside l (durable_of old.is_apart old.durable old.unsynced.items old.before.items old.seen) (overwritten old.seen c.args.at bytes)) (sym c.keep.ensures.unsynced)
+          (synced_write old.unsynced.items span (durable_of old.is_apart old.durable old.unsynced.items old.before.items old.seen) old.seen bytes refl fits (synced_push old.unsynced.items span (durable_of old.is_apart old.durable old.unsynced.items old.before.items old.seen) old.seen old.synced))));
     }
+
+pub returns-clause-durable : goal.returns-clause-durable
+returns-clause-durable c =
+    let s = c.keep.new.self in
+    let bytes = c.args.bytes.now in
+    let is : c.write.new.self ≡ overwritten c.make_bytes_room.new.self.seen c.args.at bytes = c.write.ensures ∙ ap (λ (l : List ℕ). overwritten l c.args.at bytes) c.keep.ensures.seen in
+    ap (λ (l : List ℕ). durable_of s.is_apart s.durable s.unsynced.items s.before.items l) is ∙ c.keep.ensures.later bytes refl ∙ c.make_bytes_room.ensures.durable
