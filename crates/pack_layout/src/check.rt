@@ -9,6 +9,9 @@ use locus_ids::sizes::{
     CONTENT_BYTES, INODES, PACK_PAGES, PACK_TABLES, PAGE_BYTES, SITES, SLOT_PAGES, TABLE_PAGES,
 };
 
+/// So many numbers are compared with each other.
+const FEW: usize = 32;
+
 fn is_stamp(stamp: Stamp) -> bool
     ensures { IsTrue result ↔ IsStamp stamp }
 {
@@ -41,6 +44,45 @@ fn agrees_with(stamp: Stamp, counters: &[u32; SITES]) -> bool
 
 /// Whether the first `n` numbers are different ones below a limit.
 pub fn are_apart(n: usize, limit: u16, numbers: &[u16]) -> bool
+    requires few { n ≤ length numbers.now }
+    requires limit { limit ≤ pack_pages }
+    ensures { IsTrue result ↔ (((i : ℕ) → i < n → slice_index numbers.now i < limit) × ((i j : ℕ) → i < j → j < n → slice_index numbers.now i ≢ slice_index numbers.now j)) }
+{
+    if n <= FEW {
+        are_few_apart(n, limit, numbers)
+    } else {
+        are_marked_apart(n, limit, numbers)
+    }
+}
+
+/// The same of few numbers: each is compared with those before it.
+fn are_few_apart(n: usize, limit: u16, numbers: &[u16]) -> bool
+    requires { n ≤ length numbers.now }
+    ensures { IsTrue result ↔ (((i : ℕ) → i < n → slice_index numbers.now i < limit) × ((i j : ℕ) → i < j → j < n → slice_index numbers.now i ≢ slice_index numbers.now j)) }
+{
+    for i in 0..n {
+        if numbers[i] >= limit || is_among(numbers[i], i, numbers) {
+            return false;
+        }
+    }
+    true
+}
+
+/// Whether a number is one of the first `n`.
+fn is_among(number: u16, n: usize, numbers: &[u16]) -> bool
+    requires { n ≤ length numbers.now }
+    ensures { IsTrue result ↔ ((i : ℕ) × (i < n) × (slice_index numbers.now i ≡ number)) }
+{
+    for i in 0..n {
+        if numbers[i] == number {
+            return true;
+        }
+    }
+    false
+}
+
+/// The same of any: each is marked.
+fn are_marked_apart(n: usize, limit: u16, numbers: &[u16]) -> bool
     requires few { n ≤ length numbers.now }
     requires limit { limit ≤ pack_pages }
     ensures { IsTrue result ↔ (((i : ℕ) → i < n → slice_index numbers.now i < limit) × ((i j : ℕ) → i < j → j < n → slice_index numbers.now i ≢ slice_index numbers.now j)) }

@@ -1,6 +1,6 @@
 use Rattle.std.proofs.Common.{◌≡◌, ℕ, ◌<◌, get_or, true, false, length}
 use Rattle.locus_ids.specs.Sizes.{pack_pages}
-use Rattle.pack_layout.proofs.check.are_apart.Given as goal
+use Rattle.pack_layout.proofs.check.are_marked_apart.Given as goal
 
 -- the numbers so far are different ones below the limit, and just these are marked
 abbrev pub invariant-loop-i : goal.invariant-loop-i

@@ -2,7 +2,7 @@ use Rattle.std.proofs.Common.{◌≡◌, ℕ, ◌<◌, ◌≤◌, false, replica
 use Rattle.std.proofs.lemmas.Bool.{cases_lt, true≢false}
 use Rattle.std.proofs.lemmas.List.{get_or-replicate, get_or_past, length-replicate}
 use Rattle.locus_ids.specs.Sizes.{pack_pages}
-use Rattle.pack_layout.proofs.check.are_apart.Goals as goal
+use Rattle.pack_layout.proofs.check.are_marked_apart.Goals as goal
 
 -- nothing is marked at first
 unmarked : (p : ℕ) → get_or (replicate pack_pages false) p false ≡ false
