@@ -2,8 +2,8 @@
 use Rattle.std.proofs.Common.{◌≡◌, ℕ, List, [], ◌∷◌, ◌++◌, Option, None, Some, refl, ap, sym, ◌∙◌}
 use Rattle.the_run.specs.Commands.{Asked}
 use Rattle.the_run.specs.Asking.{Asks}
-use Rattle.run_status.specs.of_schedule_run.Tree.{with_asked}
-use Rattle.run_status.proofs.of_schedule_run.OneAsking.{one_asking}
+use Rattle.schedule_run.specs.Tree.{with_asked}
+use Rattle.schedule_run.proofs.OneAsking.{one_asking}
 use Rattle.input_run.specs.Inputs.{before_calls, AskAll}
 
 first_asked : (asked : Option Asked) → with_asked [] asked ≡ before_calls asked []

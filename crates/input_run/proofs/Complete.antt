@@ -7,10 +7,10 @@ use Rattle.the_run.specs.Worlds.{Limit}
 use Rattle.the_run.specs.Worlds as bound
 use Rattle.the_run.specs.Runs.{run}
 use Rattle.line_reader.specs.Reading.{lines_of, Between}
-use Rattle.run_status.specs.declared.status.Status.{Status}
-use Rattle.run_status.specs.declared.status.Status.TheVariants as status
-use Rattle.run_status.specs.declared.status.Limited.TheVariants.{Packets, Bytes, Trace, Line, Lines}
-use Rattle.run_status.specs.Codes.{limited}
+use Rattle.input_run.specs.declared.status.Status.{Status}
+use Rattle.input_run.specs.declared.status.Status.TheVariants as status
+use Rattle.input_run.specs.declared.status.Limited.TheVariants.{Packets, Bytes, Trace, Line, Lines}
+use Rattle.input_run.specs.Codes.{limited}
 use Rattle.input_run.specs.Inputs.{Input}
 use Rattle.input_run.specs.Promises.{ComesThrough, LinePromises}
 use Rattle.input_run.specs.Runs.{IsAccepted, IsWholeRun, StopsAtBad, StopsAtLong, StopsAtCount, StopsAtFault, StopsAtLimit, WritesFront}

@@ -10,10 +10,10 @@ use Rattle.schedule_lines.specs.declared.line.ScheduleLine.TheVariants.{Event}
 use Rattle.the_run.specs.Worlds.{World, Limit}
 use Rattle.the_run.specs.Runs.{run}
 use Rattle.the_run.specs.Commands.{Asked, asked_lines, opening_lines, tree_lines}
-use Rattle.run_status.proofs.of_schedule_run.of_world.Over.{act_over}
+use Rattle.schedule_run.proofs.of_world.Over.{act_over}
 use Rattle.line_text.proofs.OneReading.{one_schedule}
-use Rattle.run_status.proofs.of_schedule_run.Growing.{config_more, run_more}
-use Rattle.run_status.proofs.of_schedule_run.Ending.{over_lasts}
+use Rattle.schedule_run.proofs.Growing.{config_more, run_more}
+use Rattle.schedule_run.proofs.Ending.{over_lasts}
 use Rattle.std.proofs.lemmas.Grind.{flat_map-append}
 use Rattle.input_run.specs.Inputs.{Input, StandsFor, opening_of}
 use Rattle.input_run.specs.Inputs.Input.{Schedule, Calls}

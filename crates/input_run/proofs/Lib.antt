@@ -11,3 +11,4 @@ pub mod Standing
 pub mod Told
 pub mod Turns
 pub mod Whole
+mod Codes

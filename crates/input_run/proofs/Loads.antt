@@ -1,7 +1,7 @@
 -- What `make` promises comes from how its load ends.
 use Rattle.std.proofs.Common.{◌≡◌, ℕ, List, Option, Some, None, true, false, refl, sym, ap, ◌∙◌, inl, inr}
 use Rattle.std.proofs.lemmas.Bool.{false≢true}
-use Rattle.run_status.specs.declared.status.Status.{Status}
+use Rattle.input_run.specs.declared.status.Status.{Status}
 use Rattle.std.specs.Io.KnownBytes.{Appends}
 use Rattle.locus_io.specs.Causes.{AppendsFront}
 use Rattle.locus_io.specs.declared.traits.WriteFault.{WriteFault}
@@ -10,11 +10,11 @@ use Rattle.the_run.specs.Worlds.{Limit}
 use Rattle.the_run.specs.Worlds as bound
 use Rattle.run_book.specs.Ledgers.{limit_named}
 use Rattle.run_book.specs.declared.fault.Passed.{Passed}
-use Rattle.run_status.specs.of_schedule_run.declared.load_fault.LoadFault.{LoadFault}
-use Rattle.run_status.specs.of_schedule_run.declared.load_fault.LoadFault.TheVariants as load
-use Rattle.run_status.specs.declared.status.Status.TheVariants as status
-use Rattle.run_status.specs.Codes.{limited, ends_load, status_of}
-use Rattle.run_status.specs.Ends.{status_of_load}
+use Rattle.schedule_run.specs.declared.load_fault.LoadFault.{LoadFault}
+use Rattle.schedule_run.specs.declared.load_fault.LoadFault.TheVariants as load
+use Rattle.input_run.specs.declared.status.Status.TheVariants as status
+use Rattle.input_run.specs.Codes.{limited, ends_load, status_of}
+use Rattle.input_run.specs.Ends.{status_of_load}
 use Rattle.input_run.specs.Promises.{LoadPromises}
 use Rattle.input_run.proofs.Told.{AppendsFront-whole}
 use Rattle.input_run.proofs.Runs.{none_of}

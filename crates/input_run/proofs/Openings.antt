@@ -1,18 +1,18 @@
 -- Where the runners stand before the first line, and how a command ends there.
 use Rattle.std.proofs.Common.{◌≡◌, ℕ, List, [], Option, refl, sym, ◌∙◌}
-use Rattle.run_status.specs.of_schedule_run.declared.fault.RunFault.{RunFault}
-use Rattle.run_status.specs.of_schedule_run.declared.fault.RunFault.TheVariants.{Bad, NoMemory, World}
-use Rattle.run_status.specs.of_schedule_run.declared.runner.ScheduleRunner.{ScheduleRunner}
-use Rattle.run_status.specs.of_schedule_run.Standing.{HasRun}
-use Rattle.run_status.specs.of_schedule_run.declared.tree.TreeRunner.{TreeRunner}
-use Rattle.run_status.specs.of_schedule_run.Tree.{HasRun as HasAsked}
-use Rattle.run_status.specs.declared.status.Status.{Status}
-use Rattle.run_status.specs.declared.status.Status.TheVariants as status
+use Rattle.schedule_run.specs.declared.fault.RunFault.{RunFault}
+use Rattle.schedule_run.specs.declared.fault.RunFault.TheVariants.{Bad, NoMemory, World}
+use Rattle.schedule_run.specs.declared.runner.ScheduleRunner.{ScheduleRunner}
+use Rattle.schedule_run.specs.Standing.{HasRun}
+use Rattle.schedule_run.specs.declared.tree.TreeRunner.{TreeRunner}
+use Rattle.schedule_run.specs.Tree.{HasRun as HasAsked}
+use Rattle.input_run.specs.declared.status.Status.{Status}
+use Rattle.input_run.specs.declared.status.Status.TheVariants as status
 use Rattle.input_run.specs.Inputs.{opening_of}
 use Rattle.input_run.specs.Inputs.Input.{Schedule, Calls}
 use Rattle.input_run.specs.Promises.{LinePromises}
 use Rattle.input_run.specs.Runners.{ScheduleStands, TreeStands}
-use Rattle.run_status.specs.Ends.{status_of_line}
+use Rattle.input_run.specs.Ends.{status_of_line}
 use Rattle.input_run.proofs.Complete.{for_memory}
 use Rattle.input_run.proofs.Runs.{Nothing-front}
 

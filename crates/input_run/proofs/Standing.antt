@@ -5,12 +5,12 @@ use Rattle.schedule_lines.specs.Schedule.{Reads}
 use Rattle.the_run.specs.Worlds.{Limit}
 use Rattle.the_run.specs.Runs.{run}
 use Rattle.the_run.specs.Commands.{Asked, tree_lines, tree_text}
-use Rattle.run_status.specs.of_schedule_run.declared.runner.ScheduleRunner.{ScheduleRunner}
-use Rattle.run_status.specs.of_schedule_run.Standing.{RunsNext}
-use Rattle.run_status.specs.of_schedule_run.declared.tree.TreeRunner.{TreeRunner}
+use Rattle.schedule_run.specs.declared.runner.ScheduleRunner.{ScheduleRunner}
+use Rattle.schedule_run.specs.Standing.{RunsNext}
+use Rattle.schedule_run.specs.declared.tree.TreeRunner.{TreeRunner}
 use Rattle.the_run.specs.Asking.{Asks}
-use Rattle.run_status.specs.of_schedule_run.Tree.{with_asked}
-use Rattle.run_status.specs.of_schedule_run.Tree as tree
+use Rattle.schedule_run.specs.Tree.{with_asked}
+use Rattle.schedule_run.specs.Tree as tree
 use Rattle.input_run.specs.Runs.{replies_of}
 use Rattle.input_run.specs.Inputs.Input.{Schedule, Calls}
 use Rattle.input_run.specs.Runners.{ScheduleStands, TreeStands}

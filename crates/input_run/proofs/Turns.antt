@@ -8,15 +8,15 @@ use Rattle.locus_io.specs.declared.traits.WriteFault.{WriteFault}
 use Rattle.locus_io.specs.declared.traits.WriteFault.TheVariants as write
 use Rattle.the_run.specs.Worlds.{Limit}
 use Rattle.the_run.specs.Worlds as bound
-use Rattle.run_status.specs.of_schedule_run.declared.fault.RunFault.{RunFault}
-use Rattle.run_status.specs.of_schedule_run.declared.fault.RunFault.TheVariants.{Bad, NoMemory, World}
-use Rattle.run_status.specs.Codes.{ends_written, limited, status_of}
+use Rattle.schedule_run.specs.declared.fault.RunFault.{RunFault}
+use Rattle.schedule_run.specs.declared.fault.RunFault.TheVariants.{Bad, NoMemory, World}
+use Rattle.input_run.specs.Codes.{ends_written, limited, status_of}
 use Rattle.input_run.specs.Turns.{ends_turn, ends_telling}
-use Rattle.run_status.specs.Ends.{status_of_line}
-use Rattle.run_status.specs.declared.status.Status.{Status}
-use Rattle.run_status.specs.declared.status.Status.TheVariants as status
-use Rattle.run_status.specs.declared.status.Limited.{Limited}
-use Rattle.run_status.specs.declared.status.Limited.TheVariants as what
+use Rattle.input_run.specs.Ends.{status_of_line}
+use Rattle.input_run.specs.declared.status.Status.{Status}
+use Rattle.input_run.specs.declared.status.Status.TheVariants as status
+use Rattle.input_run.specs.declared.status.Limited.{Limited}
+use Rattle.input_run.specs.declared.status.Limited.TheVariants as what
 
 -- only a bad line ends a run as one
 pub line_is_bad : (f : RunFault) (n line : ℕ) → status_of_line f n ≡ status.BadLine line → (f ≡ Bad) × (line ≡ n)

@@ -3,10 +3,10 @@ use Rattle.std.specs.Prelude.{ℕ, ◌≡◌, List}
 use Rattle.schedule_lines.specs.declared.line.ScheduleLine.{ScheduleLine}
 use Rattle.schedule_lines.specs.Schedule.{IsSchedule}
 use Rattle.the_run.specs.Commands.{Asked, tree_lines}
-use Rattle.run_status.specs.of_schedule_run.declared.runner.ScheduleRunner.{ScheduleRunner}
-use Rattle.run_status.specs.of_schedule_run.Standing.{HasRun}
-use Rattle.run_status.specs.of_schedule_run.declared.tree.TreeRunner.{TreeRunner}
-use Rattle.run_status.specs.of_schedule_run.Tree.{HasRun as HasAsked}
+use Rattle.schedule_run.specs.declared.runner.ScheduleRunner.{ScheduleRunner}
+use Rattle.schedule_run.specs.Standing.{HasRun}
+use Rattle.schedule_run.specs.declared.tree.TreeRunner.{TreeRunner}
+use Rattle.schedule_run.specs.Tree.{HasRun as HasAsked}
 use Rattle.input_run.specs.Inputs.{AskAll}
 
 -- the lines of bytes are this schedule, which is run

@@ -6,9 +6,9 @@ use Rattle.locus_io.specs.Causes.{AppendsFront}
 use Rattle.schedule_lines.specs.declared.line.ScheduleLine.{ScheduleLine}
 use Rattle.the_run.specs.Worlds.{Limit}
 use Rattle.the_run.specs.Runs.{run}
-use Rattle.run_status.specs.declared.status.Status.{Status}
-use Rattle.run_status.specs.declared.status.Status.TheVariants as status
-use Rattle.run_status.specs.declared.status.Limited.TheVariants.{Line, Lines}
+use Rattle.input_run.specs.declared.status.Status.{Status}
+use Rattle.input_run.specs.declared.status.Status.TheVariants as status
+use Rattle.input_run.specs.declared.status.Limited.TheVariants.{Line, Lines}
 use Rattle.input_run.specs.Inputs.{Input, StandsFor}
 use Rattle.input_run.specs.Runs.{output_of}
 

@@ -3,16 +3,18 @@ ghost use Rattle.locus_io.specs.Causes.{Rose};
 ghost use Rattle.the_run.specs.Runs.{run as run_of};
 ghost use Rattle.the_run.specs.Commands.{load_lines, load_text};
 ghost use Rattle.generated_load.specs.Draws.{draws_of};
-ghost use Rattle.run_status.specs.Codes.{ends_written};
+ghost use Rattle.input_run.specs.Codes.{ends_written};
 ghost use Rattle.input_run.specs.Inputs.Input.{Schedule, Calls};
 ghost use Rattle.input_run.specs.Promises.{LinePromises, LoadPromises};
 
+use crate::ends::{status_of, status_of_load};
 use crate::input::run_lines;
+use crate::sending::send;
+use crate::status::Status;
 use line_reader::LineReader;
 use locus_ids::sizes::LINE_BYTES;
 use locus_io::{Sink, Source};
-use run_status::schedule_run::{ScheduleRunner, TreeRunner, run_load};
-use run_status::{Status, send, status_of, status_of_load};
+use schedule_run::{ScheduleRunner, TreeRunner, run_load};
 use std::alloc::Global;
 
 /// Runs a schedule and writes its trace.

@@ -1,14 +1,15 @@
 ghost use Rattle.std.specs.Prelude.{◌≡◌, ◌≢◌, [], true, false};
 ghost use Rattle.locus_io.specs.Causes.{Rose};
-ghost use Rattle.run_status.specs.Codes.{ends_written};
+ghost use Rattle.input_run.specs.Codes.{ends_written};
 ghost use Rattle.input_run.specs.Inputs.{opening_of};
 ghost use Rattle.input_run.specs.Promises.{LinePromises};
 
+use crate::lines::next_line;
 use crate::runners::LineRunner;
+use crate::status::Status;
 use crate::turn::{take_turn, tell};
 use line_reader::LineReader;
 use locus_io::{Sink, Source};
-use run_status::{Status, next_line};
 
 /// Runs each line of the input. The output of the opening is told first; then what a line comes to is given and flushed before the
 /// next line is read.

@@ -8,7 +8,7 @@ ghost use Rattle.input_run.specs.Runs.{Refuses};
 ghost use Rattle.input_run.specs.Turns.{RunsOn};
 
 use run_book::Passed;
-use run_status::schedule_run::{RunFault, ScheduleRunner, TreeRunner, WorldFault};
+use schedule_run::{RunFault, ScheduleRunner, TreeRunner, WorldFault};
 
 /// What runs the lines of an input, one after another.
 pub trait LineRunner {

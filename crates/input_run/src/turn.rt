@@ -2,13 +2,15 @@ ghost use Rattle.std.specs.Prelude.{◌≡◌, ℕ, ◌≤◌, ◌+◌, List, le
 ghost use Rattle.locus_io.specs.Causes.{Rose};
 ghost use Rattle.schedule_lines.specs.declared.line.ScheduleLine.{ScheduleLine};
 ghost use Rattle.the_run.specs.Worlds.{Limit};
-ghost use Rattle.run_status.specs.Codes.{ends_written, limited};
+ghost use Rattle.input_run.specs.Codes.{ends_written, limited};
 ghost use Rattle.input_run.specs.Runs.{Refuses};
 ghost use Rattle.input_run.specs.Turns.{ends_turn, ends_telling, HasTold, Tells, TellsFront, Goes, IsCutShort};
 
+use crate::ends::{status_of, stop_past};
 use crate::runners::LineRunner;
+use crate::sending::send;
+use crate::status::Status;
 use locus_io::Sink;
-use run_status::{Status, send, status_of, stop_past};
 
 /// Gives the output that is fresh, and flushes.
 #[tactic(none)]

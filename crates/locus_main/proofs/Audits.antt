@@ -11,9 +11,9 @@ use Rattle.audit_run.specs.of_audit_answers.declared.answer.Answer.{Answer}
 use Rattle.audit_run.specs.Ends.{Ends, StopsAtBad}
 use Rattle.audit_run.specs.declared.fault.AuditFault.{AuditFault}
 use Rattle.audit_run.specs.declared.fault.AuditFault.TheVariants as fault
-use Rattle.input_run.specs.of_run_status.declared.status.Status.{Status}
-use Rattle.input_run.specs.of_run_status.declared.status.Status.TheVariants as status
-use Rattle.input_run.specs.of_run_status.Codes.{status_of}
+use Rattle.input_run.specs.declared.status.Status.{Status}
+use Rattle.input_run.specs.declared.status.Status.TheVariants as status
+use Rattle.input_run.specs.Codes.{status_of}
 use Rattle.locus_main.specs.Audits.{AuditPromises, WritesAnswer, WritesFrontOfAnswer, ends_audit, ends_unanswered, status_of_audit}
 use Rattle.input_run.specs.Promises.{ComesThrough}
 use Rattle.line_reader.proofs.ReadLines.{if_some}

@@ -36,12 +36,12 @@ use Rattle.input_run.specs.Runs.{output_of}
 use Rattle.input_run.specs.Inputs.Input.{Schedule, Calls}
 use Rattle.input_run.specs.Promises.{LinePromises, LoadPromises}
 use Rattle.input_run.specs.Runs.{IsWholeRun, PassesAtLine, StopsAtFault, StopsAtLimit, WritesFront}
-use Rattle.input_run.specs.of_run_status.Codes.{limited}
+use Rattle.input_run.specs.Codes.{limited}
 use Rattle.locus_main.specs.Holds.{Holds, HoldsWithin}
 use Rattle.locus_main.specs.Keeps.{Promise, Keeps, KeepsBefore, LoadKeeps, CommandKeeps, CommandRuns, EndsAt, command_of, written_of, counts_of, ends_by_input, ends_told}
-use Rattle.input_run.specs.of_run_status.declared.status.Status.{Status}
-use Rattle.input_run.specs.of_run_status.declared.status.Status.TheVariants as status
-use Rattle.input_run.specs.of_run_status.declared.status.Limited.TheVariants.{Packets, Bytes, Trace, Line, Lines}
+use Rattle.input_run.specs.declared.status.Status.{Status}
+use Rattle.input_run.specs.declared.status.Status.TheVariants as status
+use Rattle.input_run.specs.declared.status.Limited.TheVariants.{Packets, Bytes, Trace, Line, Lines}
 use Rattle.input_run.proofs.Inputs.{stands_first}
 use Rattle.input_run.proofs.Order.{stands_in_order}
 use Rattle.line_reader.proofs.ReadLines.{if_some}

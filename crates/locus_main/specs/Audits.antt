@@ -11,9 +11,9 @@ use Rattle.audit_run.specs.of_audit_answers.declared.answer.Answer.{Answer}
 use Rattle.audit_run.specs.Ends.{AreAnswered, IsWithinLimits, StopsAtBad, StopsAtCount, StopsAtLong}
 use Rattle.audit_run.specs.declared.fault.AuditFault.{AuditFault}
 use Rattle.audit_run.specs.declared.fault.AuditFault.TheVariants as fault
-use Rattle.input_run.specs.of_run_status.declared.status.Status.{Status}
-use Rattle.input_run.specs.of_run_status.declared.status.Status.TheVariants as status
-use Rattle.input_run.specs.of_run_status.declared.status.Limited.TheVariants.{Line, Lines}
+use Rattle.input_run.specs.declared.status.Status.{Status}
+use Rattle.input_run.specs.declared.status.Status.TheVariants as status
+use Rattle.input_run.specs.declared.status.Limited.TheVariants.{Line, Lines}
 use Rattle.input_run.specs.Promises.{ComesThrough}
 
 -- what an audit comes to where there is no answer

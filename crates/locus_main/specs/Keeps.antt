@@ -13,9 +13,9 @@ use Rattle.line_reader.specs.Reading.{lines_of}
 use Rattle.locus_io.specs.Causes.{AppendsFront}
 use Rattle.input_run.specs.Inputs.{Input, StandsFor}
 use Rattle.input_run.specs.Inputs.Input.{Schedule, Calls}
-use Rattle.input_run.specs.of_run_status.declared.status.Status.{Status}
-use Rattle.input_run.specs.of_run_status.declared.status.Status.TheVariants as status
-use Rattle.input_run.specs.of_run_status.declared.status.Limited.TheVariants.{Line, Lines}
+use Rattle.input_run.specs.declared.status.Status.{Status}
+use Rattle.input_run.specs.declared.status.Status.TheVariants as status
+use Rattle.input_run.specs.declared.status.Limited.TheVariants.{Line, Lines}
 
 -- what is promised of lines and of a trace, the latest record first
 abbrev pub Promise : Type 1

@@ -1,7 +1,7 @@
 ghost use Rattle.std.specs.Prelude.{◌≡◌, ◌≢◌, ◌⊎◌, true};
 ghost use Rattle.locus_io.specs.Causes.{Rose};
 ghost use Rattle.locus_main.specs.Audits.{AuditPromises, status_of_audit as audit_status};
-ghost use Rattle.input_run.specs.of_run_status.Codes.{ends_written};
+ghost use Rattle.input_run.specs.Codes.{ends_written};
 
 use audit_run::{AuditFault, audit as answer_of};
 use input_run::{Limited, Status, send};

@@ -6,7 +6,7 @@ ghost use Rattle.generated_load.specs.Draws.{draws_of};
 ghost use Rattle.command_words.specs.Words.{IsCommand};
 ghost use Rattle.audited_runs.specs.of_headline_promise_laws.of_headline_laws.TheRun.{TheRun};
 ghost use Rattle.locus_main.specs.Audits.{AuditPromises};
-ghost use Rattle.input_run.specs.of_run_status.Codes.{ends_written};
+ghost use Rattle.input_run.specs.Codes.{ends_written};
 ghost use Rattle.input_run.specs.Inputs.Input.{Schedule, Calls};
 ghost use Rattle.locus_main.specs.Holds.{Holds, HoldsWithin};
 ghost use Rattle.locus_main.specs.Keeps.{CommandKeeps, CommandRuns};

@@ -5,9 +5,9 @@ use Rattle.locus_io.specs.Causes.{AppendsFront}
 use Rattle.the_run.specs.Runs.{run}
 use Rattle.the_run.specs.Commands.{load_lines, load_text}
 use Rattle.generated_load.specs.Draws.{draws_of}
-use Rattle.run_status.specs.declared.status.Status.{Status}
-use Rattle.run_status.specs.declared.status.Status.TheVariants as status
-use Rattle.run_status.specs.Codes.{ends_written}
+use Rattle.input_run.specs.declared.status.Status.{Status}
+use Rattle.input_run.specs.declared.status.Status.TheVariants as status
+use Rattle.input_run.specs.Codes.{ends_written}
 use Rattle.input_run.specs.Promises.{LoadPromises}
 use Rattle.input_run.proofs.Loads.{load_whole, load_unwritten, load_undone, undone_no_write, undone_not_ok, undone_ends, write_ends_load, write_not_ok, load_not}
 use Rattle.input_run.proofs.Turns.{write_failed, write_holds}

@@ -1,6 +1,6 @@
 use Rattle.std.proofs.Common.{ap, inr}
 use Rattle.std.proofs.lemmas.Bool.{false≢true}
-use Rattle.run_status.specs.Codes.{ends_written}
+use Rattle.input_run.specs.Codes.{ends_written}
 use Rattle.input_run.specs.Inputs.Input.{Schedule}
 use Rattle.input_run.proofs.Complete.{for_memory}
 use Rattle.input_run.proofs.Openings.{schedule_opens}

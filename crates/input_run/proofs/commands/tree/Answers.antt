@@ -1,8 +1,8 @@
 use Rattle.std.proofs.Common.{Err, ap, sym, subst, ◌∙◌, inl, inr, refl}
 use Rattle.std.proofs.lemmas.Bool.{false≢true}
-use Rattle.run_status.specs.declared.status.Status.{Status}
-use Rattle.run_status.specs.declared.status.Status.TheVariants as status
-use Rattle.run_status.specs.Codes.{ends_written}
+use Rattle.input_run.specs.declared.status.Status.{Status}
+use Rattle.input_run.specs.declared.status.Status.TheVariants as status
+use Rattle.input_run.specs.Codes.{ends_written}
 use Rattle.input_run.specs.Inputs.Input.{Calls}
 use Rattle.input_run.specs.Promises.{LinePromises}
 use Rattle.input_run.proofs.Complete.{for_memory}

@@ -3,10 +3,10 @@ use Rattle.std.proofs.lemmas.Bool.{false≢true}
 use Rattle.std.specs.Io.KnownBytes.{Keeps, IsAtEnd}
 use Rattle.line_reader.specs.Reading.{to_read, ReadsLine, EndsInFeed}
 use Rattle.line_reader.specs.Readers.{Reader, IfTold, nothing_of, still_read}
-use Rattle.run_status.specs.Codes.{limited}
+use Rattle.input_run.specs.Codes.{limited}
 use Rattle.input_run.specs.Inputs.{opening_of}
-use Rattle.run_status.specs.declared.status.Status.TheVariants as status
-use Rattle.run_status.specs.declared.status.Limited.TheVariants as what
+use Rattle.input_run.specs.declared.status.Status.TheVariants as status
+use Rattle.input_run.specs.declared.status.Limited.TheVariants as what
 use Rattle.input_run.proofs.Complete.{keeps_promises}
 use Rattle.line_reader.proofs.ReadLines.{end_by, since_then}
 use Rattle.input_run.proofs.Runs.{SoFar, Turns, SoFar-start, SoFar-next, Ends-whole, Ends-short, Ends-bad, Ends-long, Ends-many, Ends-fault, Ends-front, Ends-limit, Ends-cut, Opens-front, Opens-limit}

@@ -1,6 +1,6 @@
 use Rattle.std.proofs.Common.{◌≡◌, Err, true, ap, sym, ◌∙◌, inl, inr, refl, arith}
-use Rattle.run_status.specs.Codes.{limited}
-use Rattle.run_status.specs.declared.status.Status.TheVariants as status
+use Rattle.input_run.specs.Codes.{limited}
+use Rattle.input_run.specs.declared.status.Status.TheVariants as status
 use Rattle.input_run.specs.Turns.{ends_telling}
 use Rattle.input_run.proofs.Turns.{line_is_bad, faults_end, no_limit_is, no_write_is, keeps_same, same_err, then_ok, then_err, then_on_err, at_err, telling_ends, telling_not}
 use Rattle.input_run.proofs.turn.take_turn.Goals as goal

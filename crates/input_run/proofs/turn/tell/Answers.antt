@@ -1,6 +1,6 @@
 use Rattle.std.proofs.Common.{◌≡◌, Err, Some, ap, sym, ◌∙◌, refl}
 use Rattle.run_book.specs.Ledgers.{limit_in}
-use Rattle.run_status.specs.Codes.{limited}
+use Rattle.input_run.specs.Codes.{limited}
 use Rattle.input_run.proofs.Told.{AppendsFront-whole}
 use Rattle.input_run.proofs.Turns.{Stopped, stopped_ends, stopped_at, stopped_no_write, write_failed, write_no_limit, always_err, always_ok, then_ok, then_err, at_err, hands_no_ok, hands_ends, hands_held, hands_is}
 use Rattle.input_run.proofs.turn.tell.Goals as goal

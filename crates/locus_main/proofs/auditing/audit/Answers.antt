@@ -2,8 +2,8 @@ use Rattle.std.proofs.Common.{List, ℕ, Err, ap, sym, subst, ◌∙◌, inl, in
 use Rattle.std.specs.Io.KnownBytes.{Appends}
 use Rattle.std.proofs.lemmas.Bool.{false≢true}
 use Rattle.locus_io.specs.Causes.{AppendsFront}
-use Rattle.input_run.specs.of_run_status.declared.status.Status.{Status}
-use Rattle.input_run.specs.of_run_status.Codes.{ends_written}
+use Rattle.input_run.specs.declared.status.Status.{Status}
+use Rattle.input_run.specs.Codes.{ends_written}
 use Rattle.locus_main.specs.Audits.{AuditPromises}
 use Rattle.locus_main.proofs.Audits.{all_written, fault_no_ok, fault_no_words, fault_no_write, fault_of_read, front_written, no_answer, no_memory, write_no_ok, write_no_read, write_no_words}
 use Rattle.input_run.proofs.Turns.{write_failed, write_holds}

@@ -1,7 +1,7 @@
 use Rattle.std.proofs.Common.{Result, Ok, Err}
 use Rattle.std.specs.Prelude.{OnErr}
 use Rattle.locus_io.proofs.Pieces.{AppendsFront-after_all}
-use Rattle.run_status.proofs.sending.send.Goals as goal
+use Rattle.input_run.proofs.sending.send.Goals as goal
 
 always : {T E : Type 0} (r : Result T E) (P : Type 0) → P → OnErr r P
 always (Ok x) P p = tt

@@ -5,9 +5,9 @@ use Rattle.schedule_run.specs.declared.fault.RunFault.TheVariants.{Bad, NoMemory
 use Rattle.schedule_run.specs.declared.load_fault.LoadFault.{LoadFault}
 use Rattle.schedule_run.specs.declared.load_fault.LoadFault.TheVariants as load
 use Rattle.run_book.specs.Ledgers.{limit_named}
-use Rattle.run_status.specs.declared.status.Status.{Status}
-use Rattle.run_status.specs.declared.status.Status.TheVariants as status
-use Rattle.run_status.specs.Codes.{limited}
+use Rattle.input_run.specs.declared.status.Status.{Status}
+use Rattle.input_run.specs.declared.status.Status.TheVariants as status
+use Rattle.input_run.specs.Codes.{limited}
 
 -- what a run comes to where the line of this number is not done
 abbrev pub status_of_line : RunFault → ℕ → Status

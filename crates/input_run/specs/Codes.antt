@@ -4,10 +4,10 @@ use Rattle.locus_io.specs.declared.traits.WriteFault.{WriteFault}
 use Rattle.locus_io.specs.declared.traits.WriteFault.TheVariants as write
 use Rattle.the_run.specs.Worlds.{Limit}
 use Rattle.the_run.specs.Worlds as world
-use Rattle.run_status.specs.declared.status.Status.{Status}
-use Rattle.run_status.specs.declared.status.Status.TheVariants as status
-use Rattle.run_status.specs.declared.status.Limited.{Limited}
-use Rattle.run_status.specs.declared.status.Limited.TheVariants.{Packets, Bytes, Trace, Line, Lines}
+use Rattle.input_run.specs.declared.status.Status.{Status}
+use Rattle.input_run.specs.declared.status.Status.TheVariants as status
+use Rattle.input_run.specs.declared.status.Limited.{Limited}
+use Rattle.input_run.specs.declared.status.Limited.TheVariants.{Packets, Bytes, Trace, Line, Lines}
 
 -- the exit code
 abbrev pub code_of : Status → ℕ

@@ -1,5 +1,5 @@
 ghost use Rattle.std.specs.Prelude.{◌≡◌, ℕ};
-ghost use Rattle.run_status.specs.Codes.{code_of, limit_word};
+ghost use Rattle.input_run.specs.Codes.{code_of, limit_word};
 
 use locus_ids::NoMemory;
 use locus_io::WriteFault;
@@ -86,7 +86,7 @@ impl Limited {
 
 impl From<NoMemory> for Status {
     ghost use Rattle.std.specs.Prelude.{◌≡◌};
-    ghost use Rattle.run_status.specs.declared.status.Status.TheVariants.{NoMemory as OutOfMemory};
+    ghost use Rattle.input_run.specs.declared.status.Status.TheVariants.{NoMemory as OutOfMemory};
 
     ghost from_gives = { λ _ e. e ≡ OutOfMemory };
 
@@ -97,7 +97,7 @@ impl From<NoMemory> for Status {
 
 impl From<WriteFault> for Status {
     ghost use Rattle.std.specs.Prelude.{◌≡◌};
-    ghost use Rattle.run_status.specs.Codes.{status_of};
+    ghost use Rattle.input_run.specs.Codes.{status_of};
 
     ghost from_gives = { λ fault status. status ≡ status_of fault };
 

@@ -2,15 +2,15 @@
 ghost use Rattle.std.specs.Prelude.{◌≡◌, None, Some, OnOk, IfErr};
 ghost use Rattle.the_run.specs.Worlds.{Limit};
 ghost use Rattle.run_book.specs.Ledgers.{limit_in};
-ghost use Rattle.run_status.specs.Codes.{limited};
-ghost use Rattle.run_status.specs.Ends.{status_of_line, status_of_load as load_status};
+ghost use Rattle.input_run.specs.Codes.{limited};
+ghost use Rattle.input_run.specs.Ends.{status_of_line, status_of_load as load_status};
 
 use crate::status::{Limited, Status};
 use run_book::Passed;
 use schedule_run::{LoadFault, RunFault, WorldFault};
 
 /// What a run comes to where a line was not done. In the world of a run nothing is ever wanting but memory.
-pub fn status_of(fault: RunFault, number: u32) -> Status
+pub(crate) fn status_of(fault: RunFault, number: u32) -> Status
     requires { (cause : WorldFault) → fault ≡ RunFault.World cause → cause ≡ WorldFault.NoMemory }
     ensures { result ≡ status_of_line fault number }
 {
@@ -23,7 +23,7 @@ pub fn status_of(fault: RunFault, number: u32) -> Status
 }
 
 /// Where a limit was passed, the run ends.
-pub fn stop_past(passed: Option<Passed>) -> Result<(), Status>
+pub(crate) fn stop_past(passed: Option<Passed>) -> Result<(), Status>
     ensures ok { OnOk result (limit_in passed ≡ None) }
     ensures err { IfErr result (λ status. (limit : Limit) × (limit_in passed ≡ Some limit) × (status ≡ Status.Limit (limited limit))) }
 {
@@ -37,7 +37,7 @@ pub fn stop_past(passed: Option<Passed>) -> Result<(), Status>
 }
 
 /// What a load comes to where it was not run to its end. Nothing is wanting then but memory.
-pub fn status_of_load(fault: LoadFault) -> Status
+pub(crate) fn status_of_load(fault: LoadFault) -> Status
     requires { (cause : WorldFault) → fault ≡ LoadFault.World cause → cause ≡ WorldFault.NoMemory }
     ensures { result ≡ load_status fault }
 {

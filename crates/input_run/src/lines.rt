@@ -10,7 +10,7 @@ use locus_io::Source;
 
 /// Reads the next line of the input, and says whether there is one. The run ends where the line is too long, or is one
 /// too many.
-pub fn next_line<S: Source>(reader: &mut LineReader, source: &mut S) -> Result<bool, Status>
+pub(crate) fn next_line<S: Source>(reader: &mut LineReader, source: &mut S) -> Result<bool, Status>
     ensures line { result ≡ Ok true → IfTold reader.old reader.new (S.left source.old) (S.left source.new) (ReadsLine reader.new.line) }
     ensures feed { result ≡ Ok true → reader.new.ended ≡ false → IfTold reader.old reader.new (S.left source.old) (S.left source.new) (EndsInFeed reader.new.line) }
     ensures short { result ≡ Ok true → length reader.new.line ≤ reader.old.limit }

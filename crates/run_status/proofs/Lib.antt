@@ -1,2 +1,0 @@
-mod Codes
-pub use Rattle.schedule_run.proofs as of_schedule_run
