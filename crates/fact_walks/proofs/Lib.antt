@@ -2,7 +2,6 @@ pub mod Boots
 pub mod Outcomes
 pub mod Forming
 pub mod Pulls
-pub mod Untouched
 pub mod Packets
 pub mod Steps
 pub mod Run

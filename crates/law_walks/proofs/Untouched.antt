@@ -1,13 +1,13 @@
 -- A packet of the epoch that no instance takes leaves the store as it is, and writes nothing.
 use Rattle.std.proofs.Common.{◌≡◌, ℕ, Option, Some, None, refl}
-use Rattle.run_laws.specs.of_wire_messages.declared.body.Body.{Body}
-use Rattle.run_laws.specs.of_role_steps.Views.{Frame, SiteView, Outcome}
-use Rattle.run_laws.specs.of_role_steps.declared.synchronizing.SyncTable.{SyncTable}
-use Rattle.run_laws.specs.of_the_run.Steps.{at_table_of, takes_inside}
-use Rattle.run_laws.specs.of_the_run.Roles.{IsForStore}
-use Rattle.run_laws.specs.of_law_walks.Laws.{Law, frame_law, TablesKeep, ReadersKeep, UsersKeep}
-use Rattle.run_laws.proofs.of_law_walks.Premises.{frame_tables, frame_stores, frame_users}
-use Rattle.run_laws.proofs.of_the_run.Roles.{by_role, tables_by, readers_by, users_by, pulls_by}
+use Rattle.the_run.specs.of_wire_messages.declared.body.Body.{Body}
+use Rattle.the_run.specs.of_role_steps.Views.{Frame, SiteView, Outcome}
+use Rattle.the_run.specs.of_role_steps.declared.synchronizing.SyncTable.{SyncTable}
+use Rattle.the_run.specs.Steps.{at_table_of, takes_inside}
+use Rattle.the_run.specs.Roles.{IsForStore}
+use Rattle.the_run.specs.KindLaws.{Law, frame_law, TablesKeep, ReadersKeep, UsersKeep}
+use Rattle.the_run.proofs.Premises.{frame_tables, frame_stores, frame_users}
+use Rattle.the_run.proofs.Roles.{by_role, tables_by, readers_by, users_by, pulls_by}
 
 abbrev pub Untouched : SiteView → Outcome SiteView → Type 0
 Untouched v o = (o.view.store ≡ v.store) × (o.written ≡ None)
