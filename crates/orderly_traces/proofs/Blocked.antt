@@ -60,10 +60,10 @@ part_test p up e = cond (up && is_some e) (Some p) None
 abbrev merge_test : ℕ → Bool → Option ℕ
 merge_test p up = cond up (Some p) None
 
-stopped_down : (c : Config) (ls : List ScheduleLine) (p : ℕ) (d : _) → place_at (run_in c ls) p ≡ Some (Stopped d) → is_up (trace_of (run_in c ls)) p ≡ false
+stopped_down : (c : Config) (ls : List ScheduleLine) (p : ℕ) (d : _) → place_at (run_in c ls) p ≡ Some (Stopped d) → is_up c (trace_of (run_in c ls)) p ≡ false
 stopped_down c ls p d here = ((run_courses c ls).course.places p (Stopped d) here).0
 
-part_begins : (c : Config) (ls : List ScheduleLine) (p s : ℕ) → is_site c.sites p ≡ true → starts_at (EventLine (line.Part p)) (trace_of (run_in c ls)) ≡ Some s → Begins (EventLine (line.Part p)) (run_in c ls) s
+part_begins : (c : Config) (ls : List ScheduleLine) (p s : ℕ) → is_site c.sites p ≡ true → starts_at c (EventLine (line.Part p)) (trace_of (run_in c ls)) ≡ Some s → Begins (EventLine (line.Part p)) (run_in c ls) s
 part_begins c ls p s fits h = by_place (place_at (run_in c ls) p) refl
   where
     by_epoch : (v : SiteView) → place_at (run_in c ls) p ≡ Some (Running v) → (o : Option InEpoch) → v.epoch ≡ o → part_test p true (epoch_id o) ≡ Some s → Begins (EventLine (line.Part p)) (run_in c ls) s
@@ -75,7 +75,7 @@ part_begins c ls p s fits h = by_place (place_at (run_in c ls) p) refl
     by_place (Some (Stopped d)) e = absurd (none_some s (sym (ap (λ (b : Bool). part_test p b (epoch_of (trace_of (run_in c ls)) p)) (stopped_down c ls p d e)) ∙ h))
     by_place (Some (Running v)) e = by_epoch v e v.epoch refl (sym (ap (λ (b : Bool). part_test p b (epoch_of (trace_of (run_in c ls)) p)) (running_up c ls p v e) ∙ ap (part_test p true) (running_epoch c ls p v e)) ∙ h)
 
-merge_begins : (c : Config) (ls : List ScheduleLine) (p s : ℕ) → is_site c.sites p ≡ true → starts_at (EventLine (line.Merge p)) (trace_of (run_in c ls)) ≡ Some s → Begins (EventLine (line.Merge p)) (run_in c ls) s
+merge_begins : (c : Config) (ls : List ScheduleLine) (p s : ℕ) → is_site c.sites p ≡ true → starts_at c (EventLine (line.Merge p)) (trace_of (run_in c ls)) ≡ Some s → Begins (EventLine (line.Merge p)) (run_in c ls) s
 merge_begins c ls p s fits h = by_place (place_at (run_in c ls) p) refl
   where
     by_place : (o : Option Place) → place_at (run_in c ls) p ≡ o → Begins (EventLine (line.Merge p)) (run_in c ls) s
@@ -83,13 +83,13 @@ merge_begins c ls p s fits h = by_place (place_at (run_in c ls) p) refl
     by_place (Some (Stopped d)) e = absurd (none_some s (sym (ap (merge_test p) (stopped_down c ls p d e)) ∙ h))
     by_place (Some (Running v)) e = record { polled = asked_by_merge (run_in c ls) p; inside = ap is_stopped e; starts = (sym (some_same p s (sym (ap (merge_test p) (running_up c ls p v e)) ∙ h)), refl) }
 
-pub line_begins : (c : Config) (ls : List ScheduleLine) (x : ScheduleLine) (s : ℕ) → FitsCluster c.sites x → starts_at x (trace_of (run_in c ls)) ≡ Some s → Begins x (run_in c ls) s
+pub line_begins : (c : Config) (ls : List ScheduleLine) (x : ScheduleLine) (s : ℕ) → FitsCluster c.sites x → starts_at c x (trace_of (run_in c ls)) ≡ Some s → Begins x (run_in c ls) s
 line_begins c ls (EventLine (line.Part p)) s fits h = part_begins c ls p s fits h
 line_begins c ls (EventLine (line.Merge p)) s fits h = merge_begins c ls p s fits h
 line_begins c ls _ s fits h = absurd (none_some s h)
 
 -- nobody starts
-pub line_starts_none : (c : Config) (ls : List ScheduleLine) (x : ScheduleLine) → starts_at x (trace_of (run_in c ls)) ≡ None → StartsNobody x (run_in c ls)
+pub line_starts_none : (c : Config) (ls : List ScheduleLine) (x : ScheduleLine) → starts_at c x (trace_of (run_in c ls)) ≡ None → StartsNobody x (run_in c ls)
 line_starts_none c ls (EventLine (line.Part p)) h = by_place (place_at (run_in c ls) p) refl
   where
     by_epoch : (v : SiteView) → (o : Option InEpoch) → part_test p true (epoch_id o) ≡ None → not (is_some o) ≡ true

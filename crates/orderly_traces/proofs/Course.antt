@@ -56,7 +56,7 @@ settle_passed most e = cc
 
 -- nobody starts by a round
 settle_starts : (lines : List ScheduleLine) (k most : ℕ) → line_at lines (suc k) ≡ EventLine (line.Settle most) → initiator lines (trace_of (run lines)) (suc k) ≡ None
-settle_starts lines k most e = ap (λ (x : ScheduleLine). starts_at x (before_line (trace_of (run lines)) (suc k))) e
+settle_starts lines k most e = ap (λ (x : ScheduleLine). starts_at (config_of lines) x (before_line (trace_of (run lines)) (suc k))) e
 
 settle_stands : (lines : List ScheduleLine) (k most : ℕ) → line_at lines (suc k) ≡ EventLine (line.Settle most) → MayStand lines k → ⊥
 settle_stands lines k most e (inl p) = settle_passed most (sym e ∙ p)

@@ -62,7 +62,7 @@ pub at_most_sixteen : (a b : ℕ) → a ≤ b → b ≤ sites_max → a ≤ site
 at_most_sixteen a b p q = omega (arith, p, q)
 
 -- a site of the cluster that is up has its place, and runs
-there : (lines : List ScheduleLine) → IsCluster lines → (k t : ℕ) → 1 ≤ t → t ≤ (config_of lines).sites → is_up (trace_of (at lines k)) t ≡ true → (v : SiteView) × (place_at (at lines k) t ≡ Some (Running v))
+there : (lines : List ScheduleLine) → IsCluster lines → (k t : ℕ) → 1 ≤ t → t ≤ (config_of lines).sites → is_up (config_of lines) (trace_of (at lines k)) t ≡ true → (v : SiteView) × (place_at (at lines k) t ≡ Some (Running v))
 there lines few k t low high up = by_place (place_at (at lines k) t) refl
   where
     by_place : (o : Option Place) → place_at (at lines k) t ≡ o → (v : SiteView) × (place_at (at lines k) t ≡ Some (Running v))
@@ -95,8 +95,8 @@ reach_back lines fits few k X t h = not_zero_test link (above link to.0.boot lin
     link : ℕ
     link = views.boot_in (links_of (at lines k) X).boot t
 
-    g : (nat_le 1 t ≡ true) × (nat_le t c.sites ≡ true) × (is_up tr t ≡ true) × (((X == t) || not (lawful.is_cut (take (suc k - 1) lines) X t)) ≡ true)
-    g = all_parts (nat_le 1 t) (nat_le t c.sites) (is_up tr X) (is_up tr t) ((X == t) || not (lawful.is_cut (take (suc k - 1) lines) X t)) h
+    g : (nat_le 1 t ≡ true) × (nat_le t c.sites ≡ true) × (is_up (config_of lines) tr t ≡ true) × (((X == t) || not (lawful.is_cut (take (suc k - 1) lines) X t)) ≡ true)
+    g = all_parts (nat_le 1 t) (nat_le t c.sites) (is_up (config_of lines) tr X) (is_up (config_of lines) tr t) ((X == t) || not (lawful.is_cut (take (suc k - 1) lines) X t)) h
 
     low : 1 ≤ t
     low = at_most 1 t g.0
@@ -105,7 +105,7 @@ reach_back lines fits few k X t h = not_zero_test link (above link to.0.boot lin
     high = at_most t c.sites g.1
 
     to : (v : SiteView) × (place_at (at lines k) t ≡ Some (Running v))
-    to = there lines few k t low high (ap (λ (z : Trace). is_up z t) (sym (before_at c lines k)) ∙ g.2)
+    to = there lines few k t low high (ap (λ (z : Trace). is_up (config_of lines) z t) (sym (before_at c lines k)) ∙ g.2)
 
     whole : (b : Bool) → (X == t) ≡ b → (b || not (lawful.is_cut (take (suc k - 1) lines) X t)) ≡ true → is_cut (at lines k) X t ≡ false
     whole true e f = ap (is_cut (at lines k) X) (sym (equal X t e)) ∙ self_uncut c (take k lines) (take_fits c.sites lines k fits) X
@@ -293,7 +293,7 @@ narrowed_within R f (x ∷ xs) s h = first (f s) (not (f x) || R x s) (narrowed_
 
 pub polled_reached : (lines : List ScheduleLine) → EachFits lines → IsCluster lines → (k site s : ℕ) → is_polled lines (trace_of (run lines)) (suc k) site s ≡ true → (1 ≤ s) × (s ≤ (config_of lines).sites) × (boot_at (at lines k) s ≢ 0)
 polled_reached lines fits few k site s h =
-    (at_most 1 s (first (nat_le 1 s) (nat_le s (config_of lines).sites && lawful.reaches (lawful.lines_before lines (suc k)) tr site s) reached), at_most s (config_of lines).sites (first (nat_le s (config_of lines).sites) (lawful.reaches (lawful.lines_before lines (suc k)) tr site s) (second (nat_le 1 s) (nat_le s (config_of lines).sites && lawful.reaches (lawful.lines_before lines (suc k)) tr site s) reached)), λ z. not_zero (views.boot_in (links_of (at lines k) site).boot s) (reach_back lines fits few k site s reached) (by_link z))
+    (at_most 1 s (first (nat_le 1 s) (nat_le s (config_of lines).sites && lawful.reaches (config_of lines) (lawful.lines_before lines (suc k)) tr site s) reached), at_most s (config_of lines).sites (first (nat_le s (config_of lines).sites) (lawful.reaches (config_of lines) (lawful.lines_before lines (suc k)) tr site s) (second (nat_le 1 s) (nat_le s (config_of lines).sites && lawful.reaches (config_of lines) (lawful.lines_before lines (suc k)) tr site s) reached)), λ z. not_zero (views.boot_in (links_of (at lines k) site).boot s) (reach_back lines fits few k site s reached) (by_link z))
   where
     first : (a b : Bool) → (a && b) ≡ true → a ≡ true
     first true b h = refl

@@ -15,11 +15,11 @@ use Rattle.row_laws.proofs.Causes.{epoch_standing}
 
 -- ---- one site ----
 
-pub running_up : (c : Config) (lines : List ScheduleLine) (s : ℕ) (v : SiteView) → place_at (run_in c lines) s ≡ Some (Running v) → is_up (trace_of (run_in c lines)) s ≡ true
+pub running_up : (c : Config) (lines : List ScheduleLine) (s : ℕ) (v : SiteView) → place_at (run_in c lines) s ≡ Some (Running v) → is_up c (trace_of (run_in c lines)) s ≡ true
 running_up c lines s v here = ((run_courses c lines).course.places s (Running v) here).0
 
 pub running_boot : (c : Config) (lines : List ScheduleLine) (s : ℕ) (v : SiteView) → place_at (run_in c lines) s ≡ Some (Running v) → told.boot_of (trace_of (run_in c lines)) s ≡ v.boot
 running_boot c lines s v here = ((run_courses c lines).course.places s (Running v) here).1
 
 pub running_epoch : (c : Config) (lines : List ScheduleLine) (s : ℕ) (v : SiteView) → place_at (run_in c lines) s ≡ Some (Running v) → epoch_of (trace_of (run_in c lines)) s ≡ epoch_id v.epoch
-running_epoch c lines s v here = epoch_standing s (run_in c lines).trace (running_up c lines s v here) ∙ ap (λ (x : _). x.epoch) ((run_good c lines).stands s v here)
+running_epoch c lines s v here = epoch_standing c s (run_in c lines).trace (running_up c lines s v here) ∙ ap (λ (x : _). x.epoch) ((run_good c lines).stands s v here)

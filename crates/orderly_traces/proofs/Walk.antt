@@ -129,8 +129,8 @@ MayStand lines i = (line_at lines (suc i) ≡ Passed) ⊎ ((s : ℕ) × StartsLi
 abbrev pub at : List ScheduleLine → ℕ → World
 at lines k = world (config_of lines) lines k
 
-pub starts_is : (lines : List ScheduleLine) (i : ℕ) → initiator lines (trace_of (run lines)) (suc i) ≡ starts_at (line_at lines (suc i)) (trace_of (at lines i))
-starts_is lines i = ap (starts_at (line_at lines (suc i))) (before_at (config_of lines) lines i)
+pub starts_is : (lines : List ScheduleLine) (i : ℕ) → initiator lines (trace_of (run lines)) (suc i) ≡ starts_at (config_of lines) (line_at lines (suc i)) (trace_of (at lines i))
+starts_is lines i = ap (starts_at (config_of lines) (line_at lines (suc i))) (before_at (config_of lines) lines i)
 
 pub begins_at : (lines : List ScheduleLine) → EachFits lines → (i s : ℕ) → StartsLine lines i s → Begins (line_at lines (suc i)) (at lines i) s
 begins_at lines fits i s h = line_begins (config_of lines) (take i lines) (line_at lines (suc i)) s (line_fits (config_of lines).sites lines i fits) (sym (starts_is lines i) ∙ h)
@@ -194,10 +194,10 @@ is_reached_at lines fits k X t some h =
     let to : (v : SiteView) × (place_at w t ≡ Some (Running v)) × (v.boot ≡ boot_at w t) = runs (place_at w t) (λ z. link (is.0 ∙ z)) in
     let low : 1 ≤ t = site_low w X t link in
     let high : t ≤ c.sites = place_within c (take k lines) t (Running to.0) to.1 in
-    all_true (nat_le 1 t) (nat_le t c.sites) (is_up (before_line (trace_of (run lines)) (suc k)) X) (is_up (before_line (trace_of (run lines)) (suc k)) t) (X == t) (lawful.is_cut (take (suc k - 1) lines) X t)
+    all_true (nat_le 1 t) (nat_le t c.sites) (is_up (config_of lines) (before_line (trace_of (run lines)) (suc k)) X) (is_up (config_of lines) (before_line (trace_of (run lines)) (suc k)) t) (X == t) (lawful.is_cut (take (suc k - 1) lines) X t)
     (at_most 1 t low) (at_most t c.sites high)
-    (ap (λ (z : Trace). is_up z X) (before_at c lines k) ∙ running_up c (take k lines) X from.0 from.1)
-    (ap (λ (z : Trace). is_up z t) (before_at c lines k) ∙ running_up c (take k lines) t to.0 to.1)
+    (ap (λ (z : Trace). is_up (config_of lines) z X) (before_at c lines k) ∙ running_up c (take k lines) X from.0 from.1)
+    (ap (λ (z : Trace). is_up (config_of lines) z t) (before_at c lines k) ∙ running_up c (take k lines) t to.0 to.1)
     (ap (λ (j : ℕ). lawful.is_cut (take j lines) X t) {x = suc k - 1} {y = k} (omega arith) ∙ (sym (cut_is c (take k lines) (take_fits c.sites lines k fits) X t) ∙ is.1))
   where
     at_most : (a b : ℕ) → a ≤ b → nat_le a b ≡ true

@@ -136,12 +136,12 @@ own_stands t Merges h = tt
 own_stands t GivesUp h = tt
 
 pub record Walks (c : Config) (lines : List ScheduleLine) (n : ℕ) (w : World) : Type 0 where
-  pub courses : Courses lines n w
+  pub courses : Courses c lines n w
   pub stand : PacketsStand c w
   pub reached : IsRest c w.trace → Reached c w
 
 module _ (c : Config) (lines : List ScheduleLine) (fit : LinesFit c lines) (roles : RolesDo c) (few : length c.packs ≤ 4) where
-  on : KeptIn c lines (Courses lines)
+  on : KeptIn c lines (Courses c lines)
   on = courses_kept c lines
 
   st : KeptIn c lines (λ n w. PacketsStand c w)
@@ -150,14 +150,14 @@ module _ (c : Config) (lines : List ScheduleLine) (fit : LinesFit c lines) (role
   now_of : (n : ℕ) (w : World) → Walks c lines n w → Now c w
   now_of n w g = record { stand = g.stand; reached = g.reached }
 
-  own_brings : (n s : ℕ) (e : Event) (v : SiteView) (w : World) → place_at w s ≡ Some (Running v) → IsOwn e → (IsRest c w.trace → EventFact c w.trace s v e) → Courses lines n w → Brings c w s v e
+  own_brings : (n s : ℕ) (e : Event) (v : SiteView) (w : World) → place_at w s ≡ Some (Running v) → IsOwn e → (IsRest c w.trace → EventFact c w.trace s v e) → Courses c lines n w → Brings c w s v e
   own_brings n s e v w here own fact courses =
       let f = step_forms (DeedsOf w.trace s) s c (links_of w s) v e (courses.good.views s v here) (courses.course.places s (Running v) here).2 (comes_own e own) in
       record { comes = own_comes e own; stands = λ r. own_stands w.trace e own; fact = fact; told = f.told; written = f.written }
 
   sent_brings : (n : ℕ) (x : Numbered) (v : SiteView) (w : World) → place_at w x.packet.to ≡ Some (Running v) → WasSent w x → Walks c lines n w → Brings c (passed x.number w) x.packet.to v (Receives x.packet)
   sent_brings n x v w here sent g =
-      let f = step_forms (DeedsOf w.trace x.packet.to) x.packet.to c (links_of (passed x.number w) x.packet.to) v (Receives x.packet) (g.courses.good.views x.packet.to v here) (g.courses.course.places x.packet.to (Running v) here).2 (sent_polls lines n w x sent g.courses.course) in
+      let f = step_forms (DeedsOf w.trace x.packet.to) x.packet.to c (links_of (passed x.number w) x.packet.to) v (Receives x.packet) (g.courses.good.views x.packet.to v here) (g.courses.course.places x.packet.to (Running v) here).2 (sent_polls c lines n w x sent g.courses.course) in
       record {
         comes = sent_comes w x sent g.stand.good;
         stands = λ r. sent_stands c w (g.stand.values r (g.stand.holds r).followed) x sent;
