@@ -1,14 +1,12 @@
 -- What each event of a site keeps and sends has inode numbers of 16 bits.
-use Rattle.std.proofs.Common.{◌≤◌, ℕ, ◌+◌, ◌==◌, Bool, true, false, cond, ◌&&◌, not, List, [], ◌∷◌, ◌++◌, Option, Some, None}
+use Rattle.std.proofs.Common.{◌≤◌, ℕ, ◌+◌, ◌==◌, Bool, true, false, cond, ◌&&◌, not, List, [], ◌∷◌, ◌++◌, Option, Some, None, sym, subst}
 use Rattle.std.specs.List.{flat_map}
 use Rattle.locus_ids.specs.declared.ids.EpochId.{EpochId}
-use Rattle.locus_ids.specs.declared.ids.Stamp.{Stamp}
 use Rattle.locus_ids.specs.declared.sites.Links.{Links}
 use Rattle.locus_ids.specs.declared.sites.Members.{Members}
 use Rattle.locus_ids.specs.declared.sites.Sites.{Sites}
 use Rattle.locus_ids.specs.declared.config.Config.{Config}
 use Rattle.locus_ids.specs.Sizes.{sites_max}
-use Rattle.commit_graph.specs.Versions.{same_stamp}
 use Rattle.trace_book.specs.Same.{same_epoch}
 use Rattle.trace_book.specs.declared.call.Call.TheVariants as call
 use Rattle.wire_messages.specs.declared.packet.Packet.{Packet}
@@ -18,30 +16,32 @@ use Rattle.wire_messages.specs.declared.body.ReportedCopy.{ReportedCopy}
 use Rattle.role_steps.specs.Own.{Every}
 use Rattle.role_steps.specs.Tables.{row, without_row, first_that}
 use Rattle.role_steps.specs.Views.{Frame, Store, Users, SiteView, Promises, Outcome, Event, Calls, Receives, Ticks, Parts, Merges, GivesUp, quiet, sends, tells, and_then, packet}
-use Rattle.role_steps.specs.Versions.{is_below, file_row}
-use Rattle.role_steps.specs.Reports.{new_table, on_report, on_open, on_look, on_closed, on_have, on_have_of, sync_repeats}
+use Rattle.role_steps.specs.Versions.{file_row}
+use Rattle.role_steps.specs.Reports.{new_table, on_report, on_closed, on_have, on_have_of, sync_repeats}
 use Rattle.role_steps.specs.Opens.{on_opened}
-use Rattle.role_steps.specs.Storage.{copy_key, copy_of, instance_of, report_of, reported, on_open_ss, store_repeats}
-use Rattle.role_steps.specs.Pulling.{pull_key, pull_of, goes_on, pull_over, begins_pull, replaces_pull, on_notify, is_awaited, pages_in, is_delta, on_page_of, on_delta_of, pull_repeats}
+use Rattle.role_steps.specs.Storage.{StoreRequest, copy_key, copy_of, instance_of, report_of, reported, on_open_ss, store_repeats}
+use Rattle.role_steps.specs.Pulling.{pull_key, pull_repeats}
 use Rattle.role_steps.specs.Requests.{users_repeats}
-use Rattle.role_steps.specs.Using.{on_call, on_open_done, on_op_done, on_as_held, on_close_done, on_look_done}
+use Rattle.role_steps.specs.Using.{on_call}
 use Rattle.role_steps.specs.Epochs.{is_epoch_below, frame_in, with_users, leaves_of, leaves, promises, promised_view, reached, poll_packet, polled_sites, polls, round_id, begins_round, boots_where, merge_boot, starts_merge, part_boot, starts_part_of, starts_part, promise_packet, refuse_packet, on_poll, on_promise_of, on_refuse_of, report_packets, all_reports, joined_view, joins, may_install, is_in, joined_packet, on_install, on_joined, passed_over, unanswered, chosen_set, chosen_members, others_of, install_packet, installs_all, decides_if, passes_over_of, passes_over, poll_repeats, install_repeats}
 use Rattle.role_steps.specs.Adoption.{notes_own_at, copy_adopted, table_group, with_store, without_pull, is_ready, adopts_pull, adopts_first, with_adopted, fits_own, content_under}
-use Rattle.role_steps.specs.Mends.{mending, kept_stamps, has_mend_in, wants_mend, starts_mend_of, starts_mend, starts_mends_in, row_file}
+use Rattle.role_steps.specs.Mends.{mending, has_mend_in, wants_mend, starts_mend_of, starts_mend, starts_mends_in, row_file}
 use Rattle.role_steps.specs.declared.copies.FileCopy.{FileCopy}
 use Rattle.role_steps.specs.declared.pulls.Pull.{Pull}
 use Rattle.role_steps.specs.declared.rounds.InEpoch.{InEpoch}
 use Rattle.role_steps.specs.declared.rounds.Round.{Round}
 use Rattle.role_steps.specs.declared.synchronizing.SyncTable.{SyncTable}
 use Rattle.role_steps.specs.declared.synchronizing.FileRow.{FileRow}
-use Rattle.role_steps.proofs.Fitting.{over_any}
 use Rattle.role_steps.proofs.Sending.{every_append, every_cond, every_map, every_flat_map}
+use Rattle.lock_laws.specs.of_the_run.Roles.{IsForTable, IsForStore}
 use Rattle.lock_laws.specs.of_the_run.Steps.{in_order, from_user, group_of, at_table_of, is_opened_in, takes_inside, takes_framed, takes, is_dropped, adopts_of, adopts_in, tries_at, starts_mends_of, ends_event, whole, repeats_inside, repeats_of, repeats, ticks_after, call_frame, epoch_id, takes_call, step}
 use Rattle.lock_laws.proofs.of_the_run.InsideSync.{every_row, every_without, Found, row_found, first_found}
+use Rattle.lock_laws.proofs.of_the_run.Roles.{by_role, readers_by, users_by}
 use Rattle.lock_laws.proofs.of_the_run.StepSends.{order_sent}
 use Rattle.lock_laws.proofs.of_vector_laws.SyncFacts.{every_flat}
-use Rattle.pack_laws.specs.InodeFits.{ReportedFits, BodyFits, PacketFits, CopyFits, PullFits, TableFits, ViewFits, OutFits}
-use Rattle.pack_laws.proofs.InodeRolesSend.{on_pull_fits, on_want_fits, on_notify_fits, on_page_fits, on_delta_fits, pull_repeats_fits, users_repeats_fits, on_call_fits, on_open_done_fits, on_op_done_fits, on_as_held_fits, on_close_done_fits, on_look_done_fits}
+use Rattle.pack_laws.specs.InodeFits.{ReportedFits, BodyFits, PacketFits, CopyFits, PullFits, StoreFits, TableFits, ViewFits, OutFits}
+use Rattle.pack_laws.proofs.InodeRolesSend.{carrying, users, readers, answer_fits, pull_repeats_fits, users_repeats_fits, on_call_fits}
+use Rattle.pack_laws.proofs.Pulls.{Begins, pulls_of}
 use Rattle.pack_laws.proofs.InodeStoreFits.{StoreOut, sync_fits, on_open_ss_fits, on_close_fits, on_closed_ok_fits, on_op_fits, on_read_held_fits, store_repeats_fits}
 use Rattle.pack_laws.proofs.InodeSyncFits.{TableOut, on_report_fits, on_open_fits, on_look_fits, on_opened_fits, on_closed_fits, on_have_fits, sync_repeats_fits}
 
@@ -72,65 +72,44 @@ store_part v o h k = record { view = record { store = k.view; pulls = h.pulls; t
 users_part : (v : SiteView) (o : Outcome Users) → ViewFits v → Every PacketFits o.sent → SiteOut (record { view = with_users v o.view; sent = o.sent; told = o.told; written = o.written })
 users_part v o h k = record { view = record { store = h.store; pulls = h.pulls; tables = h.tables }; sent = k }
 
--- ---- pulls ----
-
-abbrev PullsFit : Outcome (List Pull) → Type 0
-PullsFit o = Every PullFits o.view
-
-begins_pull_keeps : (f : Frame) (own : Option FileCopy) (p : Pull) (ps : List Pull) → PullFits p → Every PullFits ps → PullsFit (begins_pull f own p ps)
-begins_pull_keeps f own p ps k h = elim (replaces_pull own p (pull_of ps p.file)) as (λ b. PullsFit (elim b [ true ↦ goes_on f (pull_over own p) ps | false ↦ quiet ps ])) [ true ↦ every_row PullFits pull_key (pull_over own p) ps (over_any PullFits own p (λ base wanted. k)) h | false ↦ h ]
-
-notify_keeps : (f : Frame) (from : ℕ) (o : Option FileCopy) (p : Pull) (ps : List Pull) → PullFits p → Every PullFits ps → PullsFit (on_notify f from o p ps)
-notify_keeps f from None p ps k h = begins_pull_keeps f None p ps k h
-notify_keeps f from (Some own) p ps k h =
-    elim (same_stamp own.stamp p.stamp) as (λ b. PullsFit (elim b [ true ↦ sends (packet f from (body.Have p.file p.stamp) ∷ []) ps | false ↦ elim (is_below own.vector p.vector) [ true ↦ begins_pull f (Some own) p ps | false ↦ quiet ps ] ])) [
-      | true ↦ h
-      | false ↦ elim (is_below own.vector p.vector) as (λ b. PullsFit (elim b [ true ↦ begins_pull f (Some own) p ps | false ↦ quiet ps ])) [ true ↦ begins_pull_keeps f (Some own) p ps k h | false ↦ h ]
-    ]
-
-delta_keeps : (f : Frame) (own : ℕ) (stamp : Stamp) (pages : List ℕ) (o : Option Pull) (ps : List Pull) → Found PullFits o → Every PullFits ps → PullsFit (on_delta_of f own stamp pages o ps)
-delta_keeps f own stamp pages None ps k h = h
-delta_keeps f own stamp pages (Some p) ps k h = elim (is_delta own p stamp pages) as (λ b. PullsFit (elim b [ true ↦ goes_on f (record p { wanted = Some pages }) ps | false ↦ quiet ps ])) [ true ↦ every_row PullFits pull_key (record p { wanted = Some pages }) ps k h | false ↦ h ]
-
-page_keeps : (f : Frame) (stamp : Stamp) (page : ℕ) (bytes : List ℕ) (o : Option Pull) (ps : List Pull) → Found PullFits o → Every PullFits ps → PullsFit (on_page_of f stamp page bytes o ps)
-page_keeps f stamp page bytes None ps k h = h
-page_keeps f stamp page bytes (Some p) ps k h = elim (is_awaited p stamp page bytes) as (λ b. PullsFit (elim b [ true ↦ goes_on f (record p { content = p.content ++ bytes }) ps | false ↦ quiet ps ])) [ true ↦ every_row PullFits pull_key (record p { content = p.content ++ bytes }) ps k h | false ↦ h ]
-
 -- ---- packets inside the epoch ----
 
+-- what the site makes of a packet whose numbers fit
+abbrev Taken : Body → Outcome SiteView → Type 0
+Taken x o = BodyFits x → SiteOut o
+
+tables_fit : (f : Frame) (from : ℕ) (v : SiteView) → ViewFits v → (x : Body) → IsForTable x → Taken x (takes_inside f from x v)
+tables_fit f from v h (body.Report group copies) is k = group_part (on_report f from copies) group v h (λ t g. on_report_fits f from copies t k g)
+tables_fit f from v h (body.Open serial call process request file how) is k = group_part _ file.group v h (on_open_fits f from (record { serial = serial; call = call; process = process; request = request; file = file; how = how }))
+tables_fit f from v h (body.Opened inst answer) is k = with_part (on_opened f inst answer) (is_opened_in inst) v h (λ t g. on_opened_fits f inst answer t k g)
+tables_fit f from v h (body.Closed inst made) is k = with_part (on_closed f from inst made) (is_opened_in inst) v h (on_closed_fits f from inst made)
+tables_fit f from v h (body.Look call process request take file what) is k = group_part _ file.group v h (on_look_fits f from (record { call = call; process = process; request = request; take = take; file = file; what = what }))
+tables_fit f from v h (body.Have file stamp) is k = group_part (on_have from file stamp) file.group v h (on_have_fits from file stamp)
+tables_fit f from v h _ is k = absurd is
+
+stores_fit : (f : Frame) (from : ℕ) (v : SiteView) → f.me ≤ sites_max → ViewFits v → (x : Body) → IsForStore x → Taken x (takes_inside f from x v)
+stores_fit f from v small h (body.OpenSs inst file mode set kind base vector parents) is k =
+    let r : StoreRequest = record { inst = inst; file = file; mode = mode; set = set; kind = kind; base = base; vector = vector; parents = parents } in store_part v (on_open_ss f r v.store) h (on_open_ss_fits f r v.store small k h.store)
+stores_fit f from v small h (body.Op serial n o seen) is k = store_part v _ h (on_op_fits f (mending v (group_of (instance_of v.store (from_user from serial)))) (from_user from serial) n o seen v.store h.store)
+stores_fit f from v small h (body.ReadHeld serial n at len) is k = store_part v _ h (on_read_held_fits f (from_user from serial) n at len v.store h.store)
+stores_fit f from v small h (body.Close serial) is k = store_part v _ h (on_close_fits f (from_user from serial) v.store h.store)
+stores_fit f from v small h (body.ClosedOk inst) is k = store_part v _ h (on_closed_ok_fits f inst v.store h.store)
+stores_fit f from v small h _ is k = absurd is
+
+begins_fit : (x : Body) → BodyFits x → Begins PullFits x
+begins_fit (body.Notify file kind set size stamp vector holder) k = k
+begins_fit _ k = tt
+
 inside_fits : (f : Frame) (from : ℕ) (x : Body) (v : SiteView) → f.me ≤ sites_max → BodyFits x → ViewFits v → SiteOut (takes_inside f from x v)
-inside_fits f from (body.Report group copies) v small k h = group_part (on_report f from copies) group v h (λ t g. on_report_fits f from copies t k g)
-inside_fits f from (body.ReportOk group) v small k h = record { view = record { store = h.store; pulls = h.pulls; tables = h.tables }; sent = tt }
-inside_fits f from (body.Open serial call process request file how) v small k h = group_part (on_open f from (record { serial = serial; call = call; process = process; request = request; file = file; how = how })) file.group v h (λ t g. on_open_fits f from (record { serial = serial; call = call; process = process; request = request; file = file; how = how }) t g)
-inside_fits f from (body.OpenSs inst file mode set kind base vector parents) v small k h = store_part v (on_open_ss f (record { inst = inst; file = file; mode = mode; set = set; kind = kind; base = base; vector = vector; parents = parents }) v.store) h (on_open_ss_fits f (record { inst = inst; file = file; mode = mode; set = set; kind = kind; base = base; vector = vector; parents = parents }) v.store small k h.store)
-inside_fits f from (body.Opened inst answer) v small k h = with_part (on_opened f inst answer) (is_opened_in inst) v h (λ t g. on_opened_fits f inst answer t k g)
-inside_fits f from (body.OpenDone serial answer) v small k h = users_part v (on_open_done f (kept_stamps v) serial answer v.users) h (on_open_done_fits f (kept_stamps v) serial answer v.users)
-inside_fits f from (body.Op serial n o seen) v small k h = store_part v _ h (on_op_fits f (mending v (group_of (instance_of v.store (from_user from serial)))) (from_user from serial) n o seen v.store h.store)
-inside_fits f from (body.ReadHeld serial n at len) v small k h = store_part v _ h (on_read_held_fits f (from_user from serial) n at len v.store h.store)
-inside_fits f from (body.OpDone serial n result) v small k h = users_part v (on_op_done f serial n result v.users) h (on_op_done_fits f serial n result v.users)
-inside_fits f from (body.AsHeld serial n len) v small k h = users_part v (on_as_held f serial n v.users) h (on_as_held_fits f serial n v.users)
-inside_fits f from (body.Close serial) v small k h = store_part v _ h (on_close_fits f (from_user from serial) v.store h.store)
-inside_fits f from (body.Closed inst made) v small k h = with_part (on_closed f from inst made) (is_opened_in inst) v h (λ t g. on_closed_fits f from inst made t g)
-inside_fits f from (body.ClosedOk inst) v small k h = store_part v _ h (on_closed_ok_fits f inst v.store h.store)
-inside_fits f from (body.CloseDone serial answer) v small k h = users_part v (on_close_done f serial answer v.users) h (on_close_done_fits f serial answer v.users)
-inside_fits f from (body.Look call process request take file what) v small k h = group_part (on_look f from (record { call = call; process = process; request = request; take = take; file = file; what = what })) file.group v h (λ t g. on_look_fits f from (record { call = call; process = process; request = request; take = take; file = file; what = what }) t g)
-inside_fits f from (body.LookSs us call process request take file what serve) v small k h = record { view = h; sent = (tt, tt) }
-inside_fits f from (body.LookDone call request take answer) v small k h = users_part v (on_look_done f call request take answer v.users) h (on_look_done_fits f call request take answer v.users)
-inside_fits f from (body.Notify file kind set size stamp vector holder) v small k h =
-    let p : Pull = record { file = file; kind = kind; set = set; size = size; stamp = stamp; vector = vector; holder = holder; base = None; wanted = None; content = [] } in
-    record { view = record { store = h.store; pulls = notify_keeps f from (copy_of v.store file) p v.pulls k h.pulls; tables = h.tables }; sent = on_notify_fits f from (copy_of v.store file) p v.pulls }
-inside_fits f from (body.Pull file stamp page) v small k h = record { view = h; sent = on_pull_fits f from file stamp page v.store }
-inside_fits f from (body.Want file wanted own) v small k h = record { view = h; sent = on_want_fits f from file wanted own v.store }
-inside_fits f from (body.Page file stamp page bytes) v small k h =
-    record { view = record { store = h.store; pulls = page_keeps f stamp page bytes (pull_of v.pulls file) v.pulls (row_found PullFits pull_key _ v.pulls h.pulls) h.pulls; tables = h.tables }; sent = on_page_fits f file stamp page bytes v.pulls }
-inside_fits f from (body.Delta file wanted pages) v small k h =
-    record { view = record { store = h.store; pulls = delta_keeps f (pages_in (copy_of v.store file)) wanted pages (pull_of v.pulls file) v.pulls (row_found PullFits pull_key _ v.pulls h.pulls) h.pulls; tables = h.tables }; sent = on_delta_fits f (copy_of v.store file) file wanted pages v.pulls }
-inside_fits f from (body.Have file stamp) v small k h = group_part (on_have from file stamp) file.group v h (λ t g. on_have_fits from file stamp t g)
-inside_fits f from body.Poll v small k h = quiet_site v h
-inside_fits f from (body.Promise reach) v small k h = quiet_site v h
-inside_fits f from (body.Refuse promised) v small k h = quiet_site v h
-inside_fits f from (body.Install members) v small k h = quiet_site v h
-inside_fits f from body.Joined v small k h = quiet_site v h
+inside_fits f from x v small k h = by_role Taken f from v (record {
+  tables = tables_fit f from v h;
+  stores = stores_fit f from v small h;
+  readers = readers_by Taken carrying f from v (readers f) answer_fits (λ y o is same part k. store_part v o h (record { view = subst StoreFits (sym same) h.store; sent = part.0 }));
+  users = users_by Taken carrying f from v (users f) (λ y o is part k. users_part v o h part.0);
+  pulls = λ y is k. pulls_of PullFits (λ p base wanted content g. g) carrying f (readers f) from (λ p g. tt) SiteOut v h.pulls (λ o part ps. record { view = record { store = h.store; pulls = ps; tables = h.tables }; sent = part.0 }) y is (begins_fit y k);
+  reported = λ group k. record { view = record { store = h.store; pulls = h.pulls; tables = h.tables }; sent = tt };
+  forming = λ y is k. quiet_site v h;
+}) x k
 
 -- ---- adoptions ----
 

@@ -1,38 +1,38 @@
 -- What a site does in its epoch keeps its facts of instances: each role's part, and each packet.
-use Rattle.std.proofs.Common.{◌≡◌, ◌≤◌, ℕ, ◌+◌, ◌==◌, nat_lt, Bool, true, false, List, [], ◌∷◌, ◌++◌, Option, Some, None, refl, sym, subst, ◌⊎◌, inl, inr, arith}
+use Rattle.std.proofs.Common.{◌≡◌, ◌≤◌, ℕ, ◌+◌, ◌==◌, nat_lt, Bool, true, false, List, [], ◌∷◌, Option, Some, None, refl, sym, subst, ◌⊎◌, inl, inr, arith}
 use Rattle.std.proofs.lemmas.Bool.Decides.{nat_tests}
 use Rattle.locus_ids.specs.declared.ids.EpochId.{EpochId}
-use Rattle.locus_ids.specs.declared.ids.FileId.{FileId}
-use Rattle.locus_ids.specs.declared.ids.Stamp.{Stamp}
 use Rattle.locus_ids.specs.declared.config.Config.{Config}
 use Rattle.locus_ids.specs.Sizes.{sites_max}
-use Rattle.commit_graph.specs.Versions.{same_stamp}
 use Rattle.wire_messages.specs.declared.packet.Packet.{Packet}
 use Rattle.wire_messages.specs.declared.body.Body.{Body}
 use Rattle.wire_messages.specs.declared.body.Body.TheVariants as body
 use Rattle.role_steps.specs.Own.{Every}
 use Rattle.role_steps.specs.Tables.{row, with_row, without_row, first_that}
-use Rattle.role_steps.specs.Views.{Frame, Store, Users, SiteView, Outcome, quiet, sends, and_then, packet, boot_in}
-use Rattle.role_steps.specs.Versions.{is_below}
+use Rattle.role_steps.specs.Views.{Frame, Store, Users, SiteView, Outcome, quiet, and_then, within, boot_in}
 use Rattle.role_steps.specs.Reports.{on_report, on_open, on_look, on_closed, on_have}
 use Rattle.role_steps.specs.Opens.{OpenRequest, on_opened}
 use Rattle.role_steps.specs.Looks.{LookRequest}
-use Rattle.role_steps.specs.Storage.{StoreRequest, copy_of, instance_of, on_open_ss, on_close, on_closed_ok, has_page, pulled_page, wanted_delta}
+use Rattle.role_steps.specs.Storage.{StoreRequest, instance_of, on_open_ss, on_close, on_closed_ok}
 use Rattle.role_steps.specs.Operations.{on_op, on_read_held}
-use Rattle.role_steps.specs.Pulling.{pull_of, next_asked, pull_packets, is_complete, goes_on, pull_over, begins_pull, replaces_pull, on_notify, is_awaited, pages_in, is_delta, on_page_of, on_delta_of, on_page, on_delta, pull_repeats}
+use Rattle.role_steps.specs.Pulling.{pull_repeats}
 use Rattle.role_steps.specs.Using.{on_open_done, on_op_done, on_as_held, on_close_done, on_look_done}
 use Rattle.role_steps.specs.Epochs.{frame_in, with_users}
 use Rattle.role_steps.specs.Adoption.{table_group, with_table, with_store}
 use Rattle.role_steps.specs.Mends.{mending, kept_stamps}
-use Rattle.role_steps.specs.declared.copies.FileCopy.{FileCopy}
 use Rattle.role_steps.specs.declared.pulls.Pull.{Pull}
 use Rattle.role_steps.specs.declared.rounds.InEpoch.{InEpoch}
 use Rattle.role_steps.specs.declared.rounds.Round.{Round}
 use Rattle.role_steps.specs.declared.synchronizing.SyncTable.{SyncTable}
-use Rattle.role_steps.proofs.Sending.{every_append, every_cond, every_flat_map}
+use Rattle.role_steps.proofs.Sending.{every_append}
 use Rattle.lock_laws.specs.of_the_run.Kept.{Among}
+use Rattle.lock_laws.specs.of_law_walks.Kinds.{IsOfReader, IsStoreAnswer}
+use Rattle.lock_laws.specs.of_law_walks.Laws.{Law, body_law, ReadersKeep}
+use Rattle.lock_laws.specs.of_the_run.Roles.{IsForTable, IsForStore, IsForUser}
 use Rattle.lock_laws.specs.of_the_run.Steps.{from_user, group_of, at_table_of, is_opened_in, takes_inside, with_pulls}
 use Rattle.lock_laws.proofs.of_the_run.InsideSync.{Found, first_found}
+use Rattle.lock_laws.proofs.of_the_run.Roles.{by_role, readers_by, pulls_by}
+use Rattle.lock_laws.proofs.of_law_walks.RoleWalks.{pull_repeats_walk}
 use Rattle.lock_laws.proofs.of_vector_laws.SyncFacts.{FoundAt, row_at}
 use Rattle.pack_laws.specs.InstanceBook.{Note, Listed, Asked, Placed, Began, Book, IsOf, AskedBy, Sound, Grown}
 use Rattle.pack_laws.specs.InstanceFacts.{OpenSsFact, AnswerFact, BodyFact, PacketFact, NoFact, Factless, ToldFact, UsersFact, own_serial, TableFact, TablesFact, PassedNote, Passed, InsideFact, InEpochFact, RoundFact, ViewFact, Fine}
@@ -304,55 +304,28 @@ with_part c me book v e g test here s h fine =
     at_part c me book v e g (first_that test v.tables) here s h
     (λ t q. fine t (one_found (TableFact book (frame_in c me v.boot e)) (first_that test v.tables) t (first_found (TableFact book (frame_in c me v.boot e)) test v.tables (every_table book (frame_in c me v.boot e) 0 v.tables (inside_of c book me v e here h).tables)) q))
 
--- ---- pulls ----
+-- ---- readers and pulls: a law by kinds ----
 
--- what the outcome sends says nothing of instances, and it tells nothing
-abbrev Sending : {V : Type 0} → Outcome V → Type 0
-Sending o = Every Factless o.sent × (o.told ≡ [])
+reader_factless : (b : Body) → IsOfReader b → NoFact b
+reader_factless (body.LookDone call request take answer) h = tt
+reader_factless (body.Pull file stamp page) h = tt
+reader_factless (body.Want file wanted own) h = tt
+reader_factless _ h = absurd h
 
-asked_factless : (p : Pull) (base : Option Stamp) (wanted : Option (List ℕ)) → NoFact (next_asked p base wanted)
-asked_factless p (Some own) None = tt
-asked_factless p (Some own) (Some pages) = tt
-asked_factless p None wanted = tt
+answer_factless : (b : Body) → IsStoreAnswer b → NoFact b
+answer_factless (body.Page file stamp page bytes) h = tt
+answer_factless (body.Delta file wanted pages) h = tt
+answer_factless (body.Have file stamp) h = tt
+answer_factless _ h = absurd h
 
-pull_factless : (f : Frame) (p : Pull) → Every Factless (pull_packets f p)
-pull_factless f p = every_cond Factless (is_complete p) [] _ tt (asked_factless p p.base p.wanted, tt)
+abbrev carrying : Book → Law
+carrying book = body_law NoFact (ToldFact book) (λ w. Unit {0})
 
-begins_pull_sends : (f : Frame) (own : Option FileCopy) (p : Pull) (ps : List Pull) → Sending (begins_pull f own p ps)
-begins_pull_sends f own p ps = elim (replaces_pull own p (pull_of ps p.file)) as (λ b. Sending (elim b [ true ↦ goes_on f (pull_over own p) ps | false ↦ quiet ps ])) [ true ↦ (pull_factless f (pull_over own p), refl) | false ↦ (tt, refl) ]
+readers : (book : Book) (f : Frame) → ReadersKeep (carrying book) f
+readers book f = record { sends = λ to b h. reader_factless b h; unwritten = tt }
 
-on_notify_sends : (f : Frame) (from : ℕ) (o : Option FileCopy) (p : Pull) (ps : List Pull) → Sending (on_notify f from o p ps)
-on_notify_sends f from None p ps = begins_pull_sends f None p ps
-on_notify_sends f from (Some own) p ps =
-    elim (same_stamp own.stamp p.stamp) as (λ b. Sending (elim b [ true ↦ sends (packet f from (body.Have p.file p.stamp) ∷ []) ps | false ↦ elim (is_below own.vector p.vector) [ true ↦ begins_pull f (Some own) p ps | false ↦ quiet ps ] ])) [
-      | true ↦ ((tt, tt), refl)
-      | false ↦ elim (is_below own.vector p.vector) as (λ b. Sending (elim b [ true ↦ begins_pull f (Some own) p ps | false ↦ quiet ps ])) [ true ↦ begins_pull_sends f (Some own) p ps | false ↦ (tt, refl) ]
-    ]
-
-on_delta_sends : (f : Frame) (own : ℕ) (stamp : Stamp) (pages : List ℕ) (o : Option Pull) (ps : List Pull) → Sending (on_delta_of f own stamp pages o ps)
-on_delta_sends f own stamp pages None ps = (tt, refl)
-on_delta_sends f own stamp pages (Some p) ps = elim (is_delta own p stamp pages) as (λ b. Sending (elim b [ true ↦ goes_on f (record p { wanted = Some pages }) ps | false ↦ quiet ps ])) [ true ↦ (pull_factless f (record p { wanted = Some pages }), refl) | false ↦ (tt, refl) ]
-
-on_page_sends : (f : Frame) (stamp : Stamp) (page : ℕ) (bytes : List ℕ) (o : Option Pull) (ps : List Pull) → Sending (on_page_of f stamp page bytes o ps)
-on_page_sends f stamp page bytes None ps = (tt, refl)
-on_page_sends f stamp page bytes (Some p) ps = elim (is_awaited p stamp page bytes) as (λ b. Sending (elim b [ true ↦ goes_on f (record p { content = p.content ++ bytes }) ps | false ↦ quiet ps ])) [ true ↦ (pull_factless f (record p { content = p.content ++ bytes }), refl) | false ↦ (tt, refl) ]
-
-pub pull_repeats_factless : (f : Frame) (ps : List Pull) → Every Factless (pull_repeats f ps)
-pull_repeats_factless f ps = every_flat_map Factless (pull_packets f) ps (pull_factless f)
-
-pulls_part : (c : Config) (me : ℕ) (book : Book) (v : SiteView) (o : Outcome (List Pull)) → Sound c book → ViewFact c book me v → Sending o → SiteFine c me v.boot book (record { view = with_pulls v o.view; sent = o.sent; told = o.told; written = o.written })
-pulls_part c me book v o s h k =
-    plain_site c me v.boot book (record { view = with_pulls v o.view; sent = o.sent; told = o.told; written = o.written }) s
-    (view_beside c book me v v.users v.round o.view v.store v.installs v.reports h.users h.round h, refl)
-    (factless book o.sent k.0) (subst (Every (ToldFact book)) (sym k.1) tt)
-
-page_factless : (f : Frame) (from : ℕ) (file : FileId) (stamp : Stamp) (page : ℕ) (o : Option FileCopy) → Every Factless (pulled_page f from file stamp page o)
-page_factless f from file stamp page None = tt
-page_factless f from file stamp page (Some x) = every_cond Factless (has_page stamp page x) _ [] (tt, tt) tt
-
-delta_factless : (f : Frame) (from : ℕ) (file : FileId) (wanted own : Stamp) (s : Store) (o : Option FileCopy) → Every Factless (wanted_delta f from file wanted own s o)
-delta_factless f from file wanted own s None = tt
-delta_factless f from file wanted own s (Some x) = every_cond Factless (same_stamp x.stamp wanted) _ [] (tt, tt) tt
+pub pull_repeats_factless : (book : Book) (f : Frame) (ps : List Pull) → Every Factless (pull_repeats f ps)
+pull_repeats_factless book f ps = pull_repeats_walk (carrying book) f (readers book f) ps
 
 -- ---- packets inside the epoch ----
 
@@ -366,49 +339,56 @@ pub record Passes (me : ℕ) (p : Packet) (v : SiteView) (e : InEpoch) : Type 0 
 open_ss_here : (book : Book) (p : Packet) (me boot : ℕ) (id : EpochId) (r : StoreRequest) → id ≡ p.epoch → p.to ≡ me → p.to_boot ≡ boot → OpenSsFact book p.epoch p.to p.to_boot r.inst r.file r.mode → OpenSsFact book id me boot r.inst r.file r.mode
 open_ss_here book p me boot id r e t b h = subst (λ (x : EpochId). OpenSsFact book x me boot r.inst r.file r.mode) (sym e) (subst (λ (x : ℕ). OpenSsFact book p.epoch me x r.inst r.file r.mode) b (subst (λ (x : ℕ). OpenSsFact book p.epoch x p.to_boot r.inst r.file r.mode) t h))
 
-pub inside_fine : (c : Config) (me : ℕ) (book : Book) (p : Packet) (v : SiteView) (e : InEpoch) (x : Body) → v.epoch ≡ Some e → me ≤ sites_max → Sound c book → Passes me p v e → BodyFact book p x → ViewFact c book me v → SiteFine c me v.boot book (takes_inside (frame_in c me v.boot e) p.from x v)
-inside_fine c me book p v e (body.Report group copies) here small s q k h =
+-- what the site makes of a packet with what it carries
+abbrev Taken : Config → ℕ → Book → Packet → SiteView → Body → Outcome SiteView → Type 0
+Taken c me book p v x o = BodyFact book p x → SiteFine c me v.boot book o
+
+tables_fine : (c : Config) (me : ℕ) (book : Book) (p : Packet) (v : SiteView) (e : InEpoch) → v.epoch ≡ Some e → me ≤ sites_max → Sound c book → Passes me p v e → ViewFact c book me v → (x : Body) → IsForTable x → Taken c me book p v x (takes_inside (frame_in c me v.boot e) p.from x v)
+tables_fine c me book p v e here small s q h (body.Report group copies) is k =
     group_part c me book v e (on_report (frame_in c me v.boot e) p.from copies) group here s h (λ t g a. on_report_fine (frame_in c me v.boot e) book p.from copies t s (inside_of c book me v e here h).listed a)
-inside_fine c me book p v e (body.ReportOk group) here small s q k h =
-    plain_site c me v.boot book (takes_inside (frame_in c me v.boot e) p.from (body.ReportOk group) v) s (view_beside c book me v v.users v.round v.pulls v.store v.installs (without_row (λ g. g) group v.reports) h.users h.round h, refl) tt tt
-inside_fine c me book p v e (body.Open serial call process request file how) here small s q k h =
+tables_fine c me book p v e here small s q h (body.Open serial call process request file how) is k =
     let o : OpenRequest = record { serial = serial; call = call; process = process; request = request; file = file; how = how } in
     let asked : AskedBy book e.members (own_serial p.from serial) file how = subst (λ (b : ℕ). Among (Asked p.from b serial file how) book) (sym q.from_boot) k in
     group_part c me book v e (on_open (frame_in c me v.boot e) p.from o) file.group here s h (λ t g a. on_open_fine (frame_in c me v.boot e) book p.from o t s (inside_of c book me v e here h).listed asked (sym g) a)
-inside_fine c me book p v e (body.OpenSs inst file mode set kind base vector parents) here small s q k h =
-    let r : StoreRequest = record { inst = inst; file = file; mode = mode; set = set; kind = kind; base = base; vector = vector; parents = parents } in
-    store_part c me book v e (on_open_ss (frame_in c me v.boot e) r v.store) here h (on_open_ss_fine (frame_in c me v.boot e) book r v.store s (open_ss_here book p me v.boot e.id r q.epoch q.to q.to_boot k) (inside_of c book me v e here h).store)
-inside_fine c me book p v e (body.Opened inst answer) here small s q k h =
+tables_fine c me book p v e here small s q h (body.Opened inst answer) is k =
     with_part c me book v e (on_opened (frame_in c me v.boot e) inst answer) (is_opened_in inst) here s h (λ t a. on_opened_fine (frame_in c me v.boot e) book inst answer t s (inside_of c book me v e here h).listed (subst (λ (i : EpochId). AnswerFact book i inst answer) (sym q.epoch) k) a)
-inside_fine c me book p v e (body.OpenDone serial answer) here small s q k h = users_part c me book v (on_open_done (frame_in c me v.boot e) (kept_stamps v) serial answer v.users) h (on_open_done_fine (frame_in c me v.boot e) book (kept_stamps v) serial answer v.users small s h.users)
-inside_fine c me book p v e (body.Op serial n o seen) here small s q k h =
-    store_part c me book v e (on_op (frame_in c me v.boot e) (mending v (group_of (instance_of v.store (from_user p.from serial)))) (from_user p.from serial) n o seen v.store) here h (store_fine (frame_in c me v.boot e) book _ s (on_op_plain (frame_in c me v.boot e) book (mending v (group_of (instance_of v.store (from_user p.from serial)))) (from_user p.from serial) n o seen v.store (inside_of c book me v e here h).store))
-inside_fine c me book p v e (body.ReadHeld serial n at len) here small s q k h =
-    store_part c me book v e (on_read_held (frame_in c me v.boot e) (from_user p.from serial) n at len v.store) here h (store_fine (frame_in c me v.boot e) book _ s (on_read_held_plain (frame_in c me v.boot e) book (from_user p.from serial) n at len v.store (inside_of c book me v e here h).store))
-inside_fine c me book p v e (body.OpDone serial n result) here small s q k h = users_part c me book v (on_op_done (frame_in c me v.boot e) serial n result v.users) h (on_op_done_fine (frame_in c me v.boot e) book serial n result v.users small s h.users)
-inside_fine c me book p v e (body.AsHeld serial n len) here small s q k h = users_part c me book v (on_as_held (frame_in c me v.boot e) serial n v.users) h (on_as_held_fine (frame_in c me v.boot e) book serial n v.users small s h.users)
-inside_fine c me book p v e (body.Close serial) here small s q k h = store_part c me book v e (on_close (frame_in c me v.boot e) (from_user p.from serial) v.store) here h (store_fine (frame_in c me v.boot e) book _ s (on_close_plain (frame_in c me v.boot e) book (from_user p.from serial) v.store (inside_of c book me v e here h).store))
-inside_fine c me book p v e (body.Closed inst made) here small s q k h = with_part c me book v e (on_closed (frame_in c me v.boot e) p.from inst made) (is_opened_in inst) here s h (λ t a. on_closed_fine (frame_in c me v.boot e) book p.from inst made t s a)
-inside_fine c me book p v e (body.ClosedOk inst) here small s q k h = store_part c me book v e (on_closed_ok (frame_in c me v.boot e) inst v.store) here h (store_fine (frame_in c me v.boot e) book _ s (on_closed_ok_plain (frame_in c me v.boot e) book inst v.store (inside_of c book me v e here h).store))
-inside_fine c me book p v e (body.CloseDone serial answer) here small s q k h = users_part c me book v (on_close_done (frame_in c me v.boot e) serial answer v.users) h (on_close_done_fine (frame_in c me v.boot e) book serial answer v.users small s h.users)
-inside_fine c me book p v e (body.Look call process request take file what) here small s q k h =
+tables_fine c me book p v e here small s q h (body.Closed inst made) is k = with_part c me book v e (on_closed (frame_in c me v.boot e) p.from inst made) (is_opened_in inst) here s h (λ t a. on_closed_fine (frame_in c me v.boot e) book p.from inst made t s a)
+tables_fine c me book p v e here small s q h (body.Look call process request take file what) is k =
     let l : LookRequest = record { call = call; process = process; request = request; take = take; file = file; what = what } in
     group_part c me book v e (on_look (frame_in c me v.boot e) p.from l) file.group here s h (λ t g a. on_look_fine (frame_in c me v.boot e) book p.from l t s a)
-inside_fine c me book p v e (body.LookSs us call process request take file what serve) here small s q k h =
-    plain_site c me v.boot book (takes_inside (frame_in c me v.boot e) p.from (body.LookSs us call process request take file what serve) v) s (h, refl) (tt, tt) tt
-inside_fine c me book p v e (body.LookDone call request take answer) here small s q k h = users_part c me book v (on_look_done (frame_in c me v.boot e) call request take answer v.users) h (on_look_done_fine (frame_in c me v.boot e) book call request take answer v.users small s h.users)
-inside_fine c me book p v e (body.Notify file kind set size stamp vector holder) here small s q k h =
-    let x : Pull = record { file = file; kind = kind; set = set; size = size; stamp = stamp; vector = vector; holder = holder; base = None; wanted = None; content = [] } in
-    pulls_part c me book v (on_notify (frame_in c me v.boot e) p.from (copy_of v.store file) x v.pulls) s h (on_notify_sends (frame_in c me v.boot e) p.from (copy_of v.store file) x v.pulls)
-inside_fine c me book p v e (body.Pull file stamp page) here small s q k h =
-    plain_site c me v.boot book (takes_inside (frame_in c me v.boot e) p.from (body.Pull file stamp page) v) s (h, refl) (factless book (pulled_page (frame_in c me v.boot e) p.from file stamp page (copy_of v.store file)) (page_factless (frame_in c me v.boot e) p.from file stamp page (copy_of v.store file))) tt
-inside_fine c me book p v e (body.Want file wanted own) here small s q k h =
-    plain_site c me v.boot book (takes_inside (frame_in c me v.boot e) p.from (body.Want file wanted own) v) s (h, refl) (factless book (wanted_delta (frame_in c me v.boot e) p.from file wanted own v.store (copy_of v.store file)) (delta_factless (frame_in c me v.boot e) p.from file wanted own v.store (copy_of v.store file))) tt
-inside_fine c me book p v e (body.Page file stamp page bytes) here small s q k h = pulls_part c me book v (on_page (frame_in c me v.boot e) file stamp page bytes v.pulls) s h (on_page_sends (frame_in c me v.boot e) stamp page bytes (pull_of v.pulls file) v.pulls)
-inside_fine c me book p v e (body.Delta file wanted pages) here small s q k h = pulls_part c me book v (on_delta (frame_in c me v.boot e) (copy_of v.store file) file wanted pages v.pulls) s h (on_delta_sends (frame_in c me v.boot e) (pages_in (copy_of v.store file)) wanted pages (pull_of v.pulls file) v.pulls)
-inside_fine c me book p v e (body.Have file stamp) here small s q k h = group_part c me book v e (on_have p.from file stamp) file.group here s h (λ t g a. on_have_fine (frame_in c me v.boot e) book p.from file stamp t s a)
-inside_fine c me book p v e body.Poll here small s q k h = quiet_site c me book v s h
-inside_fine c me book p v e (body.Promise reach) here small s q k h = quiet_site c me book v s h
-inside_fine c me book p v e (body.Refuse promised) here small s q k h = quiet_site c me book v s h
-inside_fine c me book p v e (body.Install members) here small s q k h = quiet_site c me book v s h
-inside_fine c me book p v e body.Joined here small s q k h = quiet_site c me book v s h
+tables_fine c me book p v e here small s q h (body.Have file stamp) is k = group_part c me book v e (on_have p.from file stamp) file.group here s h (λ t g a. on_have_fine (frame_in c me v.boot e) book p.from file stamp t s a)
+tables_fine c me book p v e here small s q h _ is k = absurd is
+
+stores_fine : (c : Config) (me : ℕ) (book : Book) (p : Packet) (v : SiteView) (e : InEpoch) → v.epoch ≡ Some e → me ≤ sites_max → Sound c book → Passes me p v e → ViewFact c book me v → (x : Body) → IsForStore x → Taken c me book p v x (takes_inside (frame_in c me v.boot e) p.from x v)
+stores_fine c me book p v e here small s q h (body.OpenSs inst file mode set kind base vector parents) is k =
+    let r : StoreRequest = record { inst = inst; file = file; mode = mode; set = set; kind = kind; base = base; vector = vector; parents = parents } in
+    store_part c me book v e (on_open_ss (frame_in c me v.boot e) r v.store) here h (on_open_ss_fine (frame_in c me v.boot e) book r v.store s (open_ss_here book p me v.boot e.id r q.epoch q.to q.to_boot k) (inside_of c book me v e here h).store)
+stores_fine c me book p v e here small s q h (body.Op serial n o seen) is k =
+    store_part c me book v e (on_op (frame_in c me v.boot e) (mending v (group_of (instance_of v.store (from_user p.from serial)))) (from_user p.from serial) n o seen v.store) here h (store_fine (frame_in c me v.boot e) book _ s (on_op_plain (frame_in c me v.boot e) book (mending v (group_of (instance_of v.store (from_user p.from serial)))) (from_user p.from serial) n o seen v.store (inside_of c book me v e here h).store))
+stores_fine c me book p v e here small s q h (body.ReadHeld serial n at len) is k =
+    store_part c me book v e (on_read_held (frame_in c me v.boot e) (from_user p.from serial) n at len v.store) here h (store_fine (frame_in c me v.boot e) book _ s (on_read_held_plain (frame_in c me v.boot e) book (from_user p.from serial) n at len v.store (inside_of c book me v e here h).store))
+stores_fine c me book p v e here small s q h (body.Close serial) is k = store_part c me book v e (on_close (frame_in c me v.boot e) (from_user p.from serial) v.store) here h (store_fine (frame_in c me v.boot e) book _ s (on_close_plain (frame_in c me v.boot e) book (from_user p.from serial) v.store (inside_of c book me v e here h).store))
+stores_fine c me book p v e here small s q h (body.ClosedOk inst) is k = store_part c me book v e (on_closed_ok (frame_in c me v.boot e) inst v.store) here h (store_fine (frame_in c me v.boot e) book _ s (on_closed_ok_plain (frame_in c me v.boot e) book inst v.store (inside_of c book me v e here h).store))
+stores_fine c me book p v e here small s q h _ is k = absurd is
+
+users_fine : (c : Config) (me : ℕ) (book : Book) (p : Packet) (v : SiteView) (e : InEpoch) → v.epoch ≡ Some e → me ≤ sites_max → Sound c book → Passes me p v e → ViewFact c book me v → (x : Body) → IsForUser x → Taken c me book p v x (takes_inside (frame_in c me v.boot e) p.from x v)
+users_fine c me book p v e here small s q h (body.OpenDone serial answer) is k = users_part c me book v (on_open_done (frame_in c me v.boot e) (kept_stamps v) serial answer v.users) h (on_open_done_fine (frame_in c me v.boot e) book (kept_stamps v) serial answer v.users small s h.users)
+users_fine c me book p v e here small s q h (body.OpDone serial n result) is k = users_part c me book v (on_op_done (frame_in c me v.boot e) serial n result v.users) h (on_op_done_fine (frame_in c me v.boot e) book serial n result v.users small s h.users)
+users_fine c me book p v e here small s q h (body.AsHeld serial n len) is k = users_part c me book v (on_as_held (frame_in c me v.boot e) serial n v.users) h (on_as_held_fine (frame_in c me v.boot e) book serial n v.users small s h.users)
+users_fine c me book p v e here small s q h (body.CloseDone serial answer) is k = users_part c me book v (on_close_done (frame_in c me v.boot e) serial answer v.users) h (on_close_done_fine (frame_in c me v.boot e) book serial answer v.users small s h.users)
+users_fine c me book p v e here small s q h (body.LookDone call request take answer) is k = users_part c me book v (on_look_done (frame_in c me v.boot e) call request take answer v.users) h (on_look_done_fine (frame_in c me v.boot e) book call request take answer v.users small s h.users)
+users_fine c me book p v e here small s q h _ is k = absurd is
+
+pub inside_fine : (c : Config) (me : ℕ) (book : Book) (p : Packet) (v : SiteView) (e : InEpoch) (x : Body) → v.epoch ≡ Some e → me ≤ sites_max → Sound c book → Passes me p v e → BodyFact book p x → ViewFact c book me v → SiteFine c me v.boot book (takes_inside (frame_in c me v.boot e) p.from x v)
+inside_fine c me book p v e x here small s q k h = by_role (Taken c me book p v) f p.from v (record {
+  tables = tables_fine c me book p v e here small s q h;
+  stores = stores_fine c me book p v e here small s q h;
+  readers = readers_by (Taken c me book p v) (carrying book) f p.from v (readers book f) answer_factless (λ y o is same part k. plain_site c me v.boot book (within (with_store v) o) s (subst (λ (u : Store). ViewFact c book me (with_store v u)) (sym same) h, refl) (factless book o.sent part.0) part.1);
+  users = users_fine c me book p v e here small s q h;
+  pulls = pulls_by (Taken c me book p v) (carrying book) f p.from v (readers book f) answer_factless (λ y o is part k. plain_site c me v.boot book (within (with_pulls v) o) s (view_beside c book me v v.users v.round o.view v.store v.installs v.reports h.users h.round h, refl) (factless book o.sent part.0) part.1);
+  reported = λ group k. plain_site c me v.boot book (takes_inside f p.from (body.ReportOk group) v) s (view_beside c book me v v.users v.round v.pulls v.store v.installs (without_row (λ g. g) group v.reports) h.users h.round h, refl) tt tt;
+  forming = λ y is k. quiet_site c me book v s h;
+}) x k
+  where
+    f : Frame
+    f = frame_in c me v.boot e

@@ -1,10 +1,8 @@
 -- What each event of a site keeps, tells and sends of instances.
-use Rattle.std.proofs.Common.{◌≡◌, ◌≤◌, ℕ, ◌+◌, ◌==◌, nat_lt, Bool, true, false, ◌&&◌, ◌||◌, not, List, ◌++◌, Option, Some, None, refl, sym, subst, arith}
-use Rattle.std.proofs.lemmas.Bool.Decides.{nat_tests}
+use Rattle.std.proofs.Common.{◌≡◌, ◌≤◌, ℕ, ◌+◌, ◌==◌, nat_lt, true, false, ◌&&◌, ◌||◌, List, ◌++◌, Option, Some, None, refl, sym, subst, arith}
 use Rattle.std.specs.List.{flat_map}
 use Rattle.role_steps.proofs.of_plain_facts.Numbers.{equal}
 use Rattle.role_steps.proofs.of_plain_facts.Tests.{both_true, not_false, or_other}
-use Rattle.locus_ids.specs.declared.ids.EpochId.{EpochId}
 use Rattle.locus_ids.specs.declared.sites.Links.{Links}
 use Rattle.locus_ids.specs.declared.config.Config.{Config}
 use Rattle.locus_ids.specs.Sizes.{sites_max}
@@ -35,6 +33,8 @@ use Rattle.lock_laws.specs.of_run_laws.Naming.{Deeds, Names, Now, ViewOk, Fine a
 use Rattle.lock_laws.proofs.of_run_laws.Moves.{inner_view, inner_fine}
 use Rattle.lock_laws.proofs.of_run_laws.InsideSteps.{quiet_inner, tries_inner, adopts_of_inner, call_inner}
 use Rattle.lock_laws.proofs.of_run_laws.Steps.{EventNames, takes_fine, starts_part_fine, begins_fine, leaves_of_fine}
+use Rattle.lock_laws.proofs.of_vector_laws.of_fact_walks.Packets.{by_packet}
+use Rattle.lock_laws.proofs.of_vector_laws.of_fact_walks.Steps.{same_epoch_eq}
 use Rattle.pack_laws.specs.InstanceBook.{Book, IsOf, Sound}
 use Rattle.pack_laws.specs.InstanceFacts.{BodyFact, PacketFact, Factless, ToldFact, UsersFact, ViewFact, Fine}
 use Rattle.pack_laws.proofs.InstanceBooks.{Leads, grown_then, factless, packets_later, tolds_later}
@@ -78,12 +78,6 @@ tries_fine c me book _ v s h = quiet_site c me book v s h
 
 -- ---- a packet ----
 
-same_epoch_eq : (a b : EpochId) → same_epoch a b ≡ true → a ≡ b
-same_epoch_eq a b h = id_eq (grind (arith, nat_tests)) (grind (arith, nat_tests)) (grind (arith, nat_tests))
-  where
-    id_eq : a.number ≡ b.number → a.site ≡ b.site → a.boot ≡ b.boot → a ≡ b
-    id_eq e f g = λ i. record { number = e i; site = f i; boot = g i }
-
 -- a packet inside the epoch passes its frame
 passes : (me : ℕ) (p : Packet) (v : SiteView) (e : InEpoch) → is_dropped p v ≡ false → p.to ≡ me → is_forming p ≡ false → v.epoch ≡ Some e → Passes me p v e
 passes me p v e h to inside here =
@@ -110,34 +104,18 @@ inside_comes J c me book p x v inside small s k h =
     framed_fine c me book p x v.epoch v k.body_is refl (λ e here. passes me p v e k.taken k.to (subst (λ (y : Body). nat_lt (kind_number y) 6 ≡ false) (sym k.body_is) inside) here) small s k.fact h
 
 received_fine : (K J : Deeds) (c : Config) (me : ℕ) (book : Book) (links : Links) (p : Packet) (x : Body) (v : SiteView) → me ≤ sites_max → ViewOk K v → Sound c book → Comes J book me p x v → ViewFact c book me v → SiteFine c me v.boot book (takes c me links p x v)
-received_fine K J c me book links p body.Poll v small ok s k h = on_poll_fine c book me links p.from p.from_boot p.epoch v s h
-received_fine K J c me book links p (body.Promise reach) v small ok s k h = on_promise_fine c book me p.from p.from_boot p.epoch reach v.round v refl s h
-received_fine K J c me book links p (body.Refuse promised) v small ok s k h = on_refuse_fine K c book me links p.epoch promised v.round v refl ok k.names s h
-received_fine K J c me book links p (body.Install members) v small ok s k h = on_install_fine K c book me p.from p.from_boot p.epoch members v ok k.fact s h
-received_fine K J c me book links p body.Joined v small ok s k h = on_joined_fine c book me p.from p.epoch v s h
-received_fine K J c me book links p (body.Report group copies) v small ok s k h = inside_comes J c me book p (body.Report group copies) v refl small s k h
-received_fine K J c me book links p (body.ReportOk group) v small ok s k h = inside_comes J c me book p (body.ReportOk group) v refl small s k h
-received_fine K J c me book links p (body.Open serial call process request file how) v small ok s k h = inside_comes J c me book p (body.Open serial call process request file how) v refl small s k h
-received_fine K J c me book links p (body.OpenSs inst file mode set kind base vector parents) v small ok s k h = inside_comes J c me book p (body.OpenSs inst file mode set kind base vector parents) v refl small s k h
-received_fine K J c me book links p (body.Opened inst answer) v small ok s k h = inside_comes J c me book p (body.Opened inst answer) v refl small s k h
-received_fine K J c me book links p (body.OpenDone serial answer) v small ok s k h = inside_comes J c me book p (body.OpenDone serial answer) v refl small s k h
-received_fine K J c me book links p (body.Op serial n o seen) v small ok s k h = inside_comes J c me book p (body.Op serial n o seen) v refl small s k h
-received_fine K J c me book links p (body.ReadHeld serial n at len) v small ok s k h = inside_comes J c me book p (body.ReadHeld serial n at len) v refl small s k h
-received_fine K J c me book links p (body.OpDone serial n result) v small ok s k h = inside_comes J c me book p (body.OpDone serial n result) v refl small s k h
-received_fine K J c me book links p (body.AsHeld serial n len) v small ok s k h = inside_comes J c me book p (body.AsHeld serial n len) v refl small s k h
-received_fine K J c me book links p (body.Close serial) v small ok s k h = inside_comes J c me book p (body.Close serial) v refl small s k h
-received_fine K J c me book links p (body.Closed inst made) v small ok s k h = inside_comes J c me book p (body.Closed inst made) v refl small s k h
-received_fine K J c me book links p (body.ClosedOk inst) v small ok s k h = inside_comes J c me book p (body.ClosedOk inst) v refl small s k h
-received_fine K J c me book links p (body.CloseDone serial answer) v small ok s k h = inside_comes J c me book p (body.CloseDone serial answer) v refl small s k h
-received_fine K J c me book links p (body.Look call process request take file what) v small ok s k h = inside_comes J c me book p (body.Look call process request take file what) v refl small s k h
-received_fine K J c me book links p (body.LookSs us call process request take file what serve) v small ok s k h = inside_comes J c me book p (body.LookSs us call process request take file what serve) v refl small s k h
-received_fine K J c me book links p (body.LookDone call request take answer) v small ok s k h = inside_comes J c me book p (body.LookDone call request take answer) v refl small s k h
-received_fine K J c me book links p (body.Notify file kind set size stamp vector holder) v small ok s k h = inside_comes J c me book p (body.Notify file kind set size stamp vector holder) v refl small s k h
-received_fine K J c me book links p (body.Pull file stamp page) v small ok s k h = inside_comes J c me book p (body.Pull file stamp page) v refl small s k h
-received_fine K J c me book links p (body.Want file wanted own) v small ok s k h = inside_comes J c me book p (body.Want file wanted own) v refl small s k h
-received_fine K J c me book links p (body.Page file stamp page bytes) v small ok s k h = inside_comes J c me book p (body.Page file stamp page bytes) v refl small s k h
-received_fine K J c me book links p (body.Delta file wanted pages) v small ok s k h = inside_comes J c me book p (body.Delta file wanted pages) v refl small s k h
-received_fine K J c me book links p (body.Have file stamp) v small ok s k h = inside_comes J c me book p (body.Have file stamp) v refl small s k h
+received_fine K J c me book links p x v small ok s k h = by_packet Q c me links p v (record {
+  poll = λ k. on_poll_fine c book me links p.from p.from_boot p.epoch v s h;
+  promise = λ reach k. on_promise_fine c book me p.from p.from_boot p.epoch reach v.round v refl s h;
+  refuse = λ promised k. on_refuse_fine K c book me links p.epoch promised v.round v refl ok k.names s h;
+  install = λ members k. on_install_fine K c book me p.from p.from_boot p.epoch members v ok k.fact s h;
+  joined = λ k. on_joined_fine c book me p.from p.epoch v s h;
+  inside = λ y inside k. inside_comes J c me book p y v inside small s k h;
+  pulled = λ y inside silent k. inside_comes J c me book p y v inside small s k h;
+}) x k
+  where
+    Q : Body → Outcome SiteView → (SiteView → Outcome SiteView) → Type 0
+    Q y o tries = Comes J book me p y v → SiteFine c me v.boot book o
 
 -- ---- a tick ----
 
@@ -150,7 +128,7 @@ inside_repeats c me book e v h =
     every_append P (in_order (all_reports f v)) _ (order_sent P (all_reports f v) (all_reports_fact book f v))
     (every_append P (users_repeats f v.users) _ (users_repeats_fact book f v.users h.users)
     (every_append P (in_order (store_repeats f v.store)) _ (order_sent P (store_repeats f v.store) (factless book (store_repeats f v.store) (store_repeats_factless f v.store)))
-    (every_append P (in_order (pull_repeats f v.pulls)) _ (order_sent P (pull_repeats f v.pulls) (factless book (pull_repeats f v.pulls) (pull_repeats_factless f v.pulls)))
+    (every_append P (in_order (pull_repeats f v.pulls)) _ (order_sent P (pull_repeats f v.pulls) (factless book (pull_repeats f v.pulls) (pull_repeats_factless book f v.pulls)))
     (order_sent P (flat_map (sync_repeats f) v.tables) (factless book (flat_map (sync_repeats f) v.tables) (every_flat_map Factless (sync_repeats f) v.tables (λ t. sync_repeats_factless f t)))))))
   where
     f : Frame

@@ -9,6 +9,7 @@ pub mod InstanceFormingFacts
 pub mod InstanceStepFacts
 pub mod InstanceInstancesRun
 pub mod InstanceAgree
+pub mod Pulls
 pub mod InodeRolesSend
 pub mod InodeStoreFits
 pub mod InodeSyncFits

@@ -5,27 +5,21 @@ use Rattle.locus_ids.specs.declared.ids.FileId.{FileId}
 use Rattle.locus_ids.specs.declared.ids.Stamp.{Stamp}
 use Rattle.locus_ids.specs.declared.config.Config.{Config}
 use Rattle.trace_book.specs.declared.call.Call.{Call}
-use Rattle.trace_book.specs.declared.operation.Outcome.{Outcome as Result}
 use Rattle.trace_book.specs.declared.record.Record.{Record}
 use Rattle.trace_book.specs.declared.record.Record.TheVariants as says
 use Rattle.wire_messages.specs.declared.body.Body.{Body}
-use Rattle.wire_messages.specs.declared.body.CloseAnswer.{CloseAnswer}
-use Rattle.wire_messages.specs.declared.body.LookAnswer.{LookAnswer}
-use Rattle.wire_messages.specs.declared.body.Granted.{Granted}
 use Rattle.wire_messages.specs.declared.body.Body.TheVariants as body
 use Rattle.role_steps.specs.Own.{Every}
 use Rattle.role_steps.specs.Views.{Frame, Store, Users, Outcome, Told, Shown, Takes, LooksAgain}
-use Rattle.role_steps.specs.Looks.{LookRequest}
-use Rattle.role_steps.specs.Storage.{on_look_ss, on_pull, on_want}
-use Rattle.role_steps.specs.Pulling.{on_notify, on_page, on_delta, pull_repeats}
+use Rattle.role_steps.specs.Storage.{on_pull, on_want}
+use Rattle.role_steps.specs.Pulling.{pull_repeats}
 use Rattle.role_steps.specs.Requests.{users_repeats}
-use Rattle.role_steps.specs.Using.{on_call, on_open_done, on_op_done, on_as_held, on_close_done, on_look_done}
-use Rattle.role_steps.specs.declared.copies.FileCopy.{FileCopy}
+use Rattle.role_steps.specs.Using.{on_call}
 use Rattle.role_steps.specs.declared.pulls.Pull.{Pull}
 use Rattle.lock_laws.specs.of_law_walks.Kinds.{IsOfReader, IsUserRequest, IsOfUser, IsCallRecord, TellsCall}
 use Rattle.lock_laws.specs.of_law_walks.Laws.{Law, frame_law, ReadersKeep, UsersKeep, Part}
-use Rattle.lock_laws.proofs.of_law_walks.RoleWalks.{on_look_ss_walk, on_pull_walk, on_want_walk, on_notify_walk, on_page_walk, on_delta_walk, pull_repeats_walk, users_repeats_walk, on_call_walk, on_open_done_walk, on_op_done_walk, on_as_held_walk, on_close_done_walk, on_look_done_walk}
-use Rattle.pack_laws.specs.Packs.{RecordPacked, HasPack, ToldPacked}
+use Rattle.lock_laws.proofs.of_law_walks.RoleWalks.{on_pull_walk, on_want_walk, pull_repeats_walk, users_repeats_walk, on_call_walk}
+use Rattle.pack_laws.specs.Packs.{RecordPacked, ToldPacked}
 use Rattle.pack_laws.specs.Packed.{BodyPacked, PacketPacked}
 
 -- all that the outcome sends and tells is such
@@ -62,13 +56,13 @@ tells_packed c (Takes site call request take a) h = tt
 tells_packed c (LooksAgain site call request take) h = tt
 tells_packed c _ h = absurd h
 
-abbrev carrying : Config → Law
+abbrev pub carrying : Config → Law
 carrying c = frame_law (PacketPacked c) (ToldPacked c) (λ w. Unit {0})
 
-users : (c : Config) (f : Frame) → UsersKeep (carrying c) f
+pub users : (c : Config) (f : Frame) → UsersKeep (carrying c) f
 users c f = record { asks = λ group to b h e. request_packed c f.me to b h; sends = λ to b h. user_packed c f.me to b h; tells = tells_packed c; unwritten = tt }
 
-readers : (c : Config) (f : Frame) → ReadersKeep (carrying c) f
+pub readers : (c : Config) (f : Frame) → ReadersKeep (carrying c) f
 readers c f = record { sends = λ to b h. reader_packed c f.me to b h; unwritten = tt }
 
 both : {V : Type 0} (c : Config) (o : Outcome V) → Part (carrying c) o → AllPacked c o
@@ -76,44 +70,17 @@ both c o h = (h.0, h.1)
 
 -- ---- roles ----
 
-pub on_look_ss_packed : (c : Config) (f : Frame) (us : ℕ) (l : LookRequest) (stamp : Stamp) (s : Store) → AllPacked c (on_look_ss f us l stamp s)
-on_look_ss_packed c f us l stamp s = both c (on_look_ss f us l stamp s) (on_look_ss_walk (carrying c) f (readers c f) us l stamp s)
-
 pub on_pull_packed : (c : Config) (f : Frame) (from : ℕ) (file : FileId) (stamp : Stamp) (page : ℕ) (s : Store) → AllPacked c (on_pull f from file stamp page s)
 on_pull_packed c f from file stamp page s = both c (on_pull f from file stamp page s) (on_pull_walk (carrying c) f (readers c f) from file stamp page (λ bytes. tt) s)
 
 pub on_want_packed : (c : Config) (f : Frame) (from : ℕ) (file : FileId) (wanted own : Stamp) (s : Store) → AllPacked c (on_want f from file wanted own s)
 on_want_packed c f from file wanted own s = both c (on_want f from file wanted own s) (on_want_walk (carrying c) f (readers c f) from file wanted own (λ pages. tt) s)
 
-pub on_notify_packed : (c : Config) (f : Frame) (from : ℕ) (o : Option FileCopy) (p : Pull) (ps : List Pull) → HasPack c p.file.group f.me → AllPacked c (on_notify f from o p ps)
-on_notify_packed c f from o p ps h = both c (on_notify f from o p ps) (on_notify_walk (carrying c) f (readers c f) from o p h ps)
-
-pub on_page_packed : (c : Config) (f : Frame) (file : FileId) (stamp : Stamp) (page : ℕ) (bytes : List ℕ) (ps : List Pull) → AllPacked c (on_page f file stamp page bytes ps)
-on_page_packed c f file stamp page bytes ps = both c (on_page f file stamp page bytes ps) (on_page_walk (carrying c) f (readers c f) file stamp page bytes ps)
-
-pub on_delta_packed : (c : Config) (f : Frame) (own : Option FileCopy) (file : FileId) (stamp : Stamp) (pages : List ℕ) (ps : List Pull) → AllPacked c (on_delta f own file stamp pages ps)
-on_delta_packed c f own file stamp pages ps = both c (on_delta f own file stamp pages ps) (on_delta_walk (carrying c) f (readers c f) own file stamp pages ps)
-
 pub pull_repeats_packed : (c : Config) (f : Frame) (ps : List Pull) → Every (PacketPacked c) (pull_repeats f ps)
 pull_repeats_packed c f ps = pull_repeats_walk (carrying c) f (readers c f) ps
 
 pub on_call_packed : (c : Config) (f : Frame) (now : Option EpochId) (process : ℕ) (words : Call) (u : Users) → AllPacked c (on_call f now process words u)
 on_call_packed c f now process words u = both c (on_call f now process words u) (on_call_walk (carrying c) f (users c f) now process words u (λ n. tt))
-
-pub on_open_done_packed : (c : Config) (f : Frame) (kept : FileId → List Stamp) (serial : ℕ) (a : Granted) (u : Users) → AllPacked c (on_open_done f kept serial a u)
-on_open_done_packed c f kept serial a u = both c (on_open_done f kept serial a u) (on_open_done_walk (carrying c) f (users c f) kept serial a u)
-
-pub on_op_done_packed : (c : Config) (f : Frame) (serial n : ℕ) (r : Result) (u : Users) → AllPacked c (on_op_done f serial n r u)
-on_op_done_packed c f serial n r u = both c (on_op_done f serial n r u) (on_op_done_walk (carrying c) f (users c f) serial n r u)
-
-pub on_as_held_packed : (c : Config) (f : Frame) (serial n : ℕ) (u : Users) → AllPacked c (on_as_held f serial n u)
-on_as_held_packed c f serial n u = both c (on_as_held f serial n u) (on_as_held_walk (carrying c) f (users c f) serial n u)
-
-pub on_close_done_packed : (c : Config) (f : Frame) (serial : ℕ) (a : CloseAnswer) (u : Users) → AllPacked c (on_close_done f serial a u)
-on_close_done_packed c f serial a u = both c (on_close_done f serial a u) (on_close_done_walk (carrying c) f (users c f) serial a u)
-
-pub on_look_done_packed : (c : Config) (f : Frame) (n request take : ℕ) (a : LookAnswer) (u : Users) → AllPacked c (on_look_done f n request take a u)
-on_look_done_packed c f n request take a u = both c (on_look_done f n request take a u) (on_look_done_walk (carrying c) f (users c f) n request take a u)
 
 pub users_repeats_packed : (c : Config) (f : Frame) (u : Users) → Every (PacketPacked c) (users_repeats f u)
 users_repeats_packed c f u = users_repeats_walk (carrying c) f (users c f) u

@@ -1,13 +1,11 @@
 -- What each event of a site keeps, sends and tells is as packs allow.
-use Rattle.std.proofs.Common.{◌≡◌, ℕ, ◌+◌, ◌==◌, Bool, true, false, cond, ◌&&◌, not, List, [], ◌∷◌, ◌++◌, Option, Some, None, refl, sym, subst, filter, map, arith}
+use Rattle.std.proofs.Common.{◌≡◌, ℕ, ◌+◌, ◌==◌, Bool, true, false, cond, ◌&&◌, not, List, [], ◌∷◌, ◌++◌, Option, Some, None, refl, sym, subst, filter, map}
 use Rattle.std.specs.List.{flat_map}
 use Rattle.locus_ids.specs.declared.ids.EpochId.{EpochId}
-use Rattle.locus_ids.specs.declared.ids.Stamp.{Stamp}
 use Rattle.locus_ids.specs.declared.sites.Links.{Links}
 use Rattle.locus_ids.specs.declared.sites.Members.{Members}
 use Rattle.locus_ids.specs.declared.sites.Sites.{Sites}
 use Rattle.locus_ids.specs.declared.config.Config.{Config}
-use Rattle.commit_graph.specs.Versions.{same_stamp}
 use Rattle.trace_book.specs.Same.{same_epoch}
 use Rattle.trace_book.specs.declared.call.Call.TheVariants as call
 use Rattle.wire_messages.specs.declared.packet.Packet.{Packet}
@@ -17,29 +15,30 @@ use Rattle.wire_messages.specs.declared.body.ReportedCopy.{ReportedCopy}
 use Rattle.role_steps.specs.Own.{Every}
 use Rattle.role_steps.specs.Tables.{row, without_row, first_that}
 use Rattle.role_steps.specs.Views.{Frame, Store, Users, SiteView, Promises, Outcome, Event, Calls, Receives, Ticks, Parts, Merges, GivesUp, quiet, sends, tells, and_then, packet}
-use Rattle.role_steps.specs.Versions.{is_below, file_row}
-use Rattle.role_steps.specs.Reports.{new_table, on_report, on_open, on_look, on_closed, on_have, on_have_of, sync_repeats}
+use Rattle.role_steps.specs.Versions.{file_row}
+use Rattle.role_steps.specs.Reports.{new_table, on_report, on_closed, on_have, on_have_of, sync_repeats}
 use Rattle.role_steps.specs.Opens.{on_opened}
-use Rattle.role_steps.specs.Storage.{copy_key, copy_of, instance_of, on_pull, on_want, report_of, reported, on_open_ss, store_repeats}
-use Rattle.role_steps.specs.Pulling.{pull_key, pull_of, goes_on, pull_over, begins_pull, replaces_pull, on_notify, is_awaited, pages_in, is_delta, on_page_of, on_delta_of, on_page, on_delta, pull_repeats}
+use Rattle.role_steps.specs.Storage.{StoreRequest, copy_key, copy_of, instance_of, on_pull, on_want, report_of, reported, on_open_ss, store_repeats}
+use Rattle.role_steps.specs.Pulling.{pull_key, pull_repeats}
 use Rattle.role_steps.specs.Requests.{users_repeats}
-use Rattle.role_steps.specs.Using.{on_call, on_open_done, on_op_done, on_as_held, on_close_done, on_look_done}
+use Rattle.role_steps.specs.Using.{on_call}
 use Rattle.role_steps.specs.Epochs.{is_epoch_below, frame_in, with_users, leaves_of, leaves, promises, promised_view, reached, poll_packet, polled_sites, polls, round_id, begins_round, boots_where, merge_boot, starts_merge, part_boot, starts_part_of, starts_part, promise_packet, refuse_packet, on_poll, on_promise_of, on_refuse_of, report_packets, all_reports, joined_view, joins, may_install, is_in, joined_packet, on_install, on_joined, passed_over, unanswered, chosen_set, chosen_members, others_of, install_packet, installs_all, decides_if, passes_over_of, passes_over, poll_repeats, install_repeats}
 use Rattle.role_steps.specs.Adoption.{notes_own_at, copy_adopted, table_group, with_store, without_pull, is_ready, adopts_pull, adopts_first, with_adopted, fits_own, content_under}
-use Rattle.role_steps.specs.Mends.{mending, kept_stamps, has_mend_in, wants_mend, starts_mend_of, starts_mend, starts_mends_in, row_file}
+use Rattle.role_steps.specs.Mends.{mending, has_mend_in, wants_mend, starts_mend_of, starts_mend, starts_mends_in, row_file}
 use Rattle.role_steps.specs.declared.copies.FileCopy.{FileCopy}
 use Rattle.role_steps.specs.declared.pulls.Pull.{Pull}
 use Rattle.role_steps.specs.declared.rounds.InEpoch.{InEpoch}
 use Rattle.role_steps.specs.declared.rounds.Round.{Round}
 use Rattle.role_steps.specs.declared.synchronizing.SyncTable.{SyncTable}
 use Rattle.role_steps.specs.declared.synchronizing.FileRow.{FileRow}
-use Rattle.role_steps.proofs.Fitting.{over_any}
 use Rattle.role_steps.proofs.Sending.{every_append, every_cond, every_map}
+use Rattle.lock_laws.specs.of_the_run.Roles.{IsForTable, IsForStore, IsForReader}
 use Rattle.lock_laws.specs.of_the_run.Steps.{in_order, from_user, group_of, at_table_of, is_opened_in, takes_inside, takes_framed, takes, is_dropped, adopts_of, adopts_in, tries_at, starts_mends_of, ends_event, whole, repeats_inside, repeats_of, repeats, ticks_after, call_frame, epoch_id, takes_call, step}
-use Rattle.lock_laws.proofs.of_the_run.InsideSync.{every_row, every_without, Found, row_found, first_found}
+use Rattle.lock_laws.proofs.of_the_run.InsideSync.{every_row, every_without, Found, first_found}
+use Rattle.lock_laws.proofs.of_the_run.Roles.{by_role, users_by}
+use Rattle.lock_laws.proofs.of_law_walks.Premises.{every_unit}
 use Rattle.lock_laws.proofs.of_the_run.StepSends.{order_sent}
 use Rattle.lock_laws.proofs.of_vector_laws.SyncFacts.{every_flat}
-use Rattle.std.proofs.lemmas.Bool.Decides.{nat_tests}
 use Rattle.role_steps.proofs.of_plain_facts.Numbers.{equal}
 use Rattle.locus_ids.specs.Sites.{has}
 use Rattle.locus_ids.specs.declared.refusal.Refusal.TheVariants as refusal
@@ -53,7 +52,8 @@ use Rattle.lock_laws.proofs.of_vector_laws.SyncFacts.{FoundAt, row_at}
 use Rattle.pack_laws.specs.Packs.{HasPack, InPacks, CopyPacked, ToldPacked}
 use Rattle.pack_laws.specs.Packed.{ReportedPacked, BodyPacked, PacketPacked, PullPacked, TablePacked, ReportPacked, ViewPacked, TableCloses, BodyCloses, OutPacked}
 use Rattle.pack_laws.proofs.Sets.{every_filter, passing, every_and}
-use Rattle.pack_laws.proofs.RolesSend.{AllPacked, on_pull_packed, on_want_packed, on_notify_packed, on_page_packed, on_delta_packed, pull_repeats_packed, users_repeats_packed, on_call_packed, on_open_done_packed, on_op_done_packed, on_as_held_packed, on_close_done_packed, on_look_done_packed}
+use Rattle.pack_laws.proofs.RolesSend.{AllPacked, carrying, users, readers, on_pull_packed, on_want_packed, pull_repeats_packed, users_repeats_packed, on_call_packed}
+use Rattle.pack_laws.proofs.Pulls.{Begins, pulls_of}
 use Rattle.pack_laws.proofs.StorePacks.{StoreOut, sync_packed, on_open_ss_packed, on_close_packed, on_closed_ok_packed, on_op_packed, on_read_held_packed, store_repeats_packed}
 use Rattle.pack_laws.proofs.RowPacks.{InTable}
 use Rattle.pack_laws.proofs.SyncPacks.{TableOut, on_report_packed, on_open_packed, on_look_packed, on_opened_packed, on_closed_packed, on_have_packed, sync_repeats_packed}
@@ -95,30 +95,6 @@ store_part f v o h k = record { view = record { store = k.view; pulls = h.pulls;
 users_part : (c : Config) (me : ℕ) (v : SiteView) (o : Outcome Users) → ViewPacked c me v → AllPacked c o → SiteOut c me (record { view = with_users v o.view; sent = o.sent; told = o.told; written = o.written })
 users_part c me v o h k = record { view = record { store = h.store; pulls = h.pulls; tables = h.tables; reports = h.reports }; sent = k.0; told = k.1 }
 
--- ---- pulls ----
-
-abbrev PullsPacked : Config → ℕ → Outcome (List Pull) → Type 0
-PullsPacked c me o = Every (PullPacked c me) o.view
-
-begins_pull_keeps : (c : Config) (me : ℕ) (f : Frame) (own : Option FileCopy) (p : Pull) (ps : List Pull) → PullPacked c me p → Every (PullPacked c me) ps → PullsPacked c me (begins_pull f own p ps)
-begins_pull_keeps c me f own p ps k h = elim (replaces_pull own p (pull_of ps p.file)) as (λ b. PullsPacked c me (elim b [ true ↦ goes_on f (pull_over own p) ps | false ↦ quiet ps ])) [ true ↦ every_row (PullPacked c me) pull_key (pull_over own p) ps (over_any (PullPacked c me) own p (λ base wanted. k)) h | false ↦ h ]
-
-notify_keeps : (c : Config) (me : ℕ) (f : Frame) (from : ℕ) (o : Option FileCopy) (p : Pull) (ps : List Pull) → PullPacked c me p → Every (PullPacked c me) ps → PullsPacked c me (on_notify f from o p ps)
-notify_keeps c me f from None p ps k h = begins_pull_keeps c me f None p ps k h
-notify_keeps c me f from (Some own) p ps k h =
-    elim (same_stamp own.stamp p.stamp) as (λ b. PullsPacked c me (elim b [ true ↦ sends (packet f from (body.Have p.file p.stamp) ∷ []) ps | false ↦ elim (is_below own.vector p.vector) [ true ↦ begins_pull f (Some own) p ps | false ↦ quiet ps ] ])) [
-      | true ↦ h
-      | false ↦ elim (is_below own.vector p.vector) as (λ b. PullsPacked c me (elim b [ true ↦ begins_pull f (Some own) p ps | false ↦ quiet ps ])) [ true ↦ begins_pull_keeps c me f (Some own) p ps k h | false ↦ h ]
-    ]
-
-delta_keeps : (c : Config) (me : ℕ) (f : Frame) (own : ℕ) (stamp : Stamp) (pages : List ℕ) (o : Option Pull) (ps : List Pull) → Found (PullPacked c me) o → Every (PullPacked c me) ps → PullsPacked c me (on_delta_of f own stamp pages o ps)
-delta_keeps c me f own stamp pages None ps k h = h
-delta_keeps c me f own stamp pages (Some p) ps k h = elim (is_delta own p stamp pages) as (λ b. PullsPacked c me (elim b [ true ↦ goes_on f (record p { wanted = Some pages }) ps | false ↦ quiet ps ])) [ true ↦ every_row (PullPacked c me) pull_key (record p { wanted = Some pages }) ps k h | false ↦ h ]
-
-page_keeps : (c : Config) (me : ℕ) (f : Frame) (stamp : Stamp) (page : ℕ) (bytes : List ℕ) (o : Option Pull) (ps : List Pull) → Found (PullPacked c me) o → Every (PullPacked c me) ps → PullsPacked c me (on_page_of f stamp page bytes o ps)
-page_keeps c me f stamp page bytes None ps k h = h
-page_keeps c me f stamp page bytes (Some p) ps k h = elim (is_awaited p stamp page bytes) as (λ b. PullsPacked c me (elim b [ true ↦ goes_on f (record p { content = p.content ++ bytes }) ps | false ↦ quiet ps ])) [ true ↦ every_row (PullPacked c me) pull_key (record p { content = p.content ++ bytes }) ps k h | false ↦ h ]
-
 -- ---- packets inside the epoch ----
 
 regroup : (c : Config) (a b site : ℕ) → a ≡ b → HasPack c b site → HasPack c a site
@@ -127,46 +103,49 @@ regroup c a b site e h = subst (λ (n : ℕ). HasPack c n site) (sym e) h
 copies_regroup : (c : Config) (a b : ℕ) (xs : List ReportedCopy) → a ≡ b → Every (ReportedPacked c b) xs → Every (ReportedPacked c a) xs
 copies_regroup c a b xs e h = subst (λ (n : ℕ). Every (ReportedPacked c n) xs) (sym e) h
 
-always : (ts : List SyncTable) → Every (λ (t : SyncTable). Unit {0}) ts
-always [] = tt
-always (t ∷ ts) = (tt, always ts)
+-- what the site makes of a packet that carries what packs allow, and closes only what lies here
+abbrev Taken : Frame → ℕ → SiteView → Body → Outcome SiteView → Type 0
+Taken f from v x o = BodyPacked f.config from f.me x → BodyCloses f.config from v x → SiteOut f.config f.me o
+
+tables_packed : (f : Frame) (from : ℕ) (v : SiteView) → ViewPacked f.config f.me v → (x : Body) → IsForTable x → Taken f from v x (takes_inside f from x v)
+tables_packed f from v h (body.Report group copies) is k d = group_part f (on_report f from copies) group v h (λ t q g. on_report_packed f from copies t (regroup f.config t.group group from q k.0) (copies_regroup f.config t.group group copies q k.1) g)
+tables_packed f from v h (body.Open serial call process request file how) is k d = group_part f _ file.group v h (λ t q g. on_open_packed f from (record { serial = serial; call = call; process = process; request = request; file = file; how = how }) t (sym q) g)
+tables_packed f from v h (body.Opened inst answer) is k d = with_part f (λ (t : SyncTable). Unit {0}) (on_opened f inst answer) (is_opened_in inst) v h (every_unit v.tables) (λ t g u. on_opened_packed f inst answer t g)
+tables_packed f from v h (body.Closed inst made) is k d = with_part f (TableCloses f.config from (serial_key inst)) (on_closed f from inst made) (is_opened_in inst) v h d (λ t g u. on_closed_packed f from inst made t u g)
+tables_packed f from v h (body.Look call process request take file what) is k d = group_part f _ file.group v h (λ t q g. on_look_packed f from (record { call = call; process = process; request = request; take = take; file = file; what = what }) t g)
+tables_packed f from v h (body.Have file stamp) is k d = group_part f (on_have from file stamp) file.group v h (λ t q g. on_have_packed f from file stamp t (regroup f.config t.group file.group from q k) g)
+tables_packed f from v h _ is k d = absurd is
+
+stores_packed : (f : Frame) (from : ℕ) (v : SiteView) → ViewPacked f.config f.me v → (x : Body) → IsForStore x → Taken f from v x (takes_inside f from x v)
+stores_packed f from v h (body.OpenSs inst file mode set kind base vector parents) is k d =
+    let r : StoreRequest = record { inst = inst; file = file; mode = mode; set = set; kind = kind; base = base; vector = vector; parents = parents } in store_part f v (on_open_ss f r v.store) h (on_open_ss_packed f r v.store k.0 k.1 h.store)
+stores_packed f from v h (body.Op serial n o seen) is k d = store_part f v _ h (on_op_packed f (mending v (group_of (instance_of v.store (from_user from serial)))) (from_user from serial) n o seen v.store h.store)
+stores_packed f from v h (body.ReadHeld serial n at len) is k d = store_part f v _ h (on_read_held_packed f (from_user from serial) n at len v.store h.store)
+stores_packed f from v h (body.Close serial) is k d = store_part f v _ h (on_close_packed f (from_user from serial) v.store h.store)
+stores_packed f from v h (body.ClosedOk inst) is k d = store_part f v _ h (on_closed_ok_packed f inst v.store h.store)
+stores_packed f from v h _ is k d = absurd is
+
+readers_packed : (f : Frame) (from : ℕ) (v : SiteView) → ViewPacked f.config f.me v → (x : Body) → IsForReader x → Taken f from v x (takes_inside f from x v)
+readers_packed f from v h (body.LookSs us call process request take file what serve) is k d = record { view = h; sent = (tt, tt); told = tt }
+readers_packed f from v h (body.Pull file stamp page) is k d = let q : AllPacked f.config (on_pull f from file stamp page v.store) = on_pull_packed f.config f from file stamp page v.store in record { view = h; sent = q.0; told = q.1 }
+readers_packed f from v h (body.Want file wanted own) is k d = let q : AllPacked f.config (on_want f from file wanted own v.store) = on_want_packed f.config f from file wanted own v.store in record { view = h; sent = q.0; told = q.1 }
+readers_packed f from v h _ is k d = absurd is
+
+begins_lie : (c : Config) (from me : ℕ) (x : Body) → BodyPacked c from me x → Begins (PullPacked c me) x
+begins_lie c from me (body.Notify file kind set size stamp vector holder) k = k
+begins_lie c from me _ k = tt
 
 inside_packed : (f : Frame) (from : ℕ) (x : Body) (v : SiteView) → BodyPacked f.config from f.me x → BodyCloses f.config from v x → ViewPacked f.config f.me v → SiteOut f.config f.me (takes_inside f from x v)
-inside_packed f from (body.Report group copies) v k d h = group_part f (on_report f from copies) group v h (λ t q g. on_report_packed f from copies t (regroup f.config t.group group from q k.0) (copies_regroup f.config t.group group copies q k.1) g)
-inside_packed f from (body.ReportOk group) v k d h = record { view = record { store = h.store; pulls = h.pulls; tables = h.tables; reports = every_without (ReportPacked f.config f.me) (λ g. g) group v.reports h.reports }; sent = tt; told = tt }
-inside_packed f from (body.Open serial call process request file how) v k d h = group_part f (on_open f from (record { serial = serial; call = call; process = process; request = request; file = file; how = how })) file.group v h (λ t q g. on_open_packed f from (record { serial = serial; call = call; process = process; request = request; file = file; how = how }) t (sym q) g)
-inside_packed f from (body.OpenSs inst file mode set kind base vector parents) v k d h = store_part f v (on_open_ss f (record { inst = inst; file = file; mode = mode; set = set; kind = kind; base = base; vector = vector; parents = parents }) v.store) h (on_open_ss_packed f (record { inst = inst; file = file; mode = mode; set = set; kind = kind; base = base; vector = vector; parents = parents }) v.store k.0 k.1 h.store)
-inside_packed f from (body.Opened inst answer) v k d h = with_part f (λ (t : SyncTable). Unit {0}) (on_opened f inst answer) (is_opened_in inst) v h (always v.tables) (λ t g u. on_opened_packed f inst answer t g)
-inside_packed f from (body.OpenDone serial answer) v k d h = users_part f.config f.me v (on_open_done f (kept_stamps v) serial answer v.users) h (on_open_done_packed f.config f (kept_stamps v) serial answer v.users)
-inside_packed f from (body.Op serial n o seen) v k d h = store_part f v _ h (on_op_packed f (mending v (group_of (instance_of v.store (from_user from serial)))) (from_user from serial) n o seen v.store h.store)
-inside_packed f from (body.ReadHeld serial n at len) v k d h = store_part f v _ h (on_read_held_packed f (from_user from serial) n at len v.store h.store)
-inside_packed f from (body.OpDone serial n result) v k d h = users_part f.config f.me v (on_op_done f serial n result v.users) h (on_op_done_packed f.config f serial n result v.users)
-inside_packed f from (body.AsHeld serial n len) v k d h = users_part f.config f.me v (on_as_held f serial n v.users) h (on_as_held_packed f.config f serial n v.users)
-inside_packed f from (body.Close serial) v k d h = store_part f v _ h (on_close_packed f (from_user from serial) v.store h.store)
-inside_packed f from (body.Closed inst made) v k d h = with_part f (TableCloses f.config from (serial_key inst)) (on_closed f from inst made) (is_opened_in inst) v h d (λ t g u. on_closed_packed f from inst made t u g)
-inside_packed f from (body.ClosedOk inst) v k d h = store_part f v _ h (on_closed_ok_packed f inst v.store h.store)
-inside_packed f from (body.CloseDone serial answer) v k d h = users_part f.config f.me v (on_close_done f serial answer v.users) h (on_close_done_packed f.config f serial answer v.users)
-inside_packed f from (body.Look call process request take file what) v k d h = group_part f (on_look f from (record { call = call; process = process; request = request; take = take; file = file; what = what })) file.group v h (λ t q g. on_look_packed f from (record { call = call; process = process; request = request; take = take; file = file; what = what }) t g)
-inside_packed f from (body.LookSs us call process request take file what serve) v k d h = record { view = h; sent = (tt, tt); told = tt }
-inside_packed f from (body.LookDone call request take answer) v k d h = users_part f.config f.me v (on_look_done f call request take answer v.users) h (on_look_done_packed f.config f call request take answer v.users)
-inside_packed f from (body.Notify file kind set size stamp vector holder) v k d h =
-    let p : Pull = record { file = file; kind = kind; set = set; size = size; stamp = stamp; vector = vector; holder = holder; base = None; wanted = None; content = [] } in
-    let q : AllPacked f.config (on_notify f from (copy_of v.store file) p v.pulls) = on_notify_packed f.config f from (copy_of v.store file) p v.pulls k.here in
-    record { view = record { store = h.store; pulls = notify_keeps f.config f.me f from (copy_of v.store file) p v.pulls k h.pulls; tables = h.tables; reports = h.reports }; sent = q.0; told = q.1 }
-inside_packed f from (body.Pull file stamp page) v k d h = let q : AllPacked f.config (on_pull f from file stamp page v.store) = on_pull_packed f.config f from file stamp page v.store in record { view = h; sent = q.0; told = q.1 }
-inside_packed f from (body.Want file wanted own) v k d h = let q : AllPacked f.config (on_want f from file wanted own v.store) = on_want_packed f.config f from file wanted own v.store in record { view = h; sent = q.0; told = q.1 }
-inside_packed f from (body.Page file stamp page bytes) v k d h =
-    let q : AllPacked f.config (on_page f file stamp page bytes v.pulls) = on_page_packed f.config f file stamp page bytes v.pulls in
-    record { view = record { store = h.store; pulls = page_keeps f.config f.me f stamp page bytes (pull_of v.pulls file) v.pulls (row_found (PullPacked f.config f.me) pull_key _ v.pulls h.pulls) h.pulls; tables = h.tables; reports = h.reports }; sent = q.0; told = q.1 }
-inside_packed f from (body.Delta file wanted pages) v k d h =
-    let q : AllPacked f.config (on_delta f (copy_of v.store file) file wanted pages v.pulls) = on_delta_packed f.config f (copy_of v.store file) file wanted pages v.pulls in
-    record { view = record { store = h.store; pulls = delta_keeps f.config f.me f (pages_in (copy_of v.store file)) wanted pages (pull_of v.pulls file) v.pulls (row_found (PullPacked f.config f.me) pull_key _ v.pulls h.pulls) h.pulls; tables = h.tables; reports = h.reports }; sent = q.0; told = q.1 }
-inside_packed f from (body.Have file stamp) v k d h = group_part f (on_have from file stamp) file.group v h (λ t q g. on_have_packed f from file stamp t (regroup f.config t.group file.group from q k) g)
-inside_packed f from body.Poll v k d h = quiet_site f.config f.me v h
-inside_packed f from (body.Promise reach) v k d h = quiet_site f.config f.me v h
-inside_packed f from (body.Refuse promised) v k d h = quiet_site f.config f.me v h
-inside_packed f from (body.Install members) v k d h = quiet_site f.config f.me v h
-inside_packed f from body.Joined v k d h = quiet_site f.config f.me v h
+inside_packed f from x v k d h = by_role (Taken f from v) f from v (record {
+  tables = tables_packed f from v h;
+  stores = stores_packed f from v h;
+  readers = readers_packed f from v h;
+  users = users_by (Taken f from v) (carrying f.config) f from v (users f.config f) (λ y o is part k d. users_part f.config f.me v o h (part.0, part.1));
+  pulls = λ y is k d. pulls_of (PullPacked f.config f.me) (λ p base wanted content g. g) (carrying f.config) f (readers f.config f) from (λ p g. g.here) (SiteOut f.config f.me) v h.pulls
+      (λ o part ps. record { view = record { store = h.store; pulls = ps; tables = h.tables; reports = h.reports }; sent = part.0; told = part.1 }) y is (begins_lie f.config from f.me y k);
+  reported = λ group k d. record { view = record { store = h.store; pulls = h.pulls; tables = h.tables; reports = every_without (ReportPacked f.config f.me) (λ g. g) group v.reports h.reports }; sent = tt; told = tt };
+  forming = λ y is k d. quiet_site f.config f.me v h;
+}) x k d
 
 -- ---- adoptions ----
 

@@ -14,29 +14,31 @@ use Rattle.wire_messages.specs.declared.body.Body.{Body}
 use Rattle.wire_messages.specs.declared.body.Body.TheVariants as body
 use Rattle.role_steps.specs.Own.{Every}
 use Rattle.role_steps.specs.Tables.{row, without_row, first_that, sorted_onto, put_before}
-use Rattle.role_steps.specs.Views.{Frame, Users, SiteView, Promises, Outcome, Event, Calls, Receives, Ticks, Parts, Merges, GivesUp, quiet, sends, tells, and_then, joined_to}
-use Rattle.role_steps.specs.Reports.{new_table, on_report, on_closed, on_have, sync_repeats}
-use Rattle.role_steps.specs.Opens.{on_opened}
-use Rattle.role_steps.specs.Storage.{copy_of, instance_of, store_repeats}
+use Rattle.role_steps.specs.Views.{Frame, Users, SiteView, Promises, Outcome, Event, Calls, Receives, Ticks, Parts, Merges, GivesUp, quiet, sends, tells, and_then, joined_to, within}
+use Rattle.role_steps.specs.Reports.{new_table, sync_repeats}
+use Rattle.role_steps.specs.Storage.{copy_of, store_repeats}
 use Rattle.role_steps.specs.Pulling.{pull_repeats}
 use Rattle.role_steps.specs.Requests.{users_repeats}
 use Rattle.role_steps.specs.Using.{on_call, on_open_done, on_op_done, on_close_done, on_look_done, on_as_held}
 use Rattle.role_steps.specs.Versions.{file_row}
 use Rattle.role_steps.specs.Epochs.{is_epoch_below, frame_in, with_users, leaves_of, leaves, promised_view, promises, reached, poll_packet, polled_sites, polls, round_id, begins_round, starts_merge, boots_where, merge_boot, part_boot, starts_part_of, starts_part, promise_packet, refuse_packet, on_poll, on_promise_of, on_refuse_of, joined_view, report_packets, all_reports, joins, may_install, is_in, joined_packet, on_install, on_joined, passed_over, unanswered, chosen_set, chosen_members, others_of, install_packet, installs_all, decides_if, passes_over_of, passes_over, poll_repeats, install_repeats}
-use Rattle.role_steps.specs.Adoption.{notes_own_at, table_group, is_ready, adopts_pull, without_pull, adopts_first, with_adopted, fits_own}
-use Rattle.role_steps.specs.Mends.{mending, kept_stamps, has_mend_in, wants_mend, row_file, starts_mend_of, starts_mend, starts_mends_in}
+use Rattle.role_steps.specs.Adoption.{with_store, notes_own_at, table_group, is_ready, adopts_pull, without_pull, adopts_first, with_adopted, fits_own}
+use Rattle.role_steps.specs.Mends.{kept_stamps, has_mend_in, wants_mend, row_file, starts_mend_of, starts_mend, starts_mends_in}
 use Rattle.role_steps.specs.declared.pulls.Pull.{Pull}
 use Rattle.role_steps.specs.declared.rounds.InEpoch.{InEpoch}
 use Rattle.role_steps.specs.declared.rounds.Round.{Round}
 use Rattle.role_steps.specs.declared.synchronizing.SyncTable.{SyncTable}
 use Rattle.role_steps.specs.declared.synchronizing.FileRow.{FileRow}
 use Rattle.role_steps.proofs.Sending.{every_append, every_cond, every_map, every_flat_map}
-use Rattle.lock_laws.specs.of_the_run.Steps.{from_user, group_of, is_before, in_order, at_table_of, is_opened_in, takes_inside, is_dropped, takes_framed, takes, adopts_of, adopts_in, tries_at, starts_mends_of, ends_event, whole, repeats_inside, repeats_of, repeats, ticks_after, call_frame, epoch_id, takes_call, step}
+use Rattle.lock_laws.specs.of_law_walks.Laws.{TablePart}
+use Rattle.lock_laws.specs.of_the_run.Roles.{IsForUser}
+use Rattle.lock_laws.specs.of_the_run.Steps.{with_pulls, is_before, in_order, at_table_of, takes_inside, is_dropped, takes_framed, takes, adopts_of, adopts_in, tries_at, starts_mends_of, ends_event, whole, repeats_inside, repeats_of, repeats, ticks_after, call_frame, epoch_id, takes_call, step}
 use Rattle.lock_laws.proofs.of_the_run.Boots.{every_weaker}
-use Rattle.lock_laws.proofs.of_the_run.InsideSync.{every_row, Found, row_found, first_found}
+use Rattle.lock_laws.proofs.of_the_run.InsideSync.{every_row, Found, row_found}
+use Rattle.lock_laws.proofs.of_the_run.Roles.{by_role, tables_of, stores_by, readers_by, pulls_by}
 use Rattle.lock_laws.proofs.of_the_run.StepSends.{order_sent}
-use Rattle.pack_laws.specs.WriterAsking.{Serials, UsersFact, Noted, PacketFact, BodyFact, NoAsk, Askless, TableOk, StillTable, ViewFact, Fine}
-use Rattle.pack_laws.proofs.WriterServing.{sync_plain, sync_repeats_plain, on_opened_still, on_open_still, on_look_still, on_report_still, on_closed_still, have_ok, on_have_still, on_open_ss_still, on_close_still, on_closed_ok_still, on_look_ss_still, on_pull_still, on_op_still, on_notify_still, on_page_still, store_repeats_plain, pull_repeats_plain, on_read_held_still, on_want_still, on_delta_still}
+use Rattle.pack_laws.specs.WriterAsking.{Serials, UsersFact, Noted, PacketFact, BodyFact, NoAsk, Askless, TableOk, ViewFact, Fine}
+use Rattle.pack_laws.proofs.WriterServing.{asking, tables, stores, versions, back, answer_asks_none, sync_plain, sync_repeats_plain, have_ok, store_repeats_plain, pull_repeats_plain}
 use Rattle.pack_laws.proofs.WriterUserAsks.{UsersFine, Gives, users_repeats_fact, on_call_gives, on_open_done_gives, on_op_done_gives, on_close_done_gives, on_look_done_gives, users_left, on_as_held_gives}
 
 -- ---- lists ----
@@ -256,46 +258,35 @@ ends_gives c G me links v h =
 
 -- ---- packets inside the epoch ----
 
-table_keeps : (c : Config) (G : Serials) (g : SyncTable → Outcome SyncTable) (o : Option SyncTable) (v : SiteView) → (Every TableOk v.tables → Found TableOk o) → ((t : SyncTable) → TableOk t → StillTable (g t)) → ViewFact c G v → SiteGives c G (at_table_of g o v)
-table_keeps c G g None v found still h noted = kept_fine c G v (quiet v) (quiet_keeps c G v) h
-table_keeps c G g (Some t) v found still h noted = let r : StillTable (g t) = still t (found h.tables) in record { view = record { users = h.users; tables = every_row TableOk table_group (g t).view v.tables r.3 h.tables }; sent = askless G (g t).sent r.0 }
-
-group_keeps : (c : Config) (G : Serials) (g : SyncTable → Outcome SyncTable) (group : ℕ) (v : SiteView) → ((t : SyncTable) → TableOk t → StillTable (g t)) → ViewFact c G v → SiteGives c G (at_table_of g (row table_group group v.tables) v)
-group_keeps c G g group v still h = table_keeps c G g (row table_group group v.tables) v (row_found TableOk table_group group v.tables) still h
-
 -- an outcome that leaves users and tables
 part_gives : (c : Config) (G : Serials) (v : SiteView) (o : Outcome SiteView) → o.view.users ≡ v.users → o.view.tables ≡ v.tables → Every Askless o.sent → ViewFact c G v → SiteGives c G o
 part_gives c G v o users tables sent h = kept_gives c G v o (alike_keeps c G v o users tables sent) h
 
+table_gives : (c : Config) (G : Serials) (g : SyncTable → Outcome SyncTable) (o : Option SyncTable) (v : SiteView) → Found TableOk o → ((t : SyncTable) → TableOk t → TablePart asking t (g t)) → ViewFact c G v → SiteGives c G (at_table_of g o v)
+table_gives c G g None v found still h noted = kept_fine c G v (quiet v) (quiet_keeps c G v) h
+table_gives c G g (Some t) v found still h noted = let r : TablePart asking t (g t) = still t found in record { view = record { users = h.users; tables = every_row TableOk table_group (g t).view v.tables r.3 h.tables }; sent = askless G (g t).sent r.0 }
+
+users_give : (G : Serials) (f : Frame) (from : ℕ) (v : SiteView) → ViewFact f.config G v → (x : Body) → IsForUser x → SiteGives f.config G (takes_inside f from x v)
+users_give G f from v h (body.OpenDone serial answer) is = users_gives f.config G v (on_open_done f (kept_stamps v) serial answer v.users) (on_open_done_gives G f (kept_stamps v) serial answer v.users h.users) h
+users_give G f from v h (body.OpDone serial n result) is = users_gives f.config G v (on_op_done f serial n result v.users) (on_op_done_gives G f serial n result v.users h.users) h
+users_give G f from v h (body.AsHeld serial n len) is = users_gives f.config G v (on_as_held f serial n v.users) (on_as_held_gives G f serial n v.users h.users) h
+users_give G f from v h (body.CloseDone serial answer) is = users_gives f.config G v (on_close_done f serial answer v.users) (on_close_done_gives G f serial answer v.users h.users) h
+users_give G f from v h (body.LookDone call request take answer) is = users_gives f.config G v (on_look_done f call request take answer v.users) (on_look_done_gives G f call request take answer v.users h.users) h
+users_give G f from v h _ is = absurd is
+
 inside_gives : (G : Serials) (f : Frame) (from : ℕ) (x : Body) (v : SiteView) → ViewFact f.config G v → SiteGives f.config G (takes_inside f from x v)
-inside_gives G f from (body.Report group copies) v h = group_keeps f.config G (on_report f from copies) group v (on_report_still f from copies) h
-inside_gives G f from (body.ReportOk group) v h = part_gives f.config G v _ refl refl tt h
-inside_gives G f from (body.Open serial call process request file how) v h = group_keeps f.config G _ file.group v (on_open_still f from (record { serial = serial; call = call; process = process; request = request; file = file; how = how })) h
-inside_gives G f from (body.OpenSs inst file mode set kind base vector parents) v h = part_gives f.config G v _ refl refl (on_open_ss_still f _ v.store).0 h
-inside_gives G f from (body.Opened inst answer) v h = table_keeps f.config G (on_opened f inst answer) (first_that (is_opened_in inst) v.tables) v (first_found TableOk (is_opened_in inst) v.tables) (on_opened_still f inst answer) h
-inside_gives G f from (body.OpenDone serial answer) v h = users_gives f.config G v (on_open_done f (kept_stamps v) serial answer v.users) (on_open_done_gives G f (kept_stamps v) serial answer v.users h.users) h
-inside_gives G f from (body.Op serial n o seen) v h = part_gives f.config G v _ refl refl (on_op_still f (mending v (group_of (instance_of v.store (from_user from serial)))) (from_user from serial) n o seen v.store).0 h
-inside_gives G f from (body.ReadHeld serial n at len) v h = part_gives f.config G v _ refl refl (on_read_held_still f (from_user from serial) n at len v.store).0 h
-inside_gives G f from (body.OpDone serial n result) v h = users_gives f.config G v (on_op_done f serial n result v.users) (on_op_done_gives G f serial n result v.users h.users) h
-inside_gives G f from (body.AsHeld serial n len) v h = users_gives f.config G v (on_as_held f serial n v.users) (on_as_held_gives G f serial n v.users h.users) h
-inside_gives G f from (body.Close serial) v h = part_gives f.config G v _ refl refl (on_close_still f (from_user from serial) v.store).0 h
-inside_gives G f from (body.Closed inst made) v h = table_keeps f.config G (on_closed f from inst made) (first_that (is_opened_in inst) v.tables) v (first_found TableOk (is_opened_in inst) v.tables) (on_closed_still f from inst made) h
-inside_gives G f from (body.ClosedOk inst) v h = part_gives f.config G v _ refl refl (on_closed_ok_still f inst v.store).0 h
-inside_gives G f from (body.CloseDone serial answer) v h = users_gives f.config G v (on_close_done f serial answer v.users) (on_close_done_gives G f serial answer v.users h.users) h
-inside_gives G f from (body.Look call process request take file what) v h = group_keeps f.config G _ file.group v (on_look_still f from (record { call = call; process = process; request = request; take = take; file = file; what = what })) h
-inside_gives G f from (body.LookSs us call process request take file what serve) v h = part_gives f.config G v _ refl refl (on_look_ss_still f us (record { call = call; process = process; request = request; take = take; file = file; what = what }) serve v.store).0 h
-inside_gives G f from (body.LookDone call request take answer) v h = users_gives f.config G v (on_look_done f call request take answer v.users) (on_look_done_gives G f call request take answer v.users h.users) h
-inside_gives G f from (body.Notify file kind set size stamp vector holder) v h = part_gives f.config G v _ refl refl (on_notify_still f from (copy_of v.store file) (record { file = file; kind = kind; set = set; size = size; stamp = stamp; vector = vector; holder = holder; base = None; wanted = None; content = [] }) v.pulls).0 h
-inside_gives G f from (body.Pull file stamp page) v h = part_gives f.config G v _ refl refl (on_pull_still f from file stamp page v.store).0 h
-inside_gives G f from (body.Want file wanted own) v h = part_gives f.config G v _ refl refl (on_want_still f from file wanted own v.store).0 h
-inside_gives G f from (body.Page file stamp page bytes) v h = part_gives f.config G v _ refl refl (on_page_still f file stamp page bytes v.pulls).0 h
-inside_gives G f from (body.Delta file wanted pages) v h = part_gives f.config G v _ refl refl (on_delta_still f (copy_of v.store file) file wanted pages v.pulls).0 h
-inside_gives G f from (body.Have file stamp) v h = group_keeps f.config G (on_have from file stamp) file.group v (on_have_still from file stamp) h
-inside_gives G f from body.Poll v h = kept_gives f.config G v (quiet v) (quiet_keeps f.config G v) h
-inside_gives G f from (body.Promise reach) v h = kept_gives f.config G v (quiet v) (quiet_keeps f.config G v) h
-inside_gives G f from (body.Refuse promised) v h = kept_gives f.config G v (quiet v) (quiet_keeps f.config G v) h
-inside_gives G f from (body.Install members) v h = kept_gives f.config G v (quiet v) (quiet_keeps f.config G v) h
-inside_gives G f from body.Joined v h = kept_gives f.config G v (quiet v) (quiet_keeps f.config G v) h
+inside_gives G f from x v h = by_role Q f from v (record {
+  tables = tables_of Q asking f from v (tables f) (back f from) h.tables (λ y g o is found still. table_gives f.config G g o v found still h);
+  stores = stores_by Q asking f from v (stores f) versions (λ y o is part. part_gives f.config G v (within (with_store v) o) refl refl part.0 h);
+  readers = readers_by Q asking f from v (stores f).reads answer_asks_none (λ y o is same part. part_gives f.config G v (within (with_store v) o) refl refl part.0 h);
+  users = users_give G f from v h;
+  pulls = pulls_by Q asking f from v (stores f).reads answer_asks_none (λ y o is part. part_gives f.config G v (within (with_pulls v) o) refl refl part.0 h);
+  reported = λ group. part_gives f.config G v (takes_inside f from (body.ReportOk group) v) refl refl tt h;
+  forming = λ y is. kept_gives f.config G v (quiet v) (quiet_keeps f.config G v) h;
+}) x
+  where
+    Q : Body → Outcome SiteView → Type 0
+    Q y o = SiteGives f.config G o
 
 framed_gives : (c : Config) (G : Serials) (me : ℕ) (p : Packet) (e : Option InEpoch) (v : SiteView) → ViewFact c G v → SiteGives c G (takes_framed c me p e v)
 framed_gives c G me p None v h = kept_gives c G v (quiet v) (quiet_keeps c G v) h

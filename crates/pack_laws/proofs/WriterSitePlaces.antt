@@ -1,5 +1,5 @@
 -- Each plain grant that an event tells is of an open that is sent on in the same event to the site that it names.
-use Rattle.std.proofs.Common.{◌≡◌, ℕ, ◌+◌, true, false, ◌&&◌, not, cond, List, [], ◌∷◌, ◌++◌, Option, Some, None, refl, sym, subst}
+use Rattle.std.proofs.Common.{◌≡◌, ℕ, ◌+◌, true, false, ◌&&◌, not, cond, List, [], ◌∷◌, ◌++◌, Option, Some, None, refl, subst}
 use Rattle.locus_ids.specs.Sites.{has}
 use Rattle.locus_ids.specs.declared.ids.EpochId.{EpochId}
 use Rattle.locus_ids.specs.declared.ids.Mode.{Mode}
@@ -24,18 +24,17 @@ use Rattle.wire_messages.specs.declared.body.MadeVersion.{MadeVersion}
 use Rattle.wire_messages.specs.declared.body.ReportedCopy.{ReportedCopy}
 use Rattle.role_steps.specs.Own.{Every}
 use Rattle.role_steps.specs.Tables.{row, first_that}
-use Rattle.role_steps.specs.Views.{Frame, SiteView, Told, Shown, Promises, Outcome, Event, Calls, Receives, Ticks, Parts, Merges, GivesUp, quiet, sends, tells, and_then, joined_to, first_written, packet, serial_key, process_key}
+use Rattle.role_steps.specs.Views.{Frame, SiteView, Told, Shown, Promises, Outcome, Event, Calls, Receives, Ticks, Parts, Merges, GivesUp, quiet, sends, tells, and_then, joined_to, within, first_written, packet, serial_key, process_key}
 use Rattle.role_steps.specs.Opens.{OpenRequest, Decision, Denies, Grants, decision, decides, asked_row, granted_row, granted_at_once, granted_at_last, on_open_of, takes_open, open_row, answers_open, by_stage, on_opened_of, on_opened}
 use Rattle.role_steps.specs.Looks.{LookRequest, is_look_before, is_same_look, new_look, after_last, takes_look, look_key}
 use Rattle.role_steps.specs.Reports.{waits_early, on_open, on_look, takes_early, takes_all_early, starts, starts_if, have_all_reported, counts_report, with_report, on_report, closes_at, on_closed_of, on_closed, on_have}
 use Rattle.role_steps.specs.Notices.{notices}
-use Rattle.role_steps.specs.Storage.{copy_of, instance_of}
-use Rattle.role_steps.specs.Pulling.{pull_of, pages_in}
+use Rattle.role_steps.specs.Storage.{copy_of}
 use Rattle.role_steps.specs.Using.{on_call, reply_record}
 use Rattle.role_steps.specs.Versions.{file_row}
-use Rattle.role_steps.specs.Epochs.{is_epoch_below, frame_in, leaves_of, leaves, promised_view, promises, reached, polls, round_id, begins_round, starts_merge, boots_where, merge_boot, part_boot, starts_part_of, starts_part, promise_packet, refuse_packet, on_poll, on_promise_of, on_refuse_of, joins, may_install, is_in, joined_packet, on_install, on_joined, passed_over, unanswered, decides_if, passes_over_of, passes_over}
-use Rattle.role_steps.specs.Adoption.{table_group, is_ready, adopts_pull, without_pull, adopts_first, fits_own}
-use Rattle.role_steps.specs.Mends.{mending, kept_stamps, has_mend_in, wants_mend, row_file, starts_mend_of, starts_mend, starts_mends_in}
+use Rattle.role_steps.specs.Epochs.{with_users, is_epoch_below, frame_in, leaves_of, leaves, promised_view, promises, reached, polls, round_id, begins_round, starts_merge, boots_where, merge_boot, part_boot, starts_part_of, starts_part, promise_packet, refuse_packet, on_poll, on_promise_of, on_refuse_of, joins, may_install, is_in, joined_packet, on_install, on_joined, passed_over, unanswered, decides_if, passes_over_of, passes_over}
+use Rattle.role_steps.specs.Adoption.{with_store, table_group, is_ready, adopts_pull, without_pull, adopts_first, fits_own}
+use Rattle.role_steps.specs.Mends.{has_mend_in, wants_mend, row_file, starts_mend_of, starts_mend, starts_mends_in}
 use Rattle.role_steps.specs.declared.pulls.Pull.{Pull}
 use Rattle.role_steps.specs.declared.rounds.InEpoch.{InEpoch}
 use Rattle.role_steps.specs.declared.rounds.Round.{Round}
@@ -48,13 +47,14 @@ use Rattle.role_steps.specs.declared.synchronizing.LastLook.{LastLook}
 use Rattle.role_steps.specs.declared.synchronizing.Early.{Early}
 use Rattle.role_steps.specs.declared.users.WaitingCall.{WaitingCall}
 use Rattle.role_steps.proofs.Sending.{every_append, every_map}
-use Rattle.lock_laws.specs.of_the_run.Steps.{from_user, group_of, in_order, at_table_of, is_opened_in, takes_inside, is_dropped, takes_framed, takes, adopts_of, adopts_in, tries_at, starts_mends_of, ends_event, whole, repeats, ticks_after, call_frame, epoch_id, takes_call, step}
+use Rattle.lock_laws.specs.of_the_run.Roles.{IsForTable}
+use Rattle.lock_laws.specs.of_the_run.Steps.{with_pulls, in_order, at_table_of, is_opened_in, takes_inside, is_dropped, takes_framed, takes, adopts_of, adopts_in, tries_at, starts_mends_of, ends_event, whole, repeats, ticks_after, call_frame, epoch_id, takes_call, step}
 use Rattle.lock_laws.proofs.of_the_run.Boots.{every_weaker}
+use Rattle.lock_laws.proofs.of_the_run.Roles.{by_role, stores_by, readers_by, users_by, pulls_by}
 use Rattle.lock_laws.proofs.of_run_laws.Telling.{on_opened_talks, on_open_talks, on_look_talks, on_report_talks, on_closed_talks}
 use Rattle.lock_laws.specs.Locks.{IsOfAFile}
-use Rattle.lock_laws.proofs.StepFacts.{notify_silent, page_silent, delta_silent}
 use Rattle.lock_laws.proofs.GrantTold.{BareRecord, Bare}
-use Rattle.lock_laws.proofs.BareRoles.{BareWrite, on_call_bare, on_open_done_bare, on_op_done_bare, on_as_held_bare, on_close_done_bare, on_look_done_bare, on_open_ss_bare, on_close_bare, on_closed_ok_bare, on_op_bare, on_read_held_bare}
+use Rattle.lock_laws.proofs.BareRoles.{BareWrite, stores, versions, users, on_call_bare}
 use Rattle.lock_laws.proofs.GrantSites.{none_bare, first_bare}
 use Rattle.pack_laws.specs.WriterGranting.{Places, Noted, PlacedRecord, PlacedTold}
 use Rattle.pack_laws.proofs.WriterSiteAsks.{every_first, every_last, order_back}
@@ -310,41 +310,28 @@ table_tells : (P : Places) (g : SyncTable → Outcome SyncTable) (o : Option Syn
 table_tells P g None v h none noted = record { told = tt; written = tt }
 table_tells P g (Some t) v h none noted = record { told = h t noted; written = none_bare (g t).written (none t) }
 
+tables_tell : (P : Places) (f : Frame) (from : ℕ) (v : SiteView) → (x : Body) → IsForTable x → SiteTells P (takes_inside f from x v)
+tables_tell P f from v (body.Report group copies) is = table_tells P (on_report f from copies) (row table_group group v.tables) v (on_report_tells P f from copies) (λ t. (on_report_talks f from copies t).1)
+tables_tell P f from v (body.Open serial call process request file how) is = table_tells P _ (row table_group file.group v.tables) v (on_open_tells P f from (record { serial = serial; call = call; process = process; request = request; file = file; how = how })) (λ t. (on_open_talks f from (record { serial = serial; call = call; process = process; request = request; file = file; how = how }) t).1)
+tables_tell P f from v (body.Opened inst answer) is = table_tells P (on_opened f inst answer) (first_that (is_opened_in inst) v.tables) v (on_opened_tells P f inst answer) (λ t. (on_opened_talks f inst answer t).1)
+tables_tell P f from v (body.Closed inst made) is = table_tells P (on_closed f from inst made) (first_that (is_opened_in inst) v.tables) v (on_closed_tells P f from inst made) (λ t. (on_closed_talks f from inst made t).1)
+tables_tell P f from v (body.Look call process request take file what) is = table_tells P _ (row table_group file.group v.tables) v (on_look_tells P f from (record { call = call; process = process; request = request; take = take; file = file; what = what })) (λ t. (on_look_talks f from (record { call = call; process = process; request = request; take = take; file = file; what = what }) t).1)
+tables_tell P f from v (body.Have file stamp) is = table_tells P (on_have from file stamp) (row table_group file.group v.tables) v (λ t noted. tt) (λ t. refl)
+tables_tell P f from v _ is = absurd is
+
 inside_tells : (P : Places) (f : Frame) (from : ℕ) (x : Body) (v : SiteView) → SiteTells P (takes_inside f from x v)
-inside_tells P f from (body.Report group copies) v = table_tells P (on_report f from copies) (row table_group group v.tables) v (on_report_tells P f from copies) (λ t. (on_report_talks f from copies t).1)
-inside_tells P f from (body.ReportOk group) v = bare_tells P _ tt tt
-inside_tells P f from (body.Open serial call process request file how) v = table_tells P _ (row table_group file.group v.tables) v (on_open_tells P f from (record { serial = serial; call = call; process = process; request = request; file = file; how = how })) (λ t. (on_open_talks f from (record { serial = serial; call = call; process = process; request = request; file = file; how = how }) t).1)
-inside_tells P f from (body.OpenSs inst file mode set kind base vector parents) v = (let k : Every Bare _ × BareWrite _ = on_open_ss_bare f (record { inst = inst; file = file; mode = mode; set = set; kind = kind; base = base; vector = vector; parents = parents }) v.store in bare_tells P _ k.0 k.1)
-inside_tells P f from (body.Opened inst answer) v = table_tells P (on_opened f inst answer) (first_that (is_opened_in inst) v.tables) v (on_opened_tells P f inst answer) (λ t. (on_opened_talks f inst answer t).1)
-inside_tells P f from (body.OpenDone serial answer) v = none_tells P _ (on_open_done_bare f (kept_stamps v) serial answer v.users).0 (on_open_done_bare f (kept_stamps v) serial answer v.users).1
-inside_tells P f from (body.Op serial n o seen) v = bare_tells P _ (on_op_bare f (mending v (group_of (instance_of v.store (from_user from serial)))) (from_user from serial) n o seen v.store).0 (on_op_bare f (mending v (group_of (instance_of v.store (from_user from serial)))) (from_user from serial) n o seen v.store).1
-inside_tells P f from (body.ReadHeld serial n at len) v = bare_tells P _ (on_read_held_bare f (from_user from serial) n at len v.store).0 (on_read_held_bare f (from_user from serial) n at len v.store).1
-inside_tells P f from (body.OpDone serial n result) v = none_tells P _ (on_op_done_bare f serial n result v.users).0 (on_op_done_bare f serial n result v.users).1
-inside_tells P f from (body.AsHeld serial n len) v = none_tells P _ (on_as_held_bare f serial n v.users).0 (on_as_held_bare f serial n v.users).1
-inside_tells P f from (body.Close serial) v = bare_tells P _ (on_close_bare f (from_user from serial) v.store).0 (on_close_bare f (from_user from serial) v.store).1
-inside_tells P f from (body.Closed inst made) v = table_tells P (on_closed f from inst made) (first_that (is_opened_in inst) v.tables) v (on_closed_tells P f from inst made) (λ t. (on_closed_talks f from inst made t).1)
-inside_tells P f from (body.ClosedOk inst) v = bare_tells P _ (on_closed_ok_bare f inst v.store).0 (on_closed_ok_bare f inst v.store).1
-inside_tells P f from (body.CloseDone serial answer) v = none_tells P _ (on_close_done_bare f serial answer v.users).0 (on_close_done_bare f serial answer v.users).1
-inside_tells P f from (body.Look call process request take file what) v = table_tells P _ (row table_group file.group v.tables) v (on_look_tells P f from (record { call = call; process = process; request = request; take = take; file = file; what = what })) (λ t. (on_look_talks f from (record { call = call; process = process; request = request; take = take; file = file; what = what }) t).1)
-inside_tells P f from (body.LookSs us call process request take file what serve) v = bare_tells P _ tt tt
-inside_tells P f from (body.LookDone call request take answer) v = none_tells P _ (on_look_done_bare f call request take answer v.users).0 (on_look_done_bare f call request take answer v.users).1
-inside_tells P f from (body.Notify file kind set size stamp vector holder) v =
-    let s : _ × _ = notify_silent f from (copy_of v.store file) (record { file = file; kind = kind; set = set; size = size; stamp = stamp; vector = vector; holder = holder; base = None; wanted = None; content = [] }) v.pulls in
-    none_tells P _ (subst (λ (xs : List Told). Every Bare xs) (sym s.0) tt) s.1
-inside_tells P f from (body.Pull file stamp page) v = bare_tells P _ tt tt
-inside_tells P f from (body.Want file wanted own) v = bare_tells P _ tt tt
-inside_tells P f from (body.Page file stamp page bytes) v =
-    let s : _ × _ = page_silent f stamp page bytes (pull_of v.pulls file) v.pulls in
-    none_tells P _ (subst (λ (xs : List Told). Every Bare xs) (sym s.0) tt) s.1
-inside_tells P f from (body.Delta file wanted pages) v =
-    let s : _ × _ = delta_silent f (pages_in (copy_of v.store file)) wanted pages (pull_of v.pulls file) v.pulls in
-    none_tells P _ (subst (λ (xs : List Told). Every Bare xs) (sym s.0) tt) s.1
-inside_tells P f from (body.Have file stamp) v = table_tells P (on_have from file stamp) (row table_group file.group v.tables) v (λ t noted. tt) (λ t. refl)
-inside_tells P f from body.Poll v = quiet_tells P v
-inside_tells P f from (body.Promise reach) v = quiet_tells P v
-inside_tells P f from (body.Refuse promised) v = quiet_tells P v
-inside_tells P f from (body.Install members) v = quiet_tells P v
-inside_tells P f from body.Joined v = quiet_tells P v
+inside_tells P f from x v = by_role Q f from v (record {
+  tables = tables_tell P f from v;
+  stores = stores_by Q _ f from v (stores f) versions (λ y o is part. bare_tells P (within (with_store v) o) part.1 part.2);
+  readers = readers_by Q _ f from v (stores f).reads (λ b is. tt) (λ y o is same part. bare_tells P (within (with_store v) o) part.1 part.2);
+  users = users_by Q _ f from v (users f) (λ y o is part. none_tells P (within (with_users v) o) part.1 part.2);
+  pulls = pulls_by Q _ f from v (stores f).reads (λ b is. tt) (λ y o is part. bare_tells P (within (with_pulls v) o) part.1 part.2);
+  reported = λ group. bare_tells P (takes_inside f from (body.ReportOk group) v) tt tt;
+  forming = λ y is. quiet_tells P v;
+}) x
+  where
+    Q : Body → Outcome SiteView → Type 0
+    Q y o = SiteTells P o
 
 framed_tells : (P : Places) (c : Config) (me : ℕ) (p : Packet) (e : Option InEpoch) (v : SiteView) → SiteTells P (takes_framed c me p e v)
 framed_tells P c me p None v = quiet_tells P v

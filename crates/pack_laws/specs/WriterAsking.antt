@@ -21,7 +21,6 @@ use Rattle.role_steps.specs.declared.users.Asking.{Asking}
 use Rattle.role_steps.specs.declared.users.Asking.TheVariants as asking
 use Rattle.role_steps.specs.declared.users.WaitingCall.{WaitingCall}
 use Rattle.role_steps.specs.declared.users.DescriptorRow.{DescriptorRow}
-use Rattle.lock_laws.specs.of_the_run.Joins.{NoJoin, NoWrite}
 use Rattle.lock_laws.specs.of_the_run.Kept.{Among}
 use Rattle.lock_laws.specs.of_the_run.Worlds.{World, Numbered}
 use Rattle.pack_laws.specs.InstanceLaws.{AsksOpen}
@@ -131,17 +130,11 @@ NoAsk _ = Unit {0}
 abbrev pub Askless : Packet → Type 0
 Askless p = NoAsk p.body
 
-abbrev pub Still : {V : Type 0} → Outcome V → Type 0
-Still o = Every Askless o.sent × Every NoJoin o.told × NoWrite o.written
-
 abbrev pub LookOk : LastLook → Type 0
 LookOk l = NoAsk l.body
 
 abbrev pub TableOk : SyncTable → Type 0
 TableOk t = Every LookOk t.looks
-
-abbrev pub StillTable : Outcome SyncTable → Type 0
-StillTable o = Every Askless o.sent × Every NoJoin o.told × NoWrite o.written × TableOk o.view
 
 -- ---- a site ----
 
