@@ -1,9 +1,9 @@
 ghost use Rattle.std.specs.Prelude.{◌≡◌, ◌<◌, ◌^◌, ◌⊎◌, length, Ok, Err, IfOk};
 ghost use Rattle.field_codec.specs.Codec.{whole};
-ghost use Rattle.field_codec.specs.Reads.{Reads, ReadsInMemory, ReadsWhole};
+ghost use Rattle.field_codec.specs.Reads.{Reads};
 ghost use Rattle.wire_messages.specs.declared.packet.Packet.{Packet};
 ghost use Rattle.wire_messages.specs.Packets.{headers, packets, IsPacket};
-ghost use Rattle.wire_reading.specs.Decoding.{seen_header, place_of, Decodes};
+ghost use Rattle.wire_reading.specs.Decoding.{seen_header, Decodes};
 
 use crate::read_bodies::read_body;
 use field_codec::{FieldFault, Fields, ReadError};
@@ -54,10 +54,42 @@ fn read_heading(fields: &mut Fields) -> Result<Heading, FieldFault>
     })
 }
 
-fn read_packet(alloc: Global, fields: &mut Fields) -> Result<Packet, ReadError>
-    ensures { ReadsInMemory packets (λ packet. packet) fields.old result fields.new }
+impl From<FieldFault> for NotAPacket {
+    ghost use Rattle.std.specs.Prelude.{◌≡◌};
+    ghost use Rattle.wire_reading.specs.declared.decoder.NotAPacket.TheVariants.{At};
+    ghost use Rattle.wire_reading.specs.Decoding.{place_of};
+
+    ghost from_gives = { λ fault error. error ≡ At (place_of fault) };
+
+    fn from(fault: FieldFault) -> NotAPacket {
+        match fault {
+            FieldFault::Short { at } => NotAPacket::At { at },
+            FieldFault::Range { at } => NotAPacket::At { at },
+        }
+    }
+}
+
+impl From<ReadError> for NotAPacket {
+    ghost use Rattle.std.specs.Prelude.{◌≡◌};
+    ghost use Rattle.wire_reading.specs.Decoding.{refusal_of};
+
+    ghost from_gives = { λ fault error. error ≡ refusal_of fault };
+
+    fn from(fault: ReadError) -> NotAPacket {
+        match fault {
+            ReadError::Field(fault) => NotAPacket::from(fault),
+            ReadError::NoMemory => NotAPacket::NoMemory,
+        }
+    }
+}
+
+/// The packet that the bytes are, or why they are none. It is read in one place, so that it is moved as seldom as may be.
+fn read_whole(alloc: Global, bytes: &[u8]) -> Result<Packet, NotAPacket>
+    requires { length bytes.now < 2 ^ 32 }
+    ensures { Decodes (whole packets bytes.now) result }
 {
-    let heading = read_heading(fields)?;
+    let mut fields = Fields::new(bytes);
+    let heading = read_heading(&mut fields)?;
     let mut inner = fields.frame()?;
     let body = read_body(alloc, heading.kind, &mut inner)?;
     let packet = Packet {
@@ -69,37 +101,8 @@ fn read_packet(alloc: Global, fields: &mut Fields) -> Result<Packet, ReadError>
         body,
     };
     inner.end()?;
-    Ok(packet)
-}
-
-fn read_whole(alloc: Global, bytes: &[u8]) -> Result<Packet, ReadError>
-    requires { length bytes.now < 2 ^ 32 }
-    ensures { ReadsWhole packets (λ packet. packet) bytes.now result }
-{
-    let mut fields = Fields::new(bytes);
-    let packet = read_packet(alloc, &mut fields)?;
     fields.end()?;
     Ok(packet)
-}
-
-fn placed(fault: FieldFault) -> NotAPacket
-    ensures { result ≡ NotAPacket.At (place_of fault) }
-{
-    match fault {
-        FieldFault::Short { at } => NotAPacket::At { at },
-        FieldFault::Range { at } => NotAPacket::At { at },
-    }
-}
-
-fn read_placed(alloc: Global, bytes: &[u8]) -> Result<Packet, NotAPacket>
-    requires { length bytes.now < 2 ^ 32 }
-    ensures { Decodes (whole packets bytes.now) result }
-{
-    match read_whole(alloc, bytes) {
-        Ok(packet) => Ok(packet),
-        Err(ReadError::Field(fault)) => Err(placed(fault)),
-        Err(ReadError::NoMemory) => Err(NotAPacket::NoMemory),
-    }
 }
 
 /// The packet that the bytes are.
@@ -112,5 +115,5 @@ pub fn decode(alloc: Global, bytes: &[u8]) -> Result<Packet, NotAPacket>
     // A refusal names the first field from the left that is short or out of range, or the first byte left over.
     ensures place { Decodes (whole packets bytes.now) result }
 {
-    read_placed(alloc, bytes)
+    read_whole(alloc, bytes)
 }
