@@ -6,6 +6,7 @@ pub mod LosingLists
 pub mod NamedPages
 pub mod Numbers
 pub mod New
+pub mod NoneOpen
 pub mod PageTimes
 pub mod Reading
 pub mod SharedPage

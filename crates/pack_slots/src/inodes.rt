@@ -1,21 +1,24 @@
 // The slots of all inodes.
-ghost use Rattle.std.specs.Prelude.{◌≡◌, ℕ, ◌+◌, ◌-◌, ◌≤◌, Some, None, [], ◌∷◌, ◌++◌, length, slice_index_or, OnOk, IfOk, IfErr, IfSome};
+ghost use Rattle.std.specs.Prelude.{◌≡◌, ℕ, ◌+◌, ◌-◌, ◌≤◌, false, Some, None, List, [], ◌∷◌, ◌++◌, length, slice_index_or, OnOk, IfOk, IfErr, IfSome};
 ghost use Rattle.locus_ids.specs.Sizes.{inodes_max};
 ghost use Rattle.disk_model.specs.Disk.{Goes, HasCause, TellsRead};
-ghost use Rattle.disk_model.specs.Images.{Same};
-ghost use Rattle.pack_layout.specs.Layout.{area_length};
+ghost use Rattle.disk_model.specs.Images.{bytes_at, Same};
+ghost use Rattle.pack_layout.specs.Layout.{layout, area_length, slot_at};
+ghost use Rattle.pack_layout.specs.declared.half.Half.TheVariants.{First, Second};
 ghost use Rattle.pack_slots.specs.Copies.{copy_of};
 ghost use Rattle.pack_slots.specs.Slots.{IsGoodInode};
 ghost use Rattle.pack_slots.specs.Mounting.{IsPassing, disk_answer};
 ghost use Rattle.pack_slots.specs.Losing.{AreSlotsFound};
 ghost use Rattle.pack_slots.specs.Tables.{IsUnread};
 ghost use Rattle.pack_slots.specs.Found.{copy_in, is_beside, copy_kept, loses_kept, first_bad};
+ghost use Rattle.pack_slots.specs.NextInode.{AddsInode};
 
-use crate::slots::{Found, read_inode};
+use crate::slots::{Found, are_shut, read_both, read_slots};
 use crate::{InodeCopy, MountFault};
 use disk_model::Disk;
-use locus_ids::NoMemory;
 use locus_ids::sizes::INODES;
+use locus_ids::{Ino, NoMemory};
+use pack_layout::layout::SLOT_LENGTH;
 use pack_layout::{BadSlot, nth_inode};
 use std::alloc::Global;
 
@@ -43,7 +46,21 @@ impl Inodes {
         Ok(())
     }
 
+    /// Adds that no slot of the next inode is open.
+    #[inline]
+    fn push_none(&mut self) -> Result<(), NoMemory>
+        ensures copies { OnOk result (self.new.copies.items ≡ self.old.copies.items ++ None ∷ []) }
+        ensures losing { OnOk result (self.new.losing.items ≡ self.old.losing.items ++ false ∷ []) }
+        ensures bad { self.new.bad ≡ self.old.bad }
+    {
+        self.copies.push(None)?;
+        self.losing.push(false)?;
+        Ok(())
+    }
+
     /// Adds what was read of the slots of the next inode.
+    #[cold]
+    #[inline(never)]
     fn add(&mut self, ino: u16, read: Result<Found, BadSlot>) -> Result<(), NoMemory>
         ensures copies { OnOk result (self.new.copies.items ≡ self.old.copies.items ++ copy_kept self.old.bad read ∷ []) }
         ensures losing { OnOk result (self.new.losing.items ≡ self.old.losing.items ++ loses_kept self.old.bad read ∷ []) }
@@ -59,6 +76,26 @@ impl Inodes {
                 self.push(Found::Nothing)
             }
         }
+    }
+
+    /// Adds what the bytes of the slots of the next inode say. Of nearly all inodes no slot is open.
+    #[inline]
+    fn add_next(
+        &mut self,
+        alloc: Global,
+        ino: Ino,
+        first: &[u8; SLOT_LENGTH],
+        second: &[u8; SLOT_LENGTH],
+    ) -> Result<(), NoMemory>
+        ensures { OnOk result ((base : ℕ) (image : List ℕ) → first.now ≡ bytes_at image (slot_at base ino First) layout.slot_length → second.now ≡ bytes_at image (slot_at base ino Second) layout.slot_length → AddsInode base ino image self.old self.new) }
+    {
+        if are_shut(first, second) {
+            self.push_none()?;
+            return Ok(());
+        }
+        let read = read_both(alloc, ino, first, second);
+        self.add(ino.get(), read)?;
+        Ok(())
     }
 }
 
@@ -89,8 +126,11 @@ pub(crate) fn read_inodes<D: Disk>(
         bad: None,
     };
     for i in 0..INODES {
-        let read = read_inode(alloc, disk, base, nth_inode(i))?;
-        inodes.add(i + 1, read)?;
+        let ino = nth_inode(i);
+        let mut first = [0; SLOT_LENGTH];
+        let mut second = [0; SLOT_LENGTH];
+        read_slots(disk, base, ino, &mut first, &mut second)?;
+        inodes.add_next(alloc, ino, &first, &second)?;
     }
     Ok(inodes)
 }

@@ -1,9 +1,9 @@
 // The two slots of an inode.
-ghost use Rattle.std.specs.Prelude.{◌≡◌, ℕ, ◌+◌, ◌≤◌, List, [], length, Ok, IfOk, IfErr, IfSome};
+ghost use Rattle.std.specs.Prelude.{◌≡◌, ◌≢◌, ℕ, ◌+◌, ◌≤◌, List, [], true, length, slice_index, Ok, OnOk, IfOk, IfErr, IfSome};
 ghost use Rattle.disk_model.specs.Disk.{Goes, HasCause, TellsRead};
-ghost use Rattle.disk_model.specs.Images.{Same};
+ghost use Rattle.disk_model.specs.Images.{bytes_at, Same};
 ghost use Rattle.pack_layout.specs.declared.half.Half.TheVariants.{First, Second};
-ghost use Rattle.pack_layout.specs.Layout.{area_length, slot_at};
+ghost use Rattle.pack_layout.specs.Layout.{layout, area_length, slot_at, open_gate};
 ghost use Rattle.pack_slots.specs.Slots.{IsGoodInode, IsRead, IsSlotFound};
 ghost use Rattle.pack_slots.specs.Found.{copy_in, is_beside};
 
@@ -13,6 +13,9 @@ use locus_ids::{Ino, ItemList};
 use pack_layout::layout::SLOT_LENGTH;
 use pack_layout::{BadSlot, Half, Slot, newer, read_slot, slot_at};
 use std::alloc::Global;
+
+/// The first byte of a slot that counts.
+const OPEN_GATE: u8 = 0xA5;
 
 /// What the two slots of an inode say.
 #[derive(Drop)]
@@ -78,14 +81,19 @@ fn choose(alloc: Global, first: Option<Slot>, second: Option<Slot>) -> Result<Fo
     }
 }
 
-fn read_at<D: Disk>(
+/// Reads the bytes of a slot.
+#[inline]
+fn read_bytes<D: Disk>(
     disk: &mut D,
     base: u32,
     ino: Ino,
     half: Half,
-) -> Result<Result<Option<Slot>, BadSlot>, DiskFault>
-    requires { base + area_length ≤ length (D.moment disk.old).seen }
-    ensures read { IfOk result (λ read. IsRead ino (slot_at base ino half) (D.moment disk.old).seen read) }
+    bytes: &mut [u8],
+) -> Result<(), DiskFault>
+    requires area { base + area_length ≤ length (D.moment disk.old).seen }
+    requires long { length bytes.old ≡ layout.slot_length }
+    ensures bytes { OnOk result (bytes.new ≡ bytes_at (D.moment disk.old).seen (slot_at base ino half) layout.slot_length) }
+    ensures long { length bytes.new ≡ layout.slot_length }
     ensures seen { (D.moment disk.new).seen ≡ (D.moment disk.old).seen }
     ensures crash { Goes Same (D.moment disk.old) (D.moment disk.new) }
     ensures cause { HasCause (D.moment disk.old).faults (D.moment disk.new).faults result }
@@ -93,31 +101,63 @@ fn read_at<D: Disk>(
     ensures how { (D.moment disk.new).how ≡ (D.moment disk.old).how }
 {
     let _len = disk.len();
-    let mut bytes = [0; SLOT_LENGTH];
-    disk.read(slot_at(base, ino, half), &mut bytes)?;
-    Ok(read_slot(&bytes, ino.get()))
+    disk.read(slot_at(base, ino, half), bytes)
 }
 
-/// Reads both slots of an inode. `BadSlot` comes exactly where one of them is bad, or both count.
-pub(crate) fn read_inode<D: Disk>(
-    alloc: Global,
+/// Reads the bytes of both slots of an inode.
+#[inline]
+pub(crate) fn read_slots<D: Disk>(
     disk: &mut D,
     base: u32,
     ino: Ino,
-) -> Result<Result<Found, BadSlot>, DiskFault>
-    requires { base + area_length ≤ length (D.moment disk.old).seen }
-    ensures found { IfOk result (λ read. IfOk read (λ found. IsSlotFound base ino (D.moment disk.old).seen (copy_in found) (is_beside found))) }
-    ensures unread { IfOk result (λ read. IfOk read (λ found. IfSome (copy_in found) (λ copy. copy.more ≡ []))) }
-    ensures bad { IfOk result (λ read. IfErr read (λ _. IsGoodInode base ino (D.moment disk.old).seen → ⊥)) }
+    first: &mut [u8],
+    second: &mut [u8],
+) -> Result<(), DiskFault>
+    requires area { base + area_length ≤ length (D.moment disk.old).seen }
+    requires first { length first.old ≡ layout.slot_length }
+    requires second { length second.old ≡ layout.slot_length }
+    ensures first { OnOk result (first.new ≡ bytes_at (D.moment disk.old).seen (slot_at base ino First) layout.slot_length) }
+    ensures second { OnOk result (second.new ≡ bytes_at (D.moment disk.old).seen (slot_at base ino Second) layout.slot_length) }
     ensures seen { (D.moment disk.new).seen ≡ (D.moment disk.old).seen }
     ensures crash { Goes Same (D.moment disk.old) (D.moment disk.new) }
     ensures cause { HasCause (D.moment disk.old).faults (D.moment disk.new).faults result }
     ensures tells { TellsRead (D.moment disk.old).passing (D.moment disk.new).passing result }
     ensures how { (D.moment disk.new).how ≡ (D.moment disk.old).how }
 {
-    let first = read_at(disk, base, ino, Half::First)?;
-    let second = read_at(disk, base, ino, Half::Second)?;
-    Ok(both(alloc, first, second))
+    read_bytes(disk, base, ino, Half::First, first)?;
+    read_bytes(disk, base, ino, Half::Second, second)?;
+    Ok(())
+}
+
+/// Whether neither of two slots is open.
+#[inline]
+pub(crate) fn are_shut(first: &[u8; SLOT_LENGTH], second: &[u8; SLOT_LENGTH]) -> bool
+    ensures { result ≡ true → (slice_index first.now 0 ≢ open_gate) × (slice_index second.now 0 ≢ open_gate) }
+{
+    first[0] != OPEN_GATE && second[0] != OPEN_GATE
+}
+
+/// What the bytes of both slots of an inode say. `BadSlot` comes exactly where one of them is bad, or both count.
+pub(crate) fn read_both(
+    alloc: Global,
+    ino: Ino,
+    first: &[u8; SLOT_LENGTH],
+    second: &[u8; SLOT_LENGTH],
+) -> Result<Found, BadSlot>
+    ensures found { (base : ℕ) (image : List ℕ) → first.now ≡ bytes_at image (slot_at base ino First) layout.slot_length → second.now ≡ bytes_at image (slot_at base ino Second) layout.slot_length → IfOk result (λ found. IsSlotFound base ino image (copy_in found) (is_beside found)) }
+    ensures unread { IfOk result (λ found. IfSome (copy_in found) (λ copy. copy.more ≡ [])) }
+    ensures bad { (base : ℕ) (image : List ℕ) → first.now ≡ bytes_at image (slot_at base ino First) layout.slot_length → second.now ≡ bytes_at image (slot_at base ino Second) layout.slot_length → IfErr result (λ _. IsGoodInode base ino image → ⊥) }
+{
+    let one = read_in(ino, first);
+    let two = read_in(ino, second);
+    both(alloc, one, two)
+}
+
+/// What the bytes of a slot say.
+fn read_in(ino: Ino, bytes: &[u8; SLOT_LENGTH]) -> Result<Option<Slot>, BadSlot>
+    ensures { (place : ℕ) (image : List ℕ) → bytes.now ≡ bytes_at image place layout.slot_length → IsRead ino place image result }
+{
+    read_slot(bytes, ino.get())
 }
 
 fn both(
