@@ -33,17 +33,11 @@ mode_sound w y h0 =
 
 mode_complete : (x : Mode) → any x ≡ true → mode_in (mode_text x) ≡ Some x
 mode_complete mode.Read h = refl
-mode_complete mode.Write h = refl
-mode_complete mode.Resolve h = refl
-mode_complete mode.Mend h = refl
-mode_complete mode.Make h = refl
+mode_complete x h = refl
 
 mode_free : (x : Mode) → any x ≡ true → free 32 (mode_text x) ≡ true
 mode_free mode.Read h = refl
-mode_free mode.Write h = refl
-mode_free mode.Resolve h = refl
-mode_free mode.Mend h = refl
-mode_free mode.Make h = refl
+mode_free x h = refl
 
 pub mode_word : Word 32 mode_text any mode_in
 mode_word = record { form = record { sound = mode_sound; complete = mode_complete }; free = mode_free }
@@ -74,8 +68,7 @@ cause_sound w y h0 =
 
 cause_complete : (x : StopCause) → any x ≡ true → cause_in (cause_text x) ≡ Some x
 cause_complete cause.Asked h = refl
-cause_complete cause.Fuse h = refl
-cause_complete cause.Fault h = refl
+cause_complete x h = refl
 
 pub cause_form : Exact cause_text any cause_in
 cause_form = record { sound = cause_sound; complete = cause_complete }
@@ -120,31 +113,7 @@ packet_sound w y h0 =
 
 packet_complete : (x : PacketKind) → any x ≡ true → packet_in (packet_kind_text x) ≡ Some x
 packet_complete packet.Poll h = refl
-packet_complete packet.Promise h = refl
-packet_complete packet.Refuse h = refl
-packet_complete packet.Install h = refl
-packet_complete packet.Joined h = refl
-packet_complete packet.Report h = refl
-packet_complete packet.ReportOk h = refl
-packet_complete packet.Open h = refl
-packet_complete packet.OpenSs h = refl
-packet_complete packet.Opened h = refl
-packet_complete packet.OpenDone h = refl
-packet_complete packet.Op h = refl
-packet_complete packet.OpDone h = refl
-packet_complete packet.Close h = refl
-packet_complete packet.Closed h = refl
-packet_complete packet.ClosedOk h = refl
-packet_complete packet.CloseDone h = refl
-packet_complete packet.Look h = refl
-packet_complete packet.LookSs h = refl
-packet_complete packet.LookDone h = refl
-packet_complete packet.Notify h = refl
-packet_complete packet.Pull h = refl
-packet_complete packet.Page h = refl
-packet_complete packet.Have h = refl
-packet_complete packet.Want h = refl
-packet_complete packet.Delta h = refl
+packet_complete x h = refl
 
 pub packet_form : Exact packet_kind_text any packet_in
 packet_form = record { sound = packet_sound; complete = packet_complete }

@@ -248,43 +248,15 @@ words_line process c h = by (process == 0) h
 
 mode_line : (m : Mode) → free 10 (mode_text m) ≡ true
 mode_line mode.Read = refl
-mode_line mode.Write = refl
-mode_line mode.Resolve = refl
-mode_line mode.Mend = refl
-mode_line mode.Make = refl
+mode_line x = refl
 
 cause_line : (c : StopCause) → free 10 (cause_text c) ≡ true
 cause_line cause.Asked = refl
-cause_line cause.Fuse = refl
-cause_line cause.Fault = refl
+cause_line x = refl
 
 packet_line : (k : PacketKind) → free 10 (packet_kind_text k) ≡ true
 packet_line packet.Poll = refl
-packet_line packet.Promise = refl
-packet_line packet.Refuse = refl
-packet_line packet.Install = refl
-packet_line packet.Joined = refl
-packet_line packet.Report = refl
-packet_line packet.ReportOk = refl
-packet_line packet.Open = refl
-packet_line packet.OpenSs = refl
-packet_line packet.Opened = refl
-packet_line packet.OpenDone = refl
-packet_line packet.Op = refl
-packet_line packet.OpDone = refl
-packet_line packet.Close = refl
-packet_line packet.Closed = refl
-packet_line packet.ClosedOk = refl
-packet_line packet.CloseDone = refl
-packet_line packet.Look = refl
-packet_line packet.LookSs = refl
-packet_line packet.LookDone = refl
-packet_line packet.Notify = refl
-packet_line packet.Pull = refl
-packet_line packet.Page = refl
-packet_line packet.Have = refl
-packet_line packet.Want = refl
-packet_line packet.Delta = refl
+packet_line x = refl
 
 call_id_line : (c : CallId) → is_call_id c ≡ true → free 10 (call_id_text c) ≡ true
 call_id_line c h =
