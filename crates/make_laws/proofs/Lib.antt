@@ -1,6 +1,5 @@
-pub mod RunningUsersTell
-pub mod RunningTablesTell
 pub mod RunningSpine
+pub mod RunningFree
 pub mod RunningSpineParts
 pub mod RunningSpineStep
 pub mod RunningSpineRun
@@ -20,6 +19,7 @@ pub mod Telling
 pub mod RolesTell
 pub mod StoresTell
 pub mod TablesTell
+pub mod EventTells
 pub mod SitesTell
 pub mod SiteGroups
 pub mod Opening

@@ -1,22 +1,23 @@
 -- Inside an epoch: the tables of a site know no file that is being made.
-use Rattle.std.proofs.Common.{◌≡◌, ℕ, List, [], ◌∷◌, Option, Some, None, refl, sym, subst, inl, inr}
+use Rattle.std.proofs.Common.{◌≡◌, ℕ, List, Option, Some, refl, sym, subst, inl, inr}
 use Rattle.locus_ids.specs.declared.ids.EpochId.{EpochId}
 use Rattle.locus_ids.specs.declared.config.Config.{Config}
 use Rattle.wire_messages.specs.declared.body.Body.{Body}
 use Rattle.wire_messages.specs.declared.body.Body.TheVariants as body
 use Rattle.role_steps.specs.Own.{Every}
 use Rattle.role_steps.specs.Tables.{row}
-use Rattle.role_steps.specs.Views.{Frame, Store, Users, SiteView, Told, Outcome, pack_sites}
+use Rattle.role_steps.specs.Views.{Frame, Store, Users, SiteView, Told, Outcome, pack_sites, within}
 use Rattle.role_steps.specs.Reports.{on_report, on_open, on_look, on_closed, on_have}
 use Rattle.role_steps.specs.Opens.{on_opened}
-use Rattle.role_steps.specs.Storage.{copy_of, instance_of}
+use Rattle.role_steps.specs.Storage.{instance_of}
 use Rattle.role_steps.specs.Epochs.{frame_in, with_users}
 use Rattle.role_steps.specs.Adoption.{with_store}
-use Rattle.role_steps.specs.Mends.{mending, kept_stamps}
-use Rattle.role_steps.specs.Pulling.{on_notify, on_page, on_delta}
-use Rattle.role_steps.specs.declared.pulls.Pull.{Pull}
+use Rattle.role_steps.specs.Mends.{mending}
 use Rattle.role_steps.specs.declared.rounds.InEpoch.{InEpoch}
 use Rattle.role_steps.specs.declared.synchronizing.SyncTable.{SyncTable}
+use Rattle.the_run.specs.Roles.{IsForTable, IsForStore}
+use Rattle.the_run.proofs.Premises.{every_unit}
+use Rattle.the_run.proofs.Roles.{by_role, readers_by, users_by, pulls_by}
 use Rattle.the_run.specs.Steps.{from_user, group_of, is_opened_in, takes_inside, with_pulls}
 use Rattle.pack_laws.specs.of_vector_laws.Facts.{onto}
 use Rattle.wire_messages.specs.declared.body.MadeVersion.{MadeVersion}
@@ -25,13 +26,12 @@ use Rattle.role_steps.specs.Views.{Begins, Reserves, members_of, serial_key}
 use Rattle.role_steps.specs.Opens.{open_key}
 use Rattle.role_steps.specs.Storage.{StoreRequest, on_open_ss, on_close, on_closed_ok}
 use Rattle.role_steps.specs.Operations.{on_op, on_read_held}
-use Rattle.role_steps.specs.Using.{on_open_done, on_op_done, on_close_done, on_look_done, on_as_held}
 use Rattle.role_steps.specs.declared.synchronizing.OpenRow.{OpenRow}
 use Rattle.the_run.specs.Kept.{Among}
 use Rattle.pack_laws.specs.of_vector_laws.Facts.{ReportedFact}
 use Rattle.make_laws.specs.Tables.{Ordered}
 use Rattle.make_laws.proofs.Telling.{idle_aside, storing_aside}
-use Rattle.make_laws.proofs.RolesTell.{AllIdle, on_notify_idle, on_page_idle, on_open_done_idle, on_op_done_idle, on_close_done_idle, on_look_done_idle, on_delta_idle, on_as_held_idle}
+use Rattle.make_laws.proofs.RolesTell.{AllIdle, carrying, users, readers, answer_idle}
 use Rattle.make_laws.proofs.StoresTell.{StoreTells, on_close_tells, on_closed_ok_tells, on_op_tells, on_read_held_tells}
 use Rattle.make_laws.proofs.Opening.{made_file, OpenTold, open_told}
 use Rattle.make_laws.proofs.TableTold.{ordered_before, all_fresh, IsForeign, not_tabular}
@@ -91,43 +91,40 @@ report_member c e a b from q h = subst (λ (n : ℕ). Among from (members_of e.m
 report_copies : (past : List Told) (a b : ℕ) (xs : List ReportedCopy) → a ≡ b → Every (ReportedFact past b) xs → Every (ReportedFact past a) xs
 report_copies past a b xs q h = subst (λ (n : ℕ). Every (ReportedFact past n) xs) (sym q) h
 
-always : (ts : List SyncTable) → Every (λ (t : SyncTable). Unit {0}) ts
-always [] = tt
-always (t ∷ ts) = (tt, always ts)
+-- what a packet does keeps the tables so, where it tells of reports and closes what is so
+abbrev Kept : Config → ℕ → List Told → ℕ → SiteView → InEpoch → Body → Outcome SiteView → Type 0
+Kept c me past from v e x o = BodyMade c past e from x v → Ordered (onto o.told past) → SiteKeeps c me past o
+
+tables_keep : (c : Config) (me boot : ℕ) (past : List Told) (from : ℕ) (v : SiteView) (e : InEpoch) → v.epoch ≡ Some e → SiteMade c past me v → (x : Body) → IsForTable x → Kept c me past from v e x (takes_inside (frame_in c me boot e) from x v)
+tables_keep c me boot past from v e here h (body.Report group copies) is k law = group_part c me past (on_report (frame_in c me boot e) from copies) v e group here h (λ t q y. on_report_keeps c past me (frame_in c me boot e) from copies t refl (ordered_before (takes_inside (frame_in c me boot e) from (body.Report group copies) v).told past law) (report_member c e t.group group from q k.member) (report_copies past t.group group copies q k.copies_so) y)
+tables_keep c me boot past from v e here h (body.Open serial call process request file how) is k law = group_part c me past (on_open (frame_in c me boot e) from (record { serial = serial; call = call; process = process; request = request; file = file; how = how })) v e file.group here h (λ t q y. on_open_keeps c past me e.members (frame_in c me boot e) from (record { serial = serial; call = call; process = process; request = request; file = file; how = how }) t (sym q) y)
+tables_keep c me boot past from v e here h (body.Opened inst answer) is k law = with_part c me past (λ (t : SyncTable). Unit {0}) (on_opened (frame_in c me boot e) inst answer) v e (is_opened_in inst) here (every_unit v.tables) h (λ t z y. on_opened_keeps c past me e.members (frame_in c me boot e) inst answer t y)
+tables_keep c me boot past from v e here h (body.Closed inst made) is k law = with_part c me past (TableClosed past e.id (serial_key inst) made) (on_closed (frame_in c me boot e) from inst made) v e (is_opened_in inst) here k h (λ t z y. on_closed_keeps c past me e.members (frame_in c me boot e) from inst made t (ordered_before (takes_inside (frame_in c me boot e) from (body.Closed inst made) v).told past law) z y)
+tables_keep c me boot past from v e here h (body.Look call process request take file what) is k law = group_part c me past (on_look (frame_in c me boot e) from (record { call = call; process = process; request = request; take = take; file = file; what = what })) v e file.group here h (λ t q y. on_look_keeps c past me e.members (frame_in c me boot e) from (record { call = call; process = process; request = request; take = take; file = file; what = what }) t y)
+tables_keep c me boot past from v e here h (body.Have file stamp) is k law = group_part c me past (on_have from file stamp) v e file.group here h (λ t q y. on_have_keeps c past me e.members (frame_in c me boot e) from file stamp t y)
+tables_keep c me boot past from v e here h _ is k law = absurd is
+
+stores_keep : (c : Config) (me boot : ℕ) (past : List Told) (from : ℕ) (v : SiteView) (e : InEpoch) → v.epoch ≡ Some e → SiteMade c past me v → (x : Body) → IsForStore x → Kept c me past from v e x (takes_inside (frame_in c me boot e) from x v)
+stores_keep c me boot past from v e here h (body.OpenSs inst file mode set kind base vector parents) is k law = opens_site c me past v (frame_in c me boot e) (record { inst = inst; file = file; mode = mode; set = set; kind = kind; base = base; vector = vector; parents = parents }) law h
+stores_keep c me boot past from v e here h (body.Op serial n o seen) is k law = store_site c me past v (on_op (frame_in c me boot e) (mending v (group_of (instance_of v.store (from_user from serial)))) (from_user from serial) n o seen v.store) (on_op_tells (frame_in c me boot e) (mending v (group_of (instance_of v.store (from_user from serial)))) (from_user from serial) n o seen v.store) h
+stores_keep c me boot past from v e here h (body.ReadHeld serial n at len) is k law = store_site c me past v (on_read_held (frame_in c me boot e) (from_user from serial) n at len v.store) (on_read_held_tells (frame_in c me boot e) (from_user from serial) n at len v.store) h
+stores_keep c me boot past from v e here h (body.Close serial) is k law = store_site c me past v (on_close (frame_in c me boot e) (from_user from serial) v.store) (on_close_tells (frame_in c me boot e) (from_user from serial) v.store) h
+stores_keep c me boot past from v e here h (body.ClosedOk inst) is k law = store_site c me past v (on_closed_ok (frame_in c me boot e) inst v.store) (on_closed_ok_tells (frame_in c me boot e) inst v.store) h
+stores_keep c me boot past from v e here h _ is k law = absurd is
 
 pub inside_site : (c : Config) (me boot : ℕ) (past : List Told) (from : ℕ) (v : SiteView) (e : InEpoch) (x : Body) → v.epoch ≡ Some e → BodyMade c past e from x v → Ordered (onto (takes_inside (frame_in c me boot e) from x v).told past) → SiteMade c past me v → SiteKeeps c me past (takes_inside (frame_in c me boot e) from x v)
-inside_site c me boot past from v e (body.Report group copies) here k law h = group_part c me past (on_report (frame_in c me boot e) from copies) v e group here h (λ t q y. on_report_keeps c past me (frame_in c me boot e) from copies t refl (ordered_before (takes_inside (frame_in c me boot e) from (body.Report group copies) v).told past law) (report_member c e t.group group from q k.member) (report_copies past t.group group copies q k.copies_so) y)
-inside_site c me boot past from v e (body.ReportOk group) here k law h = plain_site c me past v _ refl refl tt h
-inside_site c me boot past from v e (body.Open serial call process request file how) here k law h = group_part c me past (on_open (frame_in c me boot e) from (record { serial = serial; call = call; process = process; request = request; file = file; how = how })) v e file.group here h (λ t q y. on_open_keeps c past me e.members (frame_in c me boot e) from (record { serial = serial; call = call; process = process; request = request; file = file; how = how }) t (sym q) y)
-inside_site c me boot past from v e (body.OpenSs inst file mode set kind base vector parents) here k law h = opens_site c me past v (frame_in c me boot e) (record { inst = inst; file = file; mode = mode; set = set; kind = kind; base = base; vector = vector; parents = parents }) law h
-inside_site c me boot past from v e (body.Opened inst answer) here k law h = with_part c me past (λ (t : SyncTable). Unit {0}) (on_opened (frame_in c me boot e) inst answer) v e (is_opened_in inst) here (always v.tables) h (λ t z y. on_opened_keeps c past me e.members (frame_in c me boot e) inst answer t y)
-inside_site c me boot past from v e (body.OpenDone serial answer) here k law h = user_site c me past v (on_open_done (frame_in c me boot e) (kept_stamps v) serial answer v.users) (on_open_done_idle (frame_in c me boot e) (kept_stamps v) serial answer v.users) h
-inside_site c me boot past from v e (body.Op serial n o seen) here k law h = store_site c me past v (on_op (frame_in c me boot e) (mending v (group_of (instance_of v.store (from_user from serial)))) (from_user from serial) n o seen v.store) (on_op_tells (frame_in c me boot e) (mending v (group_of (instance_of v.store (from_user from serial)))) (from_user from serial) n o seen v.store) h
-inside_site c me boot past from v e (body.ReadHeld serial n at len) here k law h = store_site c me past v (on_read_held (frame_in c me boot e) (from_user from serial) n at len v.store) (on_read_held_tells (frame_in c me boot e) (from_user from serial) n at len v.store) h
-inside_site c me boot past from v e (body.OpDone serial n result) here k law h = user_site c me past v (on_op_done (frame_in c me boot e) serial n result v.users) (on_op_done_idle (frame_in c me boot e) serial n result v.users) h
-inside_site c me boot past from v e (body.AsHeld serial n len) here k law h = user_site c me past v (on_as_held (frame_in c me boot e) serial n v.users) (on_as_held_idle (frame_in c me boot e) serial n v.users) h
-inside_site c me boot past from v e (body.Close serial) here k law h = store_site c me past v (on_close (frame_in c me boot e) (from_user from serial) v.store) (on_close_tells (frame_in c me boot e) (from_user from serial) v.store) h
-inside_site c me boot past from v e (body.Closed inst made) here k law h = with_part c me past (TableClosed past e.id (serial_key inst) made) (on_closed (frame_in c me boot e) from inst made) v e (is_opened_in inst) here k h (λ t z y. on_closed_keeps c past me e.members (frame_in c me boot e) from inst made t (ordered_before (takes_inside (frame_in c me boot e) from (body.Closed inst made) v).told past law) z y)
-inside_site c me boot past from v e (body.ClosedOk inst) here k law h = store_site c me past v (on_closed_ok (frame_in c me boot e) inst v.store) (on_closed_ok_tells (frame_in c me boot e) inst v.store) h
-inside_site c me boot past from v e (body.CloseDone serial answer) here k law h = user_site c me past v (on_close_done (frame_in c me boot e) serial answer v.users) (on_close_done_idle (frame_in c me boot e) serial answer v.users) h
-inside_site c me boot past from v e (body.Look call process request take file what) here k law h = group_part c me past (on_look (frame_in c me boot e) from (record { call = call; process = process; request = request; take = take; file = file; what = what })) v e file.group here h (λ t q y. on_look_keeps c past me e.members (frame_in c me boot e) from (record { call = call; process = process; request = request; take = take; file = file; what = what }) t y)
-inside_site c me boot past from v e (body.LookSs us call process request take file what serve) here k law h = plain_site c me past v _ refl refl tt h
-inside_site c me boot past from v e (body.LookDone call request take answer) here k law h = user_site c me past v (on_look_done (frame_in c me boot e) call request take answer v.users) (on_look_done_idle (frame_in c me boot e) call request take answer v.users) h
-inside_site c me boot past from v e (body.Notify file kind set size stamp vector holder) here k law h =
-    let p : Pull = record { file = file; kind = kind; set = set; size = size; stamp = stamp; vector = vector; holder = holder; base = None; wanted = None; content = [] } in
-    let o : Outcome (List Pull) = on_notify (frame_in c me boot e) from (copy_of v.store file) p v.pulls in
-    plain_site c me past v (record { view = with_pulls v o.view; sent = o.sent; told = o.told; written = o.written }) refl refl (idle_aside o.told (on_notify_idle (frame_in c me boot e) from (copy_of v.store file) p v.pulls).1) h
-inside_site c me boot past from v e (body.Pull file stamp page) here k law h = plain_site c me past v _ refl refl tt h
-inside_site c me boot past from v e (body.Want file wanted own) here k law h = plain_site c me past v _ refl refl tt h
-inside_site c me boot past from v e (body.Page file stamp page bytes) here k law h =
-    let o : Outcome (List Pull) = on_page (frame_in c me boot e) file stamp page bytes v.pulls in
-    plain_site c me past v (record { view = with_pulls v o.view; sent = o.sent; told = o.told; written = o.written }) refl refl (idle_aside o.told (on_page_idle (frame_in c me boot e) file stamp page bytes v.pulls).1) h
-inside_site c me boot past from v e (body.Delta file wanted pages) here k law h =
-    let o : Outcome (List Pull) = on_delta (frame_in c me boot e) (copy_of v.store file) file wanted pages v.pulls in
-    plain_site c me past v (record { view = with_pulls v o.view; sent = o.sent; told = o.told; written = o.written }) refl refl (idle_aside o.told (on_delta_idle (frame_in c me boot e) (copy_of v.store file) file wanted pages v.pulls).1) h
-inside_site c me boot past from v e (body.Have file stamp) here k law h = group_part c me past (on_have from file stamp) v e file.group here h (λ t q y. on_have_keeps c past me e.members (frame_in c me boot e) from file stamp t y)
-inside_site c me boot past from v e body.Poll here k law h = quiet_site c me past v h
-inside_site c me boot past from v e (body.Promise reach) here k law h = quiet_site c me past v h
-inside_site c me boot past from v e (body.Refuse promised) here k law h = quiet_site c me past v h
-inside_site c me boot past from v e (body.Install members) here k law h = quiet_site c me past v h
-inside_site c me boot past from v e body.Joined here k law h = quiet_site c me past v h
+inside_site c me boot past from v e x here k law h = by_role Q f from v (record {
+  tables = tables_keep c me boot past from v e here h;
+  stores = stores_keep c me boot past from v e here h;
+  readers = readers_by Q carrying f from v (readers f) answer_idle (λ y o is same part k law. plain_site c me past v (within (with_store v) o) refl refl (idle_aside o.told part.1) h);
+  users = users_by Q carrying f from v (users f) (λ y o is part k law. user_site c me past v o (part.0, part.1) h);
+  pulls = pulls_by Q carrying f from v (readers f) answer_idle (λ y o is part k law. plain_site c me past v (within (with_pulls v) o) refl refl (idle_aside o.told part.1) h);
+  reported = λ group k law. plain_site c me past v (takes_inside f from (body.ReportOk group) v) refl refl tt h;
+  forming = λ y is k law. quiet_site c me past v h;
+}) x k law
+  where
+    f : Frame
+    f = frame_in c me boot e
+
+    Q : Body → Outcome SiteView → Type 0
+    Q = Kept c me past from v e

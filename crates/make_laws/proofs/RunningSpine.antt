@@ -229,9 +229,6 @@ pub free_disk : (F : Facts) (G : Owed) → Spine F G → (me : ℕ) (past : List
 free_disk F G s me past None h = tt
 free_disk F G s me past (Some d) h = (s.free past (Shown d.says) h, free_mine_record me d.says h)
 
-pub none_free : (d : Option DiskWrite) → d ≡ None → FreeWrite d
-none_free d e = subst FreeWrite (sym e) tt
-
 -- the instances and the epoch are left, and no store tells what is told
 pub plain_keeps : (F : Facts) (G : Owed) → Spine F G → (me : ℕ) (past : List Told) (v : SiteView) (o : Outcome SiteView) → o.view.store.instances ≡ v.store.instances → o.view.epoch ≡ v.epoch → Every Free o.told → FreeWrite o.written → SiteFact F past me v → Keeps F G me past o
 plain_keeps F G s me past v o e g free w h = record {

@@ -1,6 +1,6 @@
 -- What the parts of an event keep of facts about the instances of a site: packets inside the epoch, adoptions, mends, and how
 -- an epoch is formed.
-use Rattle.std.proofs.Common.{◌≡◌, ℕ, ◌+◌, true, false, cond, ◌&&◌, not, List, [], ◌∷◌, Option, Some, None, refl, sym, subst, inl, inr}
+use Rattle.std.proofs.Common.{◌≡◌, ℕ, ◌+◌, true, false, cond, ◌&&◌, not, List, [], ◌∷◌, Option, Some, None, refl, sym, ap, subst, inl, inr}
 use Rattle.role_steps.proofs.of_plain_facts.Tests.{both_true}
 use Rattle.locus_ids.specs.declared.ids.EpochId.{EpochId}
 use Rattle.locus_ids.specs.declared.sites.Members.{Members}
@@ -15,46 +15,31 @@ use Rattle.wire_messages.specs.declared.body.Body.{Body}
 use Rattle.wire_messages.specs.declared.body.Body.TheVariants as body
 use Rattle.role_steps.specs.Own.{Every}
 use Rattle.role_steps.specs.Tables.{row, without_row, first_that}
-use Rattle.role_steps.specs.Views.{Frame, Store, Users, SiteView, Told, Shown, Begins, Shuts, Reserves, Promises, Outcome, quiet, sends, tells, and_then}
-use Rattle.role_steps.specs.Reports.{on_report, on_open, on_look, on_closed, on_have}
-use Rattle.role_steps.specs.Opens.{on_opened}
+use Rattle.role_steps.specs.Views.{Frame, Store, Users, SiteView, Told, Shown, Begins, Shuts, Reserves, Promises, Outcome, quiet, sends, tells, and_then, within}
 use Rattle.role_steps.specs.Storage.{copy_of, instance_of, on_open_ss, on_close, on_closed_ok}
 use Rattle.role_steps.specs.Operations.{on_op, on_read_held}
-use Rattle.role_steps.specs.Pulling.{pull_of, on_notify, on_page, pages_in, on_delta}
-use Rattle.role_steps.specs.Using.{on_call, on_open_done, on_op_done, on_close_done, on_look_done, on_as_held}
+use Rattle.role_steps.specs.Using.{on_call}
 use Rattle.role_steps.specs.Epochs.{is_epoch_below, frame_in, with_users, leaves_of, leaves, promises, promised_view, reached, polls, round_id, begins_round, boots_where, part_boot, starts_part_of, promise_packet, refuse_packet, on_poll, on_promise_of, on_refuse_of, joins, may_install, is_in, joined_packet, on_install, on_joined, passed_over, unanswered, chosen_members, chosen_set, installs_all, decides_if, passes_over_of, passes_over}
 use Rattle.role_steps.specs.Adoption.{notes_own_at, table_group, with_store, without_pull, is_ready, adopts_pull, adopts_first, with_adopted, fits_own}
-use Rattle.role_steps.specs.Mends.{mending, kept_stamps, has_mend_in, wants_mend, starts_mend_of, starts_mend, starts_mends_in, row_file}
+use Rattle.role_steps.specs.Mends.{mending, has_mend_in, wants_mend, starts_mend_of, starts_mend, starts_mends_in, row_file}
 use Rattle.role_steps.specs.declared.pulls.Pull.{Pull}
 use Rattle.role_steps.specs.declared.rounds.InEpoch.{InEpoch}
 use Rattle.role_steps.specs.declared.rounds.Round.{Round}
 use Rattle.role_steps.specs.declared.synchronizing.SyncTable.{SyncTable}
 use Rattle.role_steps.specs.declared.synchronizing.FileRow.{FileRow}
-use Rattle.the_run.specs.Steps.{from_user, group_of, at_table_of, is_opened_in, takes_inside, adopts_of, starts_mends_of, ends_event, with_pulls}
+use Rattle.the_run.specs.KindLaws.{Part, TablePart}
+use Rattle.the_run.specs.Roles.{IsForStore}
+use Rattle.the_run.proofs.Roles.{by_role, tables_by, readers_by, users_by, pulls_by}
+use Rattle.the_run.specs.Steps.{from_user, group_of, at_table_of, takes_inside, adopts_of, starts_mends_of, ends_event, with_pulls}
 use Rattle.the_run.proofs.Boots.{every_weaker}
 use Rattle.pack_laws.specs.of_run_laws.Naming.{Deeds, ViewOk}
-use Rattle.pack_laws.proofs.of_run_laws.Telling.{on_opened_talks, on_open_talks, on_look_talks, on_report_talks, on_closed_talks}
 use Rattle.pack_laws.specs.of_vector_laws.Written.{WasTold}
 use Rattle.pack_laws.specs.of_vector_laws.Facts.{onto}
 use Rattle.pack_laws.proofs.of_vector_laws.SiteDisks.{starts_mends_keeps, mends_of_keeps}
 use Rattle.pack_laws.specs.of_lock_laws.Joins.{WasJoined, JoinsAreOnce}
 use Rattle.pack_laws.proofs.of_lock_laws.Facts.{onto_later}
-use Rattle.pack_laws.proofs.of_lock_laws.StepFacts.{notify_silent, page_silent, delta_silent}
-use Rattle.make_laws.proofs.RunningUsersTell.{OfUsers, Tells, on_call_tells, on_open_done_tells, on_op_done_tells, on_close_done_tells, on_look_done_tells, users_leave_tells, on_as_held_tells}
-use Rattle.make_laws.proofs.RunningTablesTell.{OfTables, on_report_tells, on_open_tells, on_opened_tells, on_closed_tells, on_look_tells}
-use Rattle.make_laws.proofs.RunningSpine.{Facts, Owed, Free, IsStoreOf, Mine, JoinedTold, StoresJoined, Spine, InSite, SiteFact, AllOwed, DiskOwed, Keeps, alike, none_free, plain_keeps, quiet_keeps, then_keeps, in_epoch, free_owed, free_mine, free_joins}
-
-pub free_users : OfUsers Free
-free_users = record { accept = λ me process call words. tt; answers = λ me process call r. tt; takes = λ me call request take a. tt; again = λ me call request take. tt }
-
-free_tables : OfTables Free
-free_tables = record {
-  starting = λ e group brought. tt;
-  looking = λ e call request file what r. tt;
-  granting = λ e call request inst m file stamp ss. tt;
-  refusing = λ e call request inst m file why. tt;
-  releasing = λ e inst file made. tt;
-}
+use Rattle.make_laws.proofs.RunningFree.{freely, tables, back, readers, users, call_part, left_free}
+use Rattle.make_laws.proofs.RunningSpine.{Facts, Owed, Free, IsStoreOf, Mine, JoinedTold, StoresJoined, Spine, InSite, SiteFact, AllOwed, DiskOwed, Keeps, alike, plain_keeps, quiet_keeps, then_keeps, in_epoch, free_owed, free_mine, free_joins}
 
 -- ---- the store ----
 
@@ -121,55 +106,41 @@ store_part F G me past v e o here h k =
 
 -- ---- packets inside the epoch ----
 
-user_part : (F : Facts) (G : Owed) → Spine F G → (me : ℕ) (past : List Told) (v : SiteView) (o : Outcome Users) → Tells Free o → SiteFact F past me v → Keeps F G me past (record { view = with_users v o.view; sent = o.sent; told = o.told; written = o.written })
-user_part F G s me past v o k h = plain_keeps F G s me past v (record { view = with_users v o.view; sent = o.sent; told = o.told; written = o.written }) refl refl k.0 (none_free o.written k.1) h
+user_part : (F : Facts) (G : Owed) → Spine F G → (me : ℕ) (past : List Told) (v : SiteView) (o : Outcome Users) → Part freely o → SiteFact F past me v → Keeps F G me past (within (with_users v) o)
+user_part F G s me past v o k h = plain_keeps F G s me past v (within (with_users v) o) refl refl k.1 k.2 h
 
-table_part : (F : Facts) (G : Owed) → Spine F G → (me : ℕ) (past : List Told) (g : SyncTable → Outcome SyncTable) (o : Option SyncTable) (v : SiteView) → ((t : SyncTable) → Every Free (g t).told) → ((t : SyncTable) → (g t).written ≡ None) → SiteFact F past me v → Keeps F G me past (at_table_of g o v)
-table_part F G s me past g None v free none h = quiet_keeps F G me past v h
-table_part F G s me past g (Some t) v free none h = plain_keeps F G s me past v (at_table_of g (Some t) v) refl refl (free t) (none_free (g t).written (none t)) h
+-- what comes of a packet of the epoch keeps the facts, where what the store does of it does
+abbrev Kept : Facts → Owed → ℕ → List Told → Frame → ℕ → SiteView → InEpoch → Body → Outcome SiteView → Type 0
+Kept F G me past f from v e x o = StoreDone F G me past e (takes_store f from x v) → Keeps F G me past o
 
-silent_free : (xs : List Told) → xs ≡ [] → Every Free xs
-silent_free xs e = subst (λ (ys : List Told). Every Free ys) (sym e) tt
+stores_keep : (F : Facts) (G : Owed) (me : ℕ) (past : List Told) (f : Frame) (from : ℕ) (v : SiteView) (e : InEpoch) → v.epoch ≡ Some e → InSite F past me v v.epoch → (x : Body) → IsForStore x → Kept F G me past f from v e x (takes_inside f from x v)
+stores_keep F G me past f from v e here h (body.OpenSs inst file mode set kind base vector parents) is k = store_part F G me past v e (takes_store f from (body.OpenSs inst file mode set kind base vector parents) v) here h k
+stores_keep F G me past f from v e here h (body.Op serial n o seen) is k = store_part F G me past v e (takes_store f from (body.Op serial n o seen) v) here h k
+stores_keep F G me past f from v e here h (body.ReadHeld serial n at len) is k = store_part F G me past v e (takes_store f from (body.ReadHeld serial n at len) v) here h k
+stores_keep F G me past f from v e here h (body.Close serial) is k = store_part F G me past v e (takes_store f from (body.Close serial) v) here h k
+stores_keep F G me past f from v e here h (body.ClosedOk inst) is k = store_part F G me past v e (takes_store f from (body.ClosedOk inst) v) here h k
+stores_keep F G me past f from v e here h _ is k = absurd is
 
 pub inside_keeps : (F : Facts) (G : Owed) → Spine F G → (c : Config) (me boot : ℕ) (past : List Told) (from : ℕ) (v : SiteView) (e : InEpoch) (x : Body) → v.epoch ≡ Some e → StoreDone F G me past e (takes_store (frame_in c me boot e) from x v) → InSite F past me v v.epoch → Keeps F G me past (takes_inside (frame_in c me boot e) from x v)
-inside_keeps F G s c me boot past from v e (body.Report group copies) here k h = table_part F G s me past (on_report (frame_in c me boot e) from copies) (row table_group group v.tables) v (on_report_tells Free free_tables (frame_in c me boot e) from copies) (λ t. (on_report_talks (frame_in c me boot e) from copies t).1) (λ order. h)
-inside_keeps F G s c me boot past from v e (body.ReportOk group) here k h = plain_keeps F G s me past v _ refl refl tt tt (λ order. h)
-inside_keeps F G s c me boot past from v e (body.Open serial call process request file how) here k h = table_part F G s me past (on_open (frame_in c me boot e) from (record { serial = serial; call = call; process = process; request = request; file = file; how = how })) (row table_group file.group v.tables) v (on_open_tells Free free_tables (frame_in c me boot e) from (record { serial = serial; call = call; process = process; request = request; file = file; how = how })) (λ t. (on_open_talks (frame_in c me boot e) from (record { serial = serial; call = call; process = process; request = request; file = file; how = how }) t).1) (λ order. h)
-inside_keeps F G s c me boot past from v e (body.OpenSs inst file mode set kind base vector parents) here k h = store_part F G me past v e (takes_store (frame_in c me boot e) from (body.OpenSs inst file mode set kind base vector parents) v) here h k
-inside_keeps F G s c me boot past from v e (body.Opened inst answer) here k h = table_part F G s me past (on_opened (frame_in c me boot e) inst answer) (first_that (is_opened_in inst) v.tables) v (on_opened_tells Free free_tables (frame_in c me boot e) inst answer) (λ t. (on_opened_talks (frame_in c me boot e) inst answer t).1) (λ order. h)
-inside_keeps F G s c me boot past from v e (body.OpenDone serial answer) here k h = user_part F G s me past v (on_open_done (frame_in c me boot e) (kept_stamps v) serial answer v.users) (on_open_done_tells Free free_users (frame_in c me boot e) (kept_stamps v) serial answer v.users) (λ order. h)
-inside_keeps F G s c me boot past from v e (body.Op serial n o seen) here k h = store_part F G me past v e (takes_store (frame_in c me boot e) from (body.Op serial n o seen) v) here h k
-inside_keeps F G s c me boot past from v e (body.ReadHeld serial n at len) here k h = store_part F G me past v e (takes_store (frame_in c me boot e) from (body.ReadHeld serial n at len) v) here h k
-inside_keeps F G s c me boot past from v e (body.OpDone serial n result) here k h = user_part F G s me past v (on_op_done (frame_in c me boot e) serial n result v.users) (on_op_done_tells Free free_users (frame_in c me boot e) serial n result v.users) (λ order. h)
-inside_keeps F G s c me boot past from v e (body.AsHeld serial n len) here k h = user_part F G s me past v (on_as_held (frame_in c me boot e) serial n v.users) (on_as_held_tells Free free_users (frame_in c me boot e) serial n v.users) (λ order. h)
-inside_keeps F G s c me boot past from v e (body.Close serial) here k h = store_part F G me past v e (takes_store (frame_in c me boot e) from (body.Close serial) v) here h k
-inside_keeps F G s c me boot past from v e (body.Closed inst made) here k h = table_part F G s me past (on_closed (frame_in c me boot e) from inst made) (first_that (is_opened_in inst) v.tables) v (on_closed_tells Free free_tables (frame_in c me boot e) from inst made) (λ t. (on_closed_talks (frame_in c me boot e) from inst made t).1) (λ order. h)
-inside_keeps F G s c me boot past from v e (body.ClosedOk inst) here k h = store_part F G me past v e (takes_store (frame_in c me boot e) from (body.ClosedOk inst) v) here h k
-inside_keeps F G s c me boot past from v e (body.CloseDone serial answer) here k h = user_part F G s me past v (on_close_done (frame_in c me boot e) serial answer v.users) (on_close_done_tells Free free_users (frame_in c me boot e) serial answer v.users) (λ order. h)
-inside_keeps F G s c me boot past from v e (body.Look call process request take file what) here k h = table_part F G s me past (on_look (frame_in c me boot e) from (record { call = call; process = process; request = request; take = take; file = file; what = what })) (row table_group file.group v.tables) v (on_look_tells Free free_tables (frame_in c me boot e) from (record { call = call; process = process; request = request; take = take; file = file; what = what })) (λ t. (on_look_talks (frame_in c me boot e) from (record { call = call; process = process; request = request; take = take; file = file; what = what }) t).1) (λ order. h)
-inside_keeps F G s c me boot past from v e (body.LookSs us call process request take file what serve) here k h = plain_keeps F G s me past v _ refl refl tt tt (λ order. h)
-inside_keeps F G s c me boot past from v e (body.LookDone call request take answer) here k h = user_part F G s me past v (on_look_done (frame_in c me boot e) call request take answer v.users) (on_look_done_tells Free free_users (frame_in c me boot e) call request take answer v.users) (λ order. h)
-inside_keeps F G s c me boot past from v e (body.Notify file kind set size stamp vector holder) here k h =
-    let p : Pull = record { file = file; kind = kind; set = set; size = size; stamp = stamp; vector = vector; holder = holder; base = None; wanted = None; content = [] } in
-    let o : Outcome (List Pull) = on_notify (frame_in c me boot e) from (copy_of v.store file) p v.pulls in
-    let q : _ × _ = notify_silent (frame_in c me boot e) from (copy_of v.store file) p v.pulls in
-    plain_keeps F G s me past v (record { view = with_pulls v o.view; sent = o.sent; told = o.told; written = o.written }) refl refl (silent_free o.told q.0) (none_free o.written q.1) (λ order. h)
-inside_keeps F G s c me boot past from v e (body.Pull file stamp page) here k h = plain_keeps F G s me past v _ refl refl tt tt (λ order. h)
-inside_keeps F G s c me boot past from v e (body.Want file wanted own) here k h = plain_keeps F G s me past v _ refl refl tt tt (λ order. h)
-inside_keeps F G s c me boot past from v e (body.Page file stamp page bytes) here k h =
-    let o : Outcome (List Pull) = on_page (frame_in c me boot e) file stamp page bytes v.pulls in
-    let q : _ × _ = page_silent (frame_in c me boot e) stamp page bytes (pull_of v.pulls file) v.pulls in
-    plain_keeps F G s me past v (record { view = with_pulls v o.view; sent = o.sent; told = o.told; written = o.written }) refl refl (silent_free o.told q.0) (none_free o.written q.1) (λ order. h)
-inside_keeps F G s c me boot past from v e (body.Delta file wanted pages) here k h =
-    let o : Outcome (List Pull) = on_delta (frame_in c me boot e) (copy_of v.store file) file wanted pages v.pulls in
-    let q : _ × _ = delta_silent (frame_in c me boot e) (pages_in (copy_of v.store file)) wanted pages (pull_of v.pulls file) v.pulls in
-    plain_keeps F G s me past v (record { view = with_pulls v o.view; sent = o.sent; told = o.told; written = o.written }) refl refl (silent_free o.told q.0) (none_free o.written q.1) (λ order. h)
-inside_keeps F G s c me boot past from v e (body.Have file stamp) here k h = table_part F G s me past (on_have from file stamp) (row table_group file.group v.tables) v (λ t. tt) (λ t. refl) (λ order. h)
-inside_keeps F G s c me boot past from v e body.Poll here k h = quiet_keeps F G me past v (λ order. h)
-inside_keeps F G s c me boot past from v e (body.Promise reach) here k h = quiet_keeps F G me past v (λ order. h)
-inside_keeps F G s c me boot past from v e (body.Refuse promised) here k h = quiet_keeps F G me past v (λ order. h)
-inside_keeps F G s c me boot past from v e (body.Install members) here k h = quiet_keeps F G me past v (λ order. h)
-inside_keeps F G s c me boot past from v e body.Joined here k h = quiet_keeps F G me past v (λ order. h)
+inside_keeps F G s c me boot past from v e x here k h = by_role Q f from v (record {
+  tables = tables_by Q freely f from v (tables f) (back f from) (λ t. tt) (λ y g o is part k. free_table o g part);
+  stores = stores_keep F G me past f from v e here h;
+  readers = readers_by Q freely f from v (readers f) (λ b is. tt) (λ y o is same part k. plain_keeps F G s me past v (within (with_store v) o) (ap (λ (u : Store). u.instances) same) refl part.1 part.2 (λ order. h));
+  users = users_by Q freely f from v (users f) (λ y o is part k. user_part F G s me past v o part (λ order. h));
+  pulls = pulls_by Q freely f from v (readers f) (λ b is. tt) (λ y o is part k. plain_keeps F G s me past v (within (with_pulls v) o) refl refl part.1 part.2 (λ order. h));
+  reported = λ group k. plain_keeps F G s me past v (takes_inside f from (body.ReportOk group) v) refl refl tt tt (λ order. h);
+  forming = λ y is k. quiet_keeps F G me past v (λ order. h);
+}) x k
+  where
+    f : Frame
+    f = frame_in c me boot e
+
+    Q : Body → Outcome SiteView → Type 0
+    Q = Kept F G me past f from v e
+
+    free_table : (o : Option SyncTable) (g : SyncTable → Outcome SyncTable) → ((t : SyncTable) → TablePart freely t (g t)) → Keeps F G me past (at_table_of g o v)
+    free_table None g part = quiet_keeps F G me past v (λ order. h)
+    free_table (Some t) g part = plain_keeps F G s me past v (at_table_of g (Some t) v) refl refl (part t).1 (part t).2 (λ order. h)
 
 -- ---- adoptions and mends ----
 
@@ -200,7 +171,7 @@ adopts_part F G s c me past (Some e) v h = adopts_first_part F G s me past (fram
 
 mend_part : (F : Facts) (G : Owed) → Spine F G → (me : ℕ) (past : List Told) (f : Frame) (t : SyncTable) (o : Option FileRow) (v : SiteView) → SiteFact F past me v → Keeps F G me past (starts_mend_of f t o v)
 mend_part F G s me past f t None v h = quiet_keeps F G me past v h
-mend_part F G s me past f t (Some r) v h = user_part F G s me past v (on_call f (Some f.epoch) 0 (call.Mend (row_file t r)) v.users) (on_call_tells Free free_users f (Some f.epoch) 0 (call.Mend (row_file t r)) v.users) h
+mend_part F G s me past f t (Some r) v h = user_part F G s me past v (on_call f (Some f.epoch) 0 (call.Mend (row_file t r)) v.users) (call_part f (Some f.epoch) 0 (call.Mend (row_file t r)) v.users) h
 
 starts_mend_part : (F : Facts) (G : Owed) → Spine F G → (me : ℕ) (past : List Told) (f : Frame) (t : SyncTable) (v : SiteView) → SiteFact F past me v → Keeps F G me past (starts_mend f t v)
 starts_mend_part F G s me past f t v h =
@@ -226,7 +197,7 @@ pub leaves_part : (F : Facts) (G : Owed) → Spine F G → (me : ℕ) (past : Li
 leaves_part F G s me past None v h = quiet_keeps F G me past v h
 leaves_part F G s me past (Some e) v h =
     let o : Outcome SiteView = leaves_of me (Some e) v in
-    let free : Every Free o.told = (tt, (users_leave_tells Free free_users me v.boot e.id v.users).0) in
+    let free : Every Free o.told = (tt, left_free me v.boot e.id v.users) in
     record {
       view = λ order. refl;
       owed = free_owed F G s past o.told free;

@@ -1,34 +1,33 @@
 -- What each event of a site keeps of facts about its instances, where its store keeps them.
-use Rattle.std.proofs.Common.{◌≡◌, ℕ, ◌+◌, ◌==◌, nat_lt, Bool, true, false, ◌&&◌, ◌||◌, not, List, [], ◌++◌, Option, Some, None, refl, sym, subst, arith}
-use Rattle.std.proofs.lemmas.Bool.Decides.{nat_tests}
+use Rattle.std.proofs.Common.{◌≡◌, ℕ, ◌+◌, ◌==◌, nat_lt, true, false, ◌&&◌, ◌||◌, List, ◌++◌, Option, Some, None, refl, sym, subst, arith}
 use Rattle.role_steps.proofs.of_plain_facts.Numbers.{equal}
 use Rattle.role_steps.proofs.of_plain_facts.Tests.{both_true, not_false, or_other}
-use Rattle.locus_ids.specs.declared.ids.EpochId.{EpochId}
 use Rattle.locus_ids.specs.declared.sites.Links.{Links}
 use Rattle.locus_ids.specs.declared.config.Config.{Config}
 use Rattle.trace_book.specs.Same.{same_epoch}
 use Rattle.wire_messages.specs.Bodies.{kind_number}
 use Rattle.wire_messages.specs.declared.packet.Packet.{Packet}
 use Rattle.wire_messages.specs.declared.body.Body.{Body}
-use Rattle.wire_messages.specs.declared.body.Body.TheVariants as body
 use Rattle.role_steps.specs.Views.{SiteView, Told, DiskWrite, Outcome, Event, Calls, Receives, Ticks, Parts, Merges, GivesUp, quiet, joined_to, first_written, boot_in}
-use Rattle.role_steps.specs.Storage.{copy_of}
-use Rattle.role_steps.specs.Pulling.{pull_of, pages_in}
-use Rattle.role_steps.specs.Epochs.{frame_in, leaves, starts_part, starts_merge, boots_where, merge_boot}
+use Rattle.role_steps.specs.Using.{on_call}
+use Rattle.role_steps.specs.Epochs.{on_poll, on_promise, on_refuse, on_install, on_joined, frame_in, leaves, starts_part, starts_merge, boots_where, merge_boot}
 use Rattle.role_steps.specs.declared.rounds.InEpoch.{InEpoch}
 use Rattle.the_run.specs.Steps.{is_framed, is_forming, is_dropped, takes_framed, takes, adopts_in, tries_at, ends_event, whole, call_frame, epoch_id, takes_call, step}
 use Rattle.the_run.proofs.InsideSites.{adopts_of_plain}
 use Rattle.the_run.proofs.InsideRoles.{on_call_still}
+use Rattle.the_run.specs.KindLaws.{Part}
 use Rattle.pack_laws.specs.of_run_laws.Naming.{Deeds, Now, ViewOk, Fine as EpochFine}
 use Rattle.pack_laws.proofs.of_run_laws.Moves.{inner_view, inner_fine}
 use Rattle.pack_laws.proofs.of_run_laws.InsideSteps.{adopts_of_inner, call_inner}
 use Rattle.pack_laws.proofs.of_run_laws.Steps.{EventNames, takes_fine, starts_part_fine, begins_fine, leaves_of_fine}
 use Rattle.pack_laws.specs.of_vector_laws.Facts.{onto}
+use Rattle.pack_laws.proofs.of_vector_laws.of_fact_walks.Packets.{by_packet}
+use Rattle.pack_laws.proofs.of_vector_laws.of_fact_walks.Steps.{same_epoch_eq}
 use Rattle.pack_laws.proofs.of_vector_laws.SiteDisks.{ends_keeps}
-use Rattle.pack_laws.proofs.of_lock_laws.StepFacts.{SiteSilent, notify_silent, page_silent, framed_notify, delta_silent}
-use Rattle.make_laws.proofs.RunningUsersTell.{on_call_tells}
-use Rattle.make_laws.proofs.RunningSpine.{Facts, Owed, Free, StoresJoined, Spine, InSite, SiteFact, Keeps, none_free, plain_keeps, quiet_keeps, then_keeps, stores_after}
-use Rattle.make_laws.proofs.RunningSpineParts.{free_users, takes_store, StoreDone, inside_keeps, adopts_part, leaves_part, begins_part, starts_part_part, on_poll_part, on_promise_part, on_refuse_part, on_install_part, on_joined_part, ends_part}
+use Rattle.pack_laws.proofs.of_lock_laws.StepFacts.{SiteSilent, framed_notify}
+use Rattle.make_laws.proofs.RunningFree.{freely, call_part}
+use Rattle.make_laws.proofs.RunningSpine.{Facts, Owed, StoresJoined, Spine, InSite, SiteFact, Keeps, plain_keeps, quiet_keeps, then_keeps, stores_after}
+use Rattle.make_laws.proofs.RunningSpineParts.{takes_store, StoreDone, inside_keeps, adopts_part, leaves_part, begins_part, starts_part_part, on_poll_part, on_promise_part, on_refuse_part, on_install_part, on_joined_part, ends_part}
 
 -- ---- the end of an event ----
 
@@ -65,12 +64,6 @@ pub record IsFramed (p : Packet) (e : InEpoch) : Type 0 where
   pub epoch : e.id ≡ p.epoch
   pub boot : boot_in e.members.boot p.from ≡ p.from_boot
 
-same_epoch_eq : (a b : EpochId) → same_epoch a b ≡ true → a ≡ b
-same_epoch_eq a b h = id_eq (grind (arith, nat_tests)) (grind (arith, nat_tests)) (grind (arith, nat_tests))
-  where
-    id_eq : a.number ≡ b.number → a.site ≡ b.site → a.boot ≡ b.boot → a ≡ b
-    id_eq e f g = λ i. record { number = e i; site = f i; boot = g i }
-
 framed : (p : Packet) (v : SiteView) (e : InEpoch) → is_dropped p v ≡ false → is_forming p ≡ false → v.epoch ≡ Some e → IsFramed p e
 framed p v e h inside here =
     let a : ((p.to_boot == v.boot) ≡ true) × ((is_forming p || is_framed p v.epoch) ≡ true) = both_true (p.to_boot == v.boot) (is_forming p || is_framed p v.epoch) (not_false ((p.to_boot == v.boot) && (is_forming p || is_framed p v.epoch)) h) in
@@ -89,48 +82,24 @@ framed_keeps : (F : Facts) (G : Owed) → Spine F G → (c : Config) (me : ℕ) 
 framed_keeps F G s c me past p None v d inside k here h = quiet_keeps F G me past v (λ order. h)
 framed_keeps F G s c me past p (Some e) v d inside k here h = inside_keeps F G s c me v.boot past p.from v e p.body here (k e here (framed p v e d inside here)) h
 
--- a packet of the epoch after which no adoption is tried
-inside_received : (F : Facts) (G : Owed) → Spine F G → (K : Deeds) (c : Config) (me : ℕ) (past : List Told) (links : Links) (p : Packet) (x : Body) (v : SiteView) → p.body ≡ x → is_dropped p v ≡ false → nat_lt (kind_number x) 6 ≡ false → PacketDone F G c me past p v → ViewOk K (takes_framed c me p v.epoch v).view → StoresJoined past → InSite F past me v v.epoch → Keeps F G me past (whole c me links (takes_framed c me p v.epoch v) quiet)
-inside_received F G s K c me past links p x v q d inside k ok stores h = untried F G s K c me past links (takes_framed c me p v.epoch v) ok stores (framed_keeps F G s c me past p v.epoch v d (forming_not p x q inside) k refl h)
+-- the packet has this body, and what comes of it leaves the site in order
+record Comes (L : Deeds) (p : Packet) (x : Body) (o : Outcome SiteView) : Type 0 where
+  body_is : p.body ≡ x
+  ok : ViewOk L o.view
 
-abbrev Received : Facts → Owed → Config → ℕ → List Told → Links → Packet → Body → SiteView → Type 0
-Received F G c me past links p x v = Keeps F G me past (whole c me links (takes c me links p x v) (tries_at c me x))
-
-received : (F : Facts) (G : Owed) → Spine F G → (K L : Deeds) (c : Config) (me : ℕ) (past : List Told) (links : Links) (p : Packet) (x : Body) (v : SiteView) → p.body ≡ x → is_dropped p v ≡ false → PacketDone F G c me past p v → ViewOk K v → ViewOk L (takes c me links p x v).view → StoresJoined past → InSite F past me v v.epoch → Received F G c me past links p x v
-received F G s K L c me past links p body.Poll v q d k before ok stores h = untried F G s L c me past links _ ok stores (on_poll_part F G s me past links p.from p.from_boot p.epoch v (λ order. h))
-received F G s K L c me past links p (body.Promise reach) v q d k before ok stores h = untried F G s L c me past links _ ok stores (on_promise_part F G s me past p.from p.from_boot p.epoch reach v.round v (λ order. h))
-received F G s K L c me past links p (body.Refuse promised) v q d k before ok stores h = untried F G s L c me past links _ ok stores (on_refuse_part F G s me past links p.epoch promised v.round v (λ order. h))
-received F G s K L c me past links p (body.Install members) v q d k before ok stores h = let o : Outcome SiteView = takes c me links p (body.Install members) v in untried F G s L c me past links o ok stores (on_install_part F G s K c me past p.from p.from_boot p.epoch members v before stores (λ order. h))
-received F G s K L c me past links p body.Joined v q d k before ok stores h = untried F G s L c me past links _ ok stores (on_joined_part F G s me past p.from p.epoch v (λ order. h))
-received F G s K L c me past links p (body.Notify file kind set size stamp vector holder) v q d k before ok stores h =
-    tried F G s L c me past links (takes_framed c me p v.epoch v) (framed_notify c me p (body.Notify file kind set size stamp vector holder) v.epoch v q (λ f. notify_silent f p.from (copy_of v.store file) (record { file = file; kind = kind; set = set; size = size; stamp = stamp; vector = vector; holder = holder; base = None; wanted = None; content = [] }) v.pulls)) ok stores
-    (framed_keeps F G s c me past p v.epoch v d (forming_not p (body.Notify file kind set size stamp vector holder) q refl) k refl h)
-received F G s K L c me past links p (body.Page file stamp page bytes) v q d k before ok stores h =
-    tried F G s L c me past links (takes_framed c me p v.epoch v) (framed_notify c me p (body.Page file stamp page bytes) v.epoch v q (λ f. page_silent f stamp page bytes (pull_of v.pulls file) v.pulls)) ok stores
-    (framed_keeps F G s c me past p v.epoch v d (forming_not p (body.Page file stamp page bytes) q refl) k refl h)
-received F G s K L c me past links p (body.Delta file wanted pages) v q d k before ok stores h =
-    tried F G s L c me past links (takes_framed c me p v.epoch v) (framed_notify c me p (body.Delta file wanted pages) v.epoch v q (λ f. delta_silent f (pages_in (copy_of v.store file)) wanted pages (pull_of v.pulls file) v.pulls)) ok stores
-    (framed_keeps F G s c me past p v.epoch v d (forming_not p (body.Delta file wanted pages) q refl) k refl h)
-received F G s K L c me past links p (body.Report group copies) v q d k before ok stores h = inside_received F G s L c me past links p (body.Report group copies) v q d refl k ok stores h
-received F G s K L c me past links p (body.ReportOk group) v q d k before ok stores h = inside_received F G s L c me past links p (body.ReportOk group) v q d refl k ok stores h
-received F G s K L c me past links p (body.Open serial call process request file how) v q d k before ok stores h = inside_received F G s L c me past links p (body.Open serial call process request file how) v q d refl k ok stores h
-received F G s K L c me past links p (body.OpenSs inst file mode set kind base vector parents) v q d k before ok stores h = inside_received F G s L c me past links p (body.OpenSs inst file mode set kind base vector parents) v q d refl k ok stores h
-received F G s K L c me past links p (body.Opened inst answer) v q d k before ok stores h = inside_received F G s L c me past links p (body.Opened inst answer) v q d refl k ok stores h
-received F G s K L c me past links p (body.OpenDone serial answer) v q d k before ok stores h = inside_received F G s L c me past links p (body.OpenDone serial answer) v q d refl k ok stores h
-received F G s K L c me past links p (body.Op serial n o seen) v q d k before ok stores h = inside_received F G s L c me past links p (body.Op serial n o seen) v q d refl k ok stores h
-received F G s K L c me past links p (body.ReadHeld serial n at len) v q d k before ok stores h = inside_received F G s L c me past links p (body.ReadHeld serial n at len) v q d refl k ok stores h
-received F G s K L c me past links p (body.OpDone serial n result) v q d k before ok stores h = inside_received F G s L c me past links p (body.OpDone serial n result) v q d refl k ok stores h
-received F G s K L c me past links p (body.AsHeld serial n len) v q d k before ok stores h = inside_received F G s L c me past links p (body.AsHeld serial n len) v q d refl k ok stores h
-received F G s K L c me past links p (body.Close serial) v q d k before ok stores h = inside_received F G s L c me past links p (body.Close serial) v q d refl k ok stores h
-received F G s K L c me past links p (body.Closed inst made) v q d k before ok stores h = inside_received F G s L c me past links p (body.Closed inst made) v q d refl k ok stores h
-received F G s K L c me past links p (body.ClosedOk inst) v q d k before ok stores h = inside_received F G s L c me past links p (body.ClosedOk inst) v q d refl k ok stores h
-received F G s K L c me past links p (body.CloseDone serial answer) v q d k before ok stores h = inside_received F G s L c me past links p (body.CloseDone serial answer) v q d refl k ok stores h
-received F G s K L c me past links p (body.Look call process request take file what) v q d k before ok stores h = inside_received F G s L c me past links p (body.Look call process request take file what) v q d refl k ok stores h
-received F G s K L c me past links p (body.LookSs us call process request take file what serve) v q d k before ok stores h = inside_received F G s L c me past links p (body.LookSs us call process request take file what serve) v q d refl k ok stores h
-received F G s K L c me past links p (body.LookDone call request take answer) v q d k before ok stores h = inside_received F G s L c me past links p (body.LookDone call request take answer) v q d refl k ok stores h
-received F G s K L c me past links p (body.Pull file stamp page) v q d k before ok stores h = inside_received F G s L c me past links p (body.Pull file stamp page) v q d refl k ok stores h
-received F G s K L c me past links p (body.Want file wanted own) v q d k before ok stores h = inside_received F G s L c me past links p (body.Want file wanted own) v q d refl k ok stores h
-received F G s K L c me past links p (body.Have file stamp) v q d k before ok stores h = inside_received F G s L c me past links p (body.Have file stamp) v q d refl k ok stores h
+received : (F : Facts) (G : Owed) → Spine F G → (K L : Deeds) (c : Config) (me : ℕ) (past : List Told) (links : Links) (p : Packet) (x : Body) (v : SiteView) → p.body ≡ x → is_dropped p v ≡ false → PacketDone F G c me past p v → ViewOk K v → ViewOk L (takes c me links p x v).view → StoresJoined past → InSite F past me v v.epoch → Keeps F G me past (whole c me links (takes c me links p x v) (tries_at c me x))
+received F G s K L c me past links p x v q d k before ok stores h = by_packet Q c me links p v (record {
+  poll = λ g. untried F G s L c me past links (on_poll me links p.from p.from_boot p.epoch v) g.ok stores (on_poll_part F G s me past links p.from p.from_boot p.epoch v (λ order. h));
+  promise = λ reach g. untried F G s L c me past links (on_promise p.from p.from_boot p.epoch reach v) g.ok stores (on_promise_part F G s me past p.from p.from_boot p.epoch reach v.round v (λ order. h));
+  refuse = λ promised g. untried F G s L c me past links (on_refuse me links p.epoch promised v) g.ok stores (on_refuse_part F G s me past links p.epoch promised v.round v (λ order. h));
+  install = λ members g. untried F G s L c me past links (on_install c me p.from p.from_boot p.epoch members v) g.ok stores (on_install_part F G s K c me past p.from p.from_boot p.epoch members v before stores (λ order. h));
+  joined = λ g. untried F G s L c me past links (on_joined p.from p.epoch v) g.ok stores (on_joined_part F G s me past p.from p.epoch v (λ order. h));
+  inside = λ y inside g. untried F G s L c me past links (takes_framed c me p v.epoch v) g.ok stores (framed_keeps F G s c me past p v.epoch v d (forming_not p y g.body_is inside) k refl h);
+  pulled = λ y inside silent g. tried F G s L c me past links (takes_framed c me p v.epoch v) (framed_notify c me p y v.epoch v g.body_is silent) g.ok stores (framed_keeps F G s c me past p v.epoch v d (forming_not p y g.body_is inside) k refl h);
+}) x (record { body_is = q; ok = ok })
+  where
+    Q : Body → Outcome SiteView → (SiteView → Outcome SiteView) → Type 0
+    Q y o tries = Comes L p y o → Keeps F G me past (whole c me links o tries)
 
 -- ---- the step ----
 
@@ -143,8 +112,8 @@ pub step_keeps : (F : Facts) (G : Owed) → Spine F G → (K J : Deeds) (c : Con
 step_keeps F G s K J c me past links v (Calls process words) k n ok stores h =
     let o : Outcome SiteView = takes_call c me process words v in
     let f : EpochFine K me v o = inner_fine K me v o (record { boot = refl; round = refl; promised = refl; epoch = refl; tables = ok.tables; still = on_call_still (call_frame c me v.boot v.epoch) (epoch_id v.epoch) process words v.users }) (call_inner c me process words v) ok in
-    let t : _ × _ = on_call_tells Free free_users (call_frame c me v.boot v.epoch) (epoch_id v.epoch) process words v.users in
-    untried F G s (Now K me o.told) c me past links o f.view stores (plain_keeps F G s me past v o refl refl t.0 (none_free o.written t.1) (λ order. h))
+    let t : Part freely (on_call (call_frame c me v.boot v.epoch) (epoch_id v.epoch) process words v.users) = call_part (call_frame c me v.boot v.epoch) (epoch_id v.epoch) process words v.users in
+    untried F G s (Now K me o.told) c me past links o f.view stores (plain_keeps F G s me past v o refl refl t.1 t.2 (λ order. h))
 step_keeps F G s K J c me past links v (Receives p) k n ok stores h =
     (elim (is_dropped p v) as (λ t. is_dropped p v ≡ t → Keeps F G me past (elim t [ true ↦ quiet v | false ↦ whole c me links (takes c me links p p.body v) (tries_at c me p.body) ])) [
       | true ↦ λ d. quiet_keeps F G me past v (λ order. h)

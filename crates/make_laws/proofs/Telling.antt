@@ -57,19 +57,6 @@ pub any_record : (r : Record) → AtRecord AnyGroup r
 any_record (says.Start e group brought) = tt
 any_record _ = tt
 
-idle_record : (G : Groups) (r : Record) → IdleRecord r → AtRecord G r
-idle_record G (says.Start e group brought) h = absurd h
-idle_record G _ h = tt
-
-idle_one : (G : Groups) (x : Told) → Idle x → At G x
-idle_one G (Shown r) h = idle_record G r h
-idle_one G (Begins s e inst file) h = absurd h
-idle_one G (Reserves s e inst file) h = absurd h
-idle_one G _ h = tt
-
-pub idle_at : (G : Groups) (xs : List Told) → Every Idle xs → Every (At G) xs
-idle_at G xs h = every_weaker Idle (At G) xs (idle_one G) h
-
 -- ---- what a table tells, and what a store ----
 
 abbrev pub TabularRecord : EpochId → ℕ → Record → Type 0
@@ -123,14 +110,6 @@ idle_aside_record (says.Refuse e call request inst m file why) h = absurd h
 idle_aside_record (says.Release e inst file made) h = absurd h
 idle_aside_record _ h = tt
 
-idle_aside_one : (x : Told) → Idle x → Aside x
-idle_aside_one (Shown r) h = idle_aside_record r h
-idle_aside_one (Reserves s e inst file) h = absurd h
-idle_aside_one _ h = tt
-
-pub idle_aside : (xs : List Told) → Every Idle xs → Every Aside xs
-idle_aside xs h = every_weaker Idle Aside xs idle_aside_one h
-
 -- what a store tells but where it is asked to open
 abbrev pub Storing : Told → Type 0
 Storing (Shown r) = AsideRecord r
@@ -138,7 +117,14 @@ Storing (Begins s e inst file) = ⊥
 Storing (Reserves s e inst file) = ⊥
 Storing _ = Unit {0}
 
-storing_aside_one : (x : Told) → Storing x → Aside x
+-- what is neither of a table nor of a store is so too
+pub idle_storing : (x : Told) → Idle x → Storing x
+idle_storing (Shown r) h = idle_aside_record r h
+idle_storing (Begins s e inst file) h = h
+idle_storing (Reserves s e inst file) h = h
+idle_storing _ h = tt
+
+pub storing_aside_one : (x : Told) → Storing x → Aside x
 storing_aside_one (Shown r) h = h
 storing_aside_one (Reserves s e inst file) h = absurd h
 storing_aside_one _ h = tt
@@ -146,18 +132,18 @@ storing_aside_one _ h = tt
 pub storing_aside : (xs : List Told) → Every Storing xs → Every Aside xs
 storing_aside xs h = every_weaker Storing Aside xs storing_aside_one h
 
+pub idle_aside : (xs : List Told) → Every Idle xs → Every Aside xs
+idle_aside xs h = every_weaker Idle Aside xs (λ x k. storing_aside_one x (idle_storing x k)) h
+
 storing_record : (G : Groups) (r : Record) → AsideRecord r → AtRecord G r
 storing_record G (says.Start e group brought) h = absurd h
 storing_record G _ h = tt
 
-storing_one : (G : Groups) (x : Told) → Storing x → At G x
+pub storing_one : (G : Groups) (x : Told) → Storing x → At G x
 storing_one G (Shown r) h = storing_record G r h
 storing_one G (Begins s e inst file) h = absurd h
 storing_one G (Reserves s e inst file) h = absurd h
 storing_one G _ h = tt
-
-pub storing_at : (G : Groups) (xs : List Told) → Every Storing xs → Every (At G) xs
-storing_at G xs h = every_weaker Storing (At G) xs (storing_one G) h
 
 -- ---- packets ----
 
