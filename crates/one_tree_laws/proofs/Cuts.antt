@@ -15,31 +15,25 @@ use Rattle.wire_messages.specs.Bodies.{kind_number}
 use Rattle.wire_messages.specs.declared.body.Body.{Body}
 use Rattle.wire_messages.specs.declared.body.Body.TheVariants as body
 use Rattle.wire_messages.specs.declared.packet.Packet.{Packet}
-use Rattle.role_steps.specs.Looks.{LookRequest}
-use Rattle.role_steps.specs.Opens.{OpenRequest, on_opened}
 use Rattle.role_steps.specs.Own.{Every}
-use Rattle.role_steps.specs.Adoption.{table_group}
 use Rattle.role_steps.specs.Epochs.{is_epoch_below, frame_in, leaves_of, leaves, promises, reached, round_id, begins_round, starts_merge, boots_where, merge_boot, part_boot, starts_part_of, starts_part, promise_packet, refuse_packet, on_poll, on_promise_of, on_refuse_of, joins, may_install, is_in, joined_packet, on_install, on_joined}
-use Rattle.role_steps.specs.Reports.{on_report, on_open, on_look, on_closed, on_have}
-use Rattle.role_steps.specs.Tables.{row, first_that}
-use Rattle.role_steps.specs.Using.{on_call, on_open_done, on_op_done, on_as_held, on_close_done, on_look_done}
+use Rattle.role_steps.specs.Tables.{row}
+use Rattle.role_steps.specs.Using.{on_call}
 use Rattle.role_steps.specs.Views.{Frame, Store, SiteView, Told, Shown, Shuts, DiskWrite, Outcome, Event, Calls, Receives, Ticks, Parts, Merges, GivesUp, quiet, sends, and_then, first_written}
 use Rattle.role_steps.specs.declared.rounds.InEpoch.{InEpoch}
 use Rattle.role_steps.specs.declared.rounds.Round.{Round}
-use Rattle.role_steps.specs.declared.synchronizing.SyncTable.{SyncTable}
-use Rattle.the_run.specs.Steps.{at_table_of, from_user, group_of, is_opened_in, is_dropped, takes_inside, takes_framed, takes, tries_at, adopts_in, ends_event, whole, call_frame, epoch_id, takes_call, step}
+use Rattle.the_run.specs.Steps.{from_user, group_of, is_dropped, takes_inside, takes_framed, takes, tries_at, adopts_in, ends_event, whole, call_frame, epoch_id, takes_call, step}
 use Rattle.the_run.specs.Worlds.{Line, told_onto}
 use Rattle.kept_laws.specs.of_vector_laws.Written.{past_of}
 use Rattle.kept_laws.specs.of_vector_laws.HistoryCommits.{StampsAreOnce}
-use Rattle.call_row_laws.specs.of_run_laws.Words.{Talks}
-use Rattle.call_row_laws.proofs.of_run_laws.Telling.{on_open_ss_talks, on_closed_ok_talks, on_notify_talks, on_page_talks, on_delta_talks, on_call_talks, on_open_done_talks, on_op_done_talks, on_as_held_talks, on_close_done_talks, on_look_done_talks, on_opened_talks, on_open_talks, on_look_talks, on_report_talks, on_closed_talks, on_have_talks}
+use Rattle.call_row_laws.proofs.of_run_laws.Telling.{on_open_ss_talks, on_closed_ok_talks, on_call_talks}
+use Rattle.kept_laws.proofs.of_vector_laws.of_law_walks.Untouched.{untouched}
 use Rattle.kept_laws.proofs.of_vector_laws.SiteDisks.{ends_keeps}
 use Rattle.call_row_laws.proofs.of_lock_laws.StepFacts.{SiteSilent, notify_silent, page_silent, delta_silent, framed_notify}
-use Rattle.role_steps.specs.Mends.{kept_stamps, mending}
+use Rattle.role_steps.specs.Mends.{mending}
 use Rattle.role_steps.specs.OperationEffects.{Mending}
 use Rattle.role_steps.specs.Operations.{on_op, on_read_held}
-use Rattle.role_steps.specs.Pulling.{pull_of, on_notify, on_page, pages_in, on_delta}
-use Rattle.role_steps.specs.declared.pulls.Pull.{Pull}
+use Rattle.role_steps.specs.Pulling.{pull_of, pages_in}
 use Rattle.role_steps.specs.Storage.{StoreRequest, copy_of, instance_of, on_open_ss, on_close, on_closed_ok}
 use Rattle.tree_laws.specs.Doing.{IsReceived, WriteFact, WrittenFact}
 use Rattle.tree_laws.specs.Packets.{PacketFact}
@@ -99,43 +93,22 @@ first_writes c n trace me s (Some x) b h k = h
 
 -- ---- a packet of the epoch ----
 
-table_writes : (c : Config) (n : ℕ) (trace : List Line) (f : Frame) (v : SiteView) (g : SyncTable → Outcome SyncTable) → ((t : SyncTable) → Talks (g t)) → (o : Option SyncTable) → WritesSo c n trace f.me v.store (at_table_of g o v).written
-table_writes c n trace f v g h None = none_writes c n trace f.me v.store None refl
-table_writes c n trace f v g h (Some t) = none_writes c n trace f.me v.store (g t).written (h t).1
-
 -- a read whose asker has the bytes writes nothing
 held_unwritten : (f : Frame) (i : Serial) (k at len : ℕ) (s : Store) → (on_read_held f i k at len s).written ≡ None
 held_unwritten f i k at len s = (held_read_so (λ q. Unit {0}) (λ x. Unit {0}) (λ w. w ≡ None) f (record { full = λ to serial m r. tt; held = λ to serial m size. tt; told = λ inst m o r. tt; unwritten = refl }) i k at len s).2
 
 inside_writes : (c : Config) → RolesDo c → (n : ℕ) (trace : List Line) (f : Frame) (p : Packet) (b : Body) (v : SiteView) → Ready c trace f → InsideFact c f trace v → IsReceived f p → p.body ≡ b → PacketFact c trace p → WritesSo c n trace f.me v.store (takes_inside f p.from b v).written
-inside_writes c roles n trace f p (body.Report group copies) v ready h r q fact = table_writes c n trace f v (on_report f p.from copies) (on_report_talks f p.from copies) (row table_group group v.tables)
-inside_writes c roles n trace f p (body.Open serial call process request file how) v ready h r q fact =
-    let o : OpenRequest = record { serial = serial; call = call; process = process; request = request; file = file; how = how } in table_writes c n trace f v (on_open f p.from o) (on_open_talks f p.from o) (row table_group file.group v.tables)
 inside_writes c roles n trace f p (body.OpenSs inst file mode set kind base vector parents) v ready h r q fact =
     let o : StoreRequest = record { inst = inst; file = file; mode = mode; set = set; kind = kind; base = base; vector = vector; parents = parents } in none_writes c n trace f.me v.store (on_open_ss f o v.store).written (on_open_ss_talks f o v.store).1
-inside_writes c roles n trace f p (body.Opened inst answer) v ready h r q fact = table_writes c n trace f v (on_opened f inst answer) (on_opened_talks f inst answer) (first_that (is_opened_in inst) v.tables)
-inside_writes c roles n trace f p (body.OpenDone serial answer) v ready h r q fact = none_writes c n trace f.me v.store (on_open_done f (kept_stamps v) serial answer v.users).written (on_open_done_talks f (kept_stamps v) serial answer v.users).1
 inside_writes c roles n trace f p (body.Op serial k o seen) v ready h r q fact = λ d e rest.
     (let m : Mending = mending v (group_of (instance_of v.store (from_user p.from serial))) in let out : Outcome Store = on_op f m (from_user p.from serial) k o seen v.store in
     by_fact (WriteFact c n trace f.me v.store) out.written d e (roles.stores.acts n trace f p serial k o seen v ready h (record { received = r; body_is = q; fact = fact }) (shaped_rest c n trace out.told out.written d (on_op_shaped f m (from_user p.from serial) k o seen v.store) e rest)).written)
-inside_writes c roles n trace f p (body.OpDone serial k result) v ready h r q fact = none_writes c n trace f.me v.store (on_op_done f serial k result v.users).written (on_op_done_talks f serial k result v.users).1
 inside_writes c roles n trace f p (body.ReadHeld serial k at len) v ready h r q fact = none_writes c n trace f.me v.store (on_read_held f (from_user p.from serial) k at len v.store).written (held_unwritten f (from_user p.from serial) k at len v.store)
-inside_writes c roles n trace f p (body.AsHeld serial k len) v ready h r q fact = none_writes c n trace f.me v.store (on_as_held f serial k v.users).written (on_as_held_talks f serial k v.users).1
 inside_writes c roles n trace f p (body.Close serial) v ready h r q fact = λ d e rest.
     (let out : Outcome Store = on_close f (from_user p.from serial) v.store in
     by_fact (WriteFact c n trace f.me v.store) out.written d e (roles.stores.closes n trace f p serial v.store ready h.store (record { received = r; body_is = q; fact = fact }) (shaped_rest c n trace out.told out.written d (on_close_shaped f (from_user p.from serial) v.store) e rest)).written)
-inside_writes c roles n trace f p (body.Closed inst made) v ready h r q fact = table_writes c n trace f v (on_closed f p.from inst made) (on_closed_talks f p.from inst made) (first_that (is_opened_in inst) v.tables)
 inside_writes c roles n trace f p (body.ClosedOk inst) v ready h r q fact = none_writes c n trace f.me v.store (on_closed_ok f inst v.store).written (on_closed_ok_talks f inst v.store).1
-inside_writes c roles n trace f p (body.CloseDone serial answer) v ready h r q fact = none_writes c n trace f.me v.store (on_close_done f serial answer v.users).written (on_close_done_talks f serial answer v.users).1
-inside_writes c roles n trace f p (body.Look call process request take file what) v ready h r q fact =
-    let l : LookRequest = record { call = call; process = process; request = request; take = take; file = file; what = what } in table_writes c n trace f v (on_look f p.from l) (on_look_talks f p.from l) (row table_group file.group v.tables)
-inside_writes c roles n trace f p (body.LookDone call request take answer) v ready h r q fact = none_writes c n trace f.me v.store (on_look_done f call request take answer v.users).written (on_look_done_talks f call request take answer v.users).1
-inside_writes c roles n trace f p (body.Notify file kind set size stamp vector holder) v ready h r q fact =
-    let pull : Pull = record { file = file; kind = kind; set = set; size = size; stamp = stamp; vector = vector; holder = holder; base = None; wanted = None; content = [] } in none_writes c n trace f.me v.store (on_notify f p.from (copy_of v.store file) pull v.pulls).written (on_notify_talks f p.from (copy_of v.store file) pull v.pulls).1
-inside_writes c roles n trace f p (body.Page file stamp page bytes) v ready h r q fact = none_writes c n trace f.me v.store (on_page f file stamp page bytes v.pulls).written (on_page_talks f file stamp page bytes v.pulls).1
-inside_writes c roles n trace f p (body.Delta file wanted pages) v ready h r q fact = none_writes c n trace f.me v.store (on_delta f (copy_of v.store file) file wanted pages v.pulls).written (on_delta_talks f (copy_of v.store file) file wanted pages v.pulls).1
-inside_writes c roles n trace f p (body.Have file stamp) v ready h r q fact = table_writes c n trace f v (on_have p.from file stamp) (on_have_talks p.from file stamp) (row table_group file.group v.tables)
-inside_writes c roles n trace f p _ v ready h r q fact = none_writes c n trace f.me v.store None refl
+inside_writes c roles n trace f p x v ready h r q fact = none_writes c n trace f.me v.store (takes_inside f p.from x v).written (untouched f p.from x v (λ k. k)).1
 
 -- an adoption that is cut off
 adopts_writes : (c : Config) → RolesDo c → (n me : ℕ) (trace : List Line) (v : SiteView) → Past c trace → SiteFact c me trace v → WritesSo c n trace me v.store (adopts_in c me v).written
@@ -230,26 +203,7 @@ packet_writes c roles n links trace p (body.Notify file kind set size stamp vect
     (λ f. notify_silent f p.from (copy_of v.store file) (record { file = file; kind = kind; set = set; size = size; stamp = stamp; vector = vector; holder = holder; base = None; wanted = None; content = [] }) v.pulls) (λ f. refl) followed h fact
 packet_writes c roles n links trace p (body.Page file stamp page bytes) v q d followed h fact = tried_writes c roles n links trace p (body.Page file stamp page bytes) v q refl d (λ f. page_silent f stamp page bytes (pull_of v.pulls file) v.pulls) (λ f. refl) followed h fact
 packet_writes c roles n links trace p (body.Delta file wanted pages) v q d followed h fact = tried_writes c roles n links trace p (body.Delta file wanted pages) v q refl d (λ f. delta_silent f (pages_in (copy_of v.store file)) wanted pages (pull_of v.pulls file) v.pulls) (λ f. refl) followed h fact
-packet_writes c roles n links trace p (body.Report group copies) v q d followed h fact = came_writes c roles n links trace p (body.Report group copies) v q refl d followed h fact
-packet_writes c roles n links trace p (body.ReportOk group) v q d followed h fact = came_writes c roles n links trace p (body.ReportOk group) v q refl d followed h fact
-packet_writes c roles n links trace p (body.Open serial call process request file how) v q d followed h fact = came_writes c roles n links trace p (body.Open serial call process request file how) v q refl d followed h fact
-packet_writes c roles n links trace p (body.OpenSs inst file mode set kind base vector parents) v q d followed h fact = came_writes c roles n links trace p (body.OpenSs inst file mode set kind base vector parents) v q refl d followed h fact
-packet_writes c roles n links trace p (body.Opened inst answer) v q d followed h fact = came_writes c roles n links trace p (body.Opened inst answer) v q refl d followed h fact
-packet_writes c roles n links trace p (body.OpenDone serial answer) v q d followed h fact = came_writes c roles n links trace p (body.OpenDone serial answer) v q refl d followed h fact
-packet_writes c roles n links trace p (body.Op serial k o seen) v q d followed h fact = came_writes c roles n links trace p (body.Op serial k o seen) v q refl d followed h fact
-packet_writes c roles n links trace p (body.OpDone serial k result) v q d followed h fact = came_writes c roles n links trace p (body.OpDone serial k result) v q refl d followed h fact
-packet_writes c roles n links trace p (body.ReadHeld serial k at len) v q d followed h fact = came_writes c roles n links trace p (body.ReadHeld serial k at len) v q refl d followed h fact
-packet_writes c roles n links trace p (body.AsHeld serial k len) v q d followed h fact = came_writes c roles n links trace p (body.AsHeld serial k len) v q refl d followed h fact
-packet_writes c roles n links trace p (body.Close serial) v q d followed h fact = came_writes c roles n links trace p (body.Close serial) v q refl d followed h fact
-packet_writes c roles n links trace p (body.Closed inst made) v q d followed h fact = came_writes c roles n links trace p (body.Closed inst made) v q refl d followed h fact
-packet_writes c roles n links trace p (body.ClosedOk inst) v q d followed h fact = came_writes c roles n links trace p (body.ClosedOk inst) v q refl d followed h fact
-packet_writes c roles n links trace p (body.CloseDone serial answer) v q d followed h fact = came_writes c roles n links trace p (body.CloseDone serial answer) v q refl d followed h fact
-packet_writes c roles n links trace p (body.Look call process request take file what) v q d followed h fact = came_writes c roles n links trace p (body.Look call process request take file what) v q refl d followed h fact
-packet_writes c roles n links trace p (body.LookSs us call process request take file what serve) v q d followed h fact = came_writes c roles n links trace p (body.LookSs us call process request take file what serve) v q refl d followed h fact
-packet_writes c roles n links trace p (body.LookDone call request take answer) v q d followed h fact = came_writes c roles n links trace p (body.LookDone call request take answer) v q refl d followed h fact
-packet_writes c roles n links trace p (body.Pull file stamp page) v q d followed h fact = came_writes c roles n links trace p (body.Pull file stamp page) v q refl d followed h fact
-packet_writes c roles n links trace p (body.Want file wanted own) v q d followed h fact = came_writes c roles n links trace p (body.Want file wanted own) v q refl d followed h fact
-packet_writes c roles n links trace p (body.Have file stamp) v q d followed h fact = came_writes c roles n links trace p (body.Have file stamp) v q refl d followed h fact
+packet_writes c roles n links trace p x v q d followed h fact = came_writes c roles n links trace p x v q refl d followed h fact
 
 takes_writes : (c : Config) → RolesDo c → (n : ℕ) (links : Links) (trace : List Line) (v : SiteView) (p : Packet) → Past c trace → SiteFact c p.to trace v → Arrives c trace p v → WritesSo c n trace p.to v.store (step c p.to links v (Receives p)).written
 takes_writes c roles n links trace v p followed h fact = over (is_dropped p v) refl

@@ -1,5 +1,5 @@
 -- The whole step of a site: a call, a packet, a tick, or a line for epochs, and the end of the event.
-use Rattle.std.proofs.Common.{◌≡◌, ℕ, ◌+◌, ◌==◌, nat_lt, Bool, true, false, ◌&&◌, ◌||◌, not, List, [], ◌∷◌, ◌++◌, Option, Some, None, refl, sym, ◌∙◌, subst}
+use Rattle.std.proofs.Common.{◌≡◌, ℕ, ◌+◌, ◌==◌, nat_lt, Bool, true, false, ◌&&◌, ◌||◌, List, [], ◌∷◌, ◌++◌, Option, Some, None, refl, sym, ◌∙◌, subst}
 use Rattle.role_steps.proofs.of_plain_facts.Numbers.{equal}
 use Rattle.role_steps.proofs.of_plain_facts.Tests.{both_true, not_false}
 use Rattle.locus_ids.specs.declared.config.Config.{Config}
@@ -201,26 +201,7 @@ received c roles stays n trace links p (body.Page file stamp page bytes) v q d f
     came_tried c roles stays n trace links p (body.Page file stamp page bytes) v q refl d (λ f. page_silent f stamp page bytes (pull_of v.pulls file) v.pulls) (λ f. refl) followed h fact
 received c roles stays n trace links p (body.Delta file wanted pages) v q d followed h fact =
     came_tried c roles stays n trace links p (body.Delta file wanted pages) v q refl d (λ f. delta_silent f (pages_in (copy_of v.store file)) wanted pages (pull_of v.pulls file) v.pulls) (λ f. refl) followed h fact
-received c roles stays n trace links p (body.Report group copies) v q d followed h fact = came c roles stays n trace links p (body.Report group copies) v q refl d followed h fact
-received c roles stays n trace links p (body.ReportOk group) v q d followed h fact = came c roles stays n trace links p (body.ReportOk group) v q refl d followed h fact
-received c roles stays n trace links p (body.Open serial call process request file how) v q d followed h fact = came c roles stays n trace links p (body.Open serial call process request file how) v q refl d followed h fact
-received c roles stays n trace links p (body.OpenSs inst file mode set kind base vector parents) v q d followed h fact = came c roles stays n trace links p (body.OpenSs inst file mode set kind base vector parents) v q refl d followed h fact
-received c roles stays n trace links p (body.Opened inst answer) v q d followed h fact = came c roles stays n trace links p (body.Opened inst answer) v q refl d followed h fact
-received c roles stays n trace links p (body.OpenDone serial answer) v q d followed h fact = came c roles stays n trace links p (body.OpenDone serial answer) v q refl d followed h fact
-received c roles stays n trace links p (body.Op serial k o seen) v q d followed h fact = came c roles stays n trace links p (body.Op serial k o seen) v q refl d followed h fact
-received c roles stays n trace links p (body.OpDone serial k result) v q d followed h fact = came c roles stays n trace links p (body.OpDone serial k result) v q refl d followed h fact
-received c roles stays n trace links p (body.ReadHeld serial k at len) v q d followed h fact = came c roles stays n trace links p (body.ReadHeld serial k at len) v q refl d followed h fact
-received c roles stays n trace links p (body.AsHeld serial k len) v q d followed h fact = came c roles stays n trace links p (body.AsHeld serial k len) v q refl d followed h fact
-received c roles stays n trace links p (body.Close serial) v q d followed h fact = came c roles stays n trace links p (body.Close serial) v q refl d followed h fact
-received c roles stays n trace links p (body.Closed inst made) v q d followed h fact = came c roles stays n trace links p (body.Closed inst made) v q refl d followed h fact
-received c roles stays n trace links p (body.ClosedOk inst) v q d followed h fact = came c roles stays n trace links p (body.ClosedOk inst) v q refl d followed h fact
-received c roles stays n trace links p (body.CloseDone serial answer) v q d followed h fact = came c roles stays n trace links p (body.CloseDone serial answer) v q refl d followed h fact
-received c roles stays n trace links p (body.Look call process request take file what) v q d followed h fact = came c roles stays n trace links p (body.Look call process request take file what) v q refl d followed h fact
-received c roles stays n trace links p (body.LookSs us call process request take file what serve) v q d followed h fact = came c roles stays n trace links p (body.LookSs us call process request take file what serve) v q refl d followed h fact
-received c roles stays n trace links p (body.LookDone call request take answer) v q d followed h fact = came c roles stays n trace links p (body.LookDone call request take answer) v q refl d followed h fact
-received c roles stays n trace links p (body.Pull file stamp page) v q d followed h fact = came c roles stays n trace links p (body.Pull file stamp page) v q refl d followed h fact
-received c roles stays n trace links p (body.Want file wanted own) v q d followed h fact = came c roles stays n trace links p (body.Want file wanted own) v q refl d followed h fact
-received c roles stays n trace links p (body.Have file stamp) v q d followed h fact = came c roles stays n trace links p (body.Have file stamp) v q refl d followed h fact
+received c roles stays n trace links p x v q d followed h fact = came c roles stays n trace links p x v q refl d followed h fact
 
 -- ---- every event ----
 

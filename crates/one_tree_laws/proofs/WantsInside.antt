@@ -1,11 +1,10 @@
 -- What a site wants after a packet of its epoch, by the packet's kind; and after an adoption.
-use Rattle.std.proofs.Common.{◌≡◌, ℕ, ◌+◌, ◌<◌, ◌==◌, Bool, true, false, not, ◌&&◌, ◌||◌, cond, List, [], ◌∷◌, ◌++◌, length, Option, Some, None, refl, sym, ◌∙◌, ap, subst, ◌⊎◌, inl, inr}
+use Rattle.std.proofs.Common.{◌≡◌, ℕ, ◌+◌, ◌<◌, Bool, true, false, cond, List, [], ◌∷◌, ◌++◌, length, Option, Some, None, refl, sym, ◌∙◌, ap, subst, ◌⊎◌, inl, inr}
 use Rattle.role_steps.proofs.of_plain_facts.Options.{none_some, some_same}
 use Rattle.locus_ids.specs.declared.config.Config.{Config}
 use Rattle.locus_ids.specs.declared.ids.EpochId.{EpochId}
 use Rattle.locus_ids.specs.declared.ids.FileId.{FileId}
 use Rattle.locus_ids.specs.declared.ids.Kind.{Kind}
-use Rattle.locus_ids.specs.declared.ids.Serial.{Serial}
 use Rattle.locus_ids.specs.declared.ids.Stamp.{Stamp}
 use Rattle.locus_ids.specs.declared.sites.Sites.{Sites}
 use Rattle.locus_ids.specs.Sizes.{inode_span}
@@ -17,34 +16,27 @@ use Rattle.trace_book.specs.declared.record.Record.TheVariants as says
 use Rattle.wire_messages.specs.declared.body.Body.{Body}
 use Rattle.wire_messages.specs.declared.body.Body.TheVariants as body
 use Rattle.wire_messages.specs.declared.packet.Packet.{Packet}
-use Rattle.role_steps.specs.Adoption.{adopts, adopts_first, adopts_pull, fits_own, is_ready, table_group, without_pull}
 use Rattle.role_steps.specs.Looks.{LookRequest}
-use Rattle.role_steps.specs.Mends.{kept_stamps, mending}
-use Rattle.role_steps.specs.Opens.{OpenRequest, on_opened}
+use Rattle.role_steps.specs.Mends.{mending}
 use Rattle.role_steps.specs.Operations.{on_op, on_read_held}
 use Rattle.role_steps.specs.Own.{Every}
-use Rattle.role_steps.specs.Pulling.{begins_pull, goes_on, is_awaited, is_complete, is_delta, next_asked, on_delta, on_delta_of, on_notify, on_page, on_page_of, pages_in, pull_key, pull_of, pull_over, pull_packets, pull_repeats, replaces_pull}
-use Rattle.role_steps.specs.Reports.{on_report, on_open, on_look, on_closed, on_have}
-use Rattle.role_steps.specs.Storage.{copy_of, delta_of, instance_of, on_close, on_closed_ok, on_look_ss, on_open_ss, on_pull, on_want, pages_since, steps_of, wanted_delta}
-use Rattle.role_steps.specs.Tables.{first_that, row, with_row}
-use Rattle.role_steps.specs.Using.{on_as_held, on_close_done, on_look_done, on_op_done, on_open_done}
+use Rattle.role_steps.specs.Pulling.{begins_pull, goes_on, is_awaited, is_complete, is_delta, next_asked, on_delta, on_delta_of, on_notify, on_page, on_page_of, pages_in, pull_key, pull_of, pull_over, pull_packets, replaces_pull}
+use Rattle.role_steps.specs.Storage.{copy_of, delta_of, instance_of, on_close, on_closed_ok, on_look_ss, on_open_ss, on_pull, pages_since, steps_of, wanted_delta}
+use Rattle.role_steps.specs.Tables.{with_row}
 use Rattle.role_steps.specs.Versions.{is_below}
-use Rattle.role_steps.specs.Views.{Frame, SiteView, Store, Told, Shown, Outcome, Users, file_key, packet, quiet, sends}
+use Rattle.role_steps.specs.Views.{Frame, SiteView, Store, Told, Shown, Outcome, packet, quiet, sends}
 use Rattle.role_steps.specs.declared.copies.FileCopy.{FileCopy}
 use Rattle.role_steps.specs.declared.pulls.Pull.{Pull}
-use Rattle.role_steps.specs.declared.rounds.InEpoch.{InEpoch}
-use Rattle.role_steps.specs.declared.synchronizing.LastLook.{LastLook}
 use Rattle.role_steps.specs.declared.synchronizing.SyncTable.{SyncTable}
-use Rattle.role_steps.proofs.Sending.{every_append}
-use Rattle.the_run.specs.Kept.{Among}
-use Rattle.the_run.specs.Steps.{at_pulls, at_store, at_table_of, at_users, from_user, group_of, is_opened_in, takes_inside, with_pulls}
+use Rattle.the_run.specs.Roles.{IsForStore, IsForReader, IsForPull}
+use Rattle.the_run.proofs.Roles.{by_role, tables_of, users_by}
+use Rattle.the_run.proofs.Rows.{Found}
+use Rattle.the_run.specs.Steps.{at_store, at_table_of, from_user, group_of, takes_inside, with_pulls}
 use Rattle.the_run.specs.Worlds.{Line, told_onto}
-use Rattle.tree_model.specs.Files.{HeldVersion, held_version, version_of}
+use Rattle.tree_model.specs.Files.{HeldVersion, held_version}
 use Rattle.tree_model.specs.Histories.{history}
 use Rattle.call_row_laws.specs.of_lock_laws.of_law_walks.Laws.{TablePart}
 use Rattle.call_row_laws.proofs.of_lock_laws.StepFacts.{delta_silent, notify_silent, page_silent}
-use Rattle.call_row_laws.proofs.of_lock_laws.of_law_walks.RoleWalks.{on_as_held_walk, on_close_done_walk, on_look_done_walk, on_op_done_walk, on_open_done_walk}
-use Rattle.call_row_laws.proofs.of_lock_laws.of_law_walks.SyncWalks.{on_closed_walk, on_have_walk, on_look_walk, on_open_walk, on_opened_walk, on_report_walk}
 use Rattle.tree_laws.specs.Deltas.{BaseFact, DifferIn, IsBased, PullsAbove, WantFact, WantsOver}
 use Rattle.tree_laws.specs.Doing.{AllTold, IsOfStore, IsReceived, IsStoreRecord, PullsFact, PullsFine, StoreFine}
 use Rattle.tree_laws.specs.Instances.{Stands}
@@ -55,15 +47,13 @@ use Rattle.store_laws.proofs.Serving.{IsCopy, copy_is}
 use Rattle.store_laws.proofs.Tabled.{ascends_row, row_found, row_same}
 use Rattle.store_laws.proofs.of_order_laws.Standing.{same_stamp_eq}
 use Rattle.one_tree_laws.specs.Places.{InsideFact}
-use Rattle.one_tree_laws.specs.Rest.{AllRest, Past}
-use Rattle.one_tree_laws.specs.Roles.{Came, Ready, RolesDo}
-use Rattle.one_tree_laws.specs.Wants.{DeltaOf, IsPlain, IsTidy, WantsAt}
-use Rattle.one_tree_laws.proofs.Rising.{every_among, first_among, row_key}
-use Rattle.one_tree_laws.proofs.WantsAdopted.{found_among}
+use Rattle.one_tree_laws.specs.Rest.{AllRest}
+use Rattle.one_tree_laws.specs.Roles.{Ready, RolesDo}
+use Rattle.one_tree_laws.specs.Wants.{DeltaOf, IsTidy}
 use Rattle.one_tree_laws.proofs.WantsLines.{delta_wants, notify_wants, page_wants}
-use Rattle.one_tree_laws.proofs.WantsParts.{PartWants, SentSo, plain_so, plain_wants}
+use Rattle.one_tree_laws.proofs.WantsParts.{PartWants, SentSo, plain_wants}
 use Rattle.one_tree_laws.proofs.WantsSites.{IsKeptRecord, IsPlainPart, NoAdoption, PlainSent, answers_plain, of_plain, plain_law, quiet_part, tables_plain, users_plain}
-use Rattle.one_tree_laws.proofs.WantsStores.{on_close_sent, on_closed_ok_sent, on_look_ss_sent, on_op_sent, on_open_ss_sent, on_pull_sent, on_read_held_sent, plain_sync}
+use Rattle.one_tree_laws.proofs.WantsStores.{on_close_sent, on_closed_ok_sent, on_look_ss_sent, on_op_sent, on_open_ss_sent, on_pull_sent, on_read_held_sent}
 
 -- ---- what tells no adoption ----
 
@@ -82,18 +72,12 @@ stores_tell t me e (x ∷ xs) h = (store_told t me e x h.0, stores_tell t me e x
 
 -- ---- parts that leave pulls ----
 
-table_part : (me : ℕ) (g : SyncTable → Outcome SyncTable) (v : SiteView) → ((t : SyncTable) → Among t v.tables → TablePart plain_law t (g t)) → (o : Option SyncTable) → ((t : SyncTable) → o ≡ Some t → Among t v.tables) → IsPlainPart me v (at_table_of g o v)
-table_part me g v k None m = quiet_part me v
-table_part me g v k (Some t) m = (let p : TablePart plain_law t (g t) = k t (m t refl) in record { sent = p.0; told = p.1; goes = inl (refl, refl); ascends = λ h. h })
-
-users_part : (me : ℕ) (g : Users → Outcome Users) (v : SiteView) → Every PlainSent (g v.users).sent → Every NoAdoption (g v.users).told → IsPlainPart me v (at_users g v)
-users_part me g v sent told = record { sent = sent; told = told; goes = inl (refl, refl); ascends = λ h. h }
+table_part : (me : ℕ) (g : SyncTable → Outcome SyncTable) (o : Option SyncTable) (v : SiteView) → Found plain_law.table o → ((t : SyncTable) → plain_law.table t → TablePart plain_law t (g t)) → IsPlainPart me v (at_table_of g o v)
+table_part me g None v found k = quiet_part me v
+table_part me g (Some t) v found k = (let p : TablePart plain_law t (g t) = k t found in record { sent = p.0; told = p.1; goes = inl (refl, refl); ascends = λ h. h })
 
 store_part : (c : Config) (n : ℕ) (trace : List Line) (f : Frame) (g : Store → Outcome Store) (v : SiteView) → Every PlainSent (g v.store).sent → StoreFine c n trace f v.store (g v.store) → IsPlainPart f.me v (at_store g v)
 store_part c n trace f g v sent k = record { sent = sent; told = stores_tell trace f.me f.epoch (g v.store).told k.own; goes = inl (refl, refl); ascends = λ h. h }
-
-looks_of : (v : SiteView) → IsTidy v → (t : SyncTable) → Among t v.tables → Every (λ (l : LastLook). IsPlain l.body) t.looks
-looks_of v h t m = every_among (λ (u : SyncTable). Every (λ (l : LastLook). IsPlain l.body) u.looks) t v.tables m h.looks
 
 -- ---- pulls ----
 
@@ -200,11 +184,20 @@ module _ (c : Config) (roles : RolesDo c) (n : ℕ) (trace : List Line) (f : Fra
   plain : (o : Outcome SiteView) → (AllRest c n trace o.told → IsPlainPart f.me v o) → Wants o
   plain o k may rest = plain_wants c n trace f.me v o (Some p) ready.past may rest (k rest)
 
-  row_there : (group : ℕ) (t : SyncTable) → row table_group group v.tables ≡ Some t → Among t v.tables
-  row_there group t e = (row_key table_group group v.tables t e).0
+  -- what no instance, no reader and no pull takes
+  abbrev Apart : Body → Outcome SiteView → Type 0
+  Apart x o = (IsForStore x → ⊥) → (IsForReader x → ⊥) → (IsForPull x → ⊥) → IsPlainPart f.me v o
 
-  first_there : (i : Serial) (t : SyncTable) → first_that (is_opened_in i) v.tables ≡ Some t → Among t v.tables
-  first_there i t e = first_among (is_opened_in i) v.tables t e
+  apart_part : (x : Body) → Apart x (takes_inside f p.from x v)
+  apart_part x = by_role Apart f p.from v (record {
+    tables = tables_of Apart plain_law f p.from v (tables_plain f) (answers_plain f p.from) tidy.looks (λ y g o is found k a b e. table_part f.me g o v found k);
+    stores = λ y is a b e. absurd (a is);
+    readers = λ y is a b e. absurd (b is);
+    users = users_by Apart plain_law f p.from v (users_plain f) (λ y o is k a b e. record { sent = k.0; told = k.1; goes = inl (refl, refl); ascends = λ m. m });
+    pulls = λ y is a b e. absurd (e is);
+    reported = λ group a b e. record { sent = tt; told = tt; goes = inl (refl, refl); ascends = λ m. m };
+    forming = λ y is a b e. quiet_part f.me v;
+  }) x
 
   -- the answer to a want
   want_so : (file : FileId) (wanted own : Stamp) → p.body ≡ body.Want file wanted own → Stands c trace file wanted → Stands c trace file own → (o : Option FileCopy) → ((x : FileCopy) → o ≡ Some x → IsCopy c trace f.me file x) → Every (SentSo c trace f.me v (Some p)) (wanted_delta f p.from file wanted own v.store o)
@@ -228,41 +221,26 @@ module _ (c : Config) (roles : RolesDo c) (n : ℕ) (trace : List Line) (f : Fra
   want_fact file wanted own q fact = (let k : WantFact c trace p.epoch p.from file wanted own = subst (BodyFact c trace p) q fact in (k.wanted_stands, k.own_stands))
 
   pub inside_wants : (b : Body) → p.body ≡ b → PacketFact c trace p → DeltaOf c trace f.me v.pulls b → Wants (takes_inside f p.from b v)
-  inside_wants (body.Report group copies) q fact d = plain (takes_inside f p.from (body.Report group copies) v) (λ rest. table_part f.me (on_report f p.from copies) v (λ t m. on_report_walk plain_law f (tables_plain f) p.from copies t tt (looks_of v tidy t m)) (row table_group group v.tables) (row_there group))
-  inside_wants (body.ReportOk group) q fact d = plain (takes_inside f p.from (body.ReportOk group) v) (λ rest. record { sent = tt; told = tt; goes = inl (refl, refl); ascends = λ k. k })
-  inside_wants (body.Open serial call process request file how) q fact d =
-      (let o : OpenRequest = record { serial = serial; call = call; process = process; request = request; file = file; how = how } in
-      plain (takes_inside f p.from (body.Open serial call process request file how) v) (λ rest. table_part f.me (on_open f p.from o) v (λ t m. on_open_walk plain_law f (tables_plain f) p.from o t (looks_of v tidy t m)) (row table_group file.group v.tables) (row_there file.group)))
   inside_wants (body.OpenSs inst file mode set kind base vector parents) q fact d = plain (takes_inside f p.from (body.OpenSs inst file mode set kind base vector parents) v)
       (λ rest. store_part c n trace f (on_open_ss f (record { inst = inst; file = file; mode = mode; set = set; kind = kind; base = base; vector = vector; parents = parents })) v
       (on_open_ss_sent PlainSent f (of_plain f) (record { inst = inst; file = file; mode = mode; set = set; kind = kind; base = base; vector = vector; parents = parents }) v.store)
       (roles.stores.opens n trace f p (record { inst = inst; file = file; mode = mode; set = set; kind = kind; base = base; vector = vector; parents = parents }) v.store ready h.store (record { received = r; body_is = q; fact = fact }) rest))
-  inside_wants (body.Opened inst answer) q fact d = plain (takes_inside f p.from (body.Opened inst answer) v) (λ rest. table_part f.me (on_opened f inst answer) v (λ t m. on_opened_walk plain_law f (tables_plain f) inst answer t (looks_of v tidy t m)) (first_that (is_opened_in inst) v.tables) (first_there inst))
-  inside_wants (body.OpenDone serial answer) q fact d = plain (takes_inside f p.from (body.OpenDone serial answer) v) (λ rest. users_part f.me (on_open_done f (kept_stamps v) serial answer) v (on_open_done_walk plain_law f (users_plain f) (kept_stamps v) serial answer v.users).0 (on_open_done_walk plain_law f (users_plain f) (kept_stamps v) serial answer v.users).1)
   inside_wants (body.Op serial k o seen) q fact d = plain (takes_inside f p.from (body.Op serial k o seen) v)
       (λ rest. store_part c n trace f (on_op f (mending v (group_of (instance_of v.store (from_user p.from serial)))) (from_user p.from serial) k o seen) v
       (on_op_sent PlainSent f (of_plain f) (mending v (group_of (instance_of v.store (from_user p.from serial)))) (from_user p.from serial) k o seen v.store)
       (roles.stores.acts n trace f p serial k o seen v ready h (record { received = r; body_is = q; fact = fact }) rest))
-  inside_wants (body.OpDone serial k result) q fact d = plain (takes_inside f p.from (body.OpDone serial k result) v) (λ rest. users_part f.me (on_op_done f serial k result) v (on_op_done_walk plain_law f (users_plain f) serial k result v.users).0 (on_op_done_walk plain_law f (users_plain f) serial k result v.users).1)
   inside_wants (body.ReadHeld serial k at len) q fact d = plain (takes_inside f p.from (body.ReadHeld serial k at len) v)
       (λ rest. store_part c n trace f (on_read_held f (from_user p.from serial) k at len) v (on_read_held_sent PlainSent f (of_plain f) (from_user p.from serial) k at len v.store)
       (roles.stores.reads n trace f p serial k at len v.store ready h.store (record { received = r; body_is = q; fact = fact }) rest))
-  inside_wants (body.AsHeld serial k len) q fact d = plain (takes_inside f p.from (body.AsHeld serial k len) v) (λ rest. users_part f.me (on_as_held f serial k) v (on_as_held_walk plain_law f (users_plain f) serial k v.users).0 (on_as_held_walk plain_law f (users_plain f) serial k v.users).1)
   inside_wants (body.Close serial) q fact d = plain (takes_inside f p.from (body.Close serial) v)
       (λ rest. store_part c n trace f (on_close f (from_user p.from serial)) v (on_close_sent PlainSent f (of_plain f) (from_user p.from serial) v.store)
       (roles.stores.closes n trace f p serial v.store ready h.store (record { received = r; body_is = q; fact = fact }) rest))
-  inside_wants (body.Closed inst made) q fact d = plain (takes_inside f p.from (body.Closed inst made) v) (λ rest. table_part f.me (on_closed f p.from inst made) v (λ t m. on_closed_walk plain_law f (tables_plain f) p.from (answers_plain f p.from) inst made t (looks_of v tidy t m)) (first_that (is_opened_in inst) v.tables) (first_there inst))
   inside_wants (body.ClosedOk inst) q fact d = plain (takes_inside f p.from (body.ClosedOk inst) v)
       (λ rest. store_part c n trace f (on_closed_ok f inst) v (on_closed_ok_sent PlainSent f (of_plain f) inst v.store) (roles.stores.ends n trace f p inst v.store ready h.store (record { received = r; body_is = q; fact = fact }) rest))
-  inside_wants (body.CloseDone serial answer) q fact d = plain (takes_inside f p.from (body.CloseDone serial answer) v) (λ rest. users_part f.me (on_close_done f serial answer) v (on_close_done_walk plain_law f (users_plain f) serial answer v.users).0 (on_close_done_walk plain_law f (users_plain f) serial answer v.users).1)
-  inside_wants (body.Look call process request take file what) q fact d =
-      (let l : LookRequest = record { call = call; process = process; request = request; take = take; file = file; what = what } in
-      plain (takes_inside f p.from (body.Look call process request take file what) v) (λ rest. table_part f.me (on_look f p.from l) v (λ t m. on_look_walk plain_law f (tables_plain f) p.from l t (looks_of v tidy t m)) (row table_group file.group v.tables) (row_there file.group)))
   inside_wants (body.LookSs us call process request take file what serve) q fact d =
       (let l : LookRequest = record { call = call; process = process; request = request; take = take; file = file; what = what } in
       plain (takes_inside f p.from (body.LookSs us call process request take file what serve) v) (λ rest. store_part c n trace f (on_look_ss f us l serve) v (on_look_ss_sent PlainSent f (of_plain f) us l serve v.store)
       (roles.stores.serves n trace f p us l serve v.store ready h.store (record { received = r; body_is = q; fact = fact }) rest)))
-  inside_wants (body.LookDone call request take answer) q fact d = plain (takes_inside f p.from (body.LookDone call request take answer) v) (λ rest. users_part f.me (on_look_done f call request take answer) v (on_look_done_walk plain_law f (users_plain f) call request take answer v.users).0 (on_look_done_walk plain_law f (users_plain f) call request take answer v.users).1)
   inside_wants (body.Notify file kind set size stamp vector holder) q fact d = λ may rest.
       (let new : Pull = record { file = file; kind = kind; set = set; size = size; stamp = stamp; vector = vector; holder = holder; base = None; wanted = None; content = [] } in
       let k : PullsFine c n trace f (on_notify f p.from (copy_of v.store file) new v.pulls) = roles.pulls.notified n trace f p new v.store v.pulls ready h.store h.pulls refl (record { received = r; body_is = q; fact = fact }) in
@@ -284,10 +262,9 @@ module _ (c : Config) (roles : RolesDo c) (n : ℕ) (trace : List Line) (f : Fra
       (delta_is f (copy_of v.store file) file wanted pages v.pulls (λ (o : Outcome (List Pull)). PullsFact c f trace o.view → Every (SentSo c trace f.me (with_pulls v o.view) (Some p)) o.sent) (λ a. tt) (λ x a. goes_so c trace f v (Some p) (record x { wanted = Some pages }) v.pulls a))
   inside_wants (body.Pull file stamp page) q fact d = plain (takes_inside f p.from (body.Pull file stamp page) v)
       (λ rest. store_part c n trace f (on_pull f p.from file stamp page) v (on_pull_sent PlainSent f (of_plain f) p.from file stamp page v.store) (roles.stores.gives n trace f p file stamp page v.store ready h.store (record { received = r; body_is = q; fact = fact }) rest))
-  inside_wants (body.Have file stamp) q fact d = plain (takes_inside f p.from (body.Have file stamp) v) (λ rest. table_part f.me (on_have p.from file stamp) v (λ t m. on_have_walk plain_law f (tables_plain f) p.from file stamp t (looks_of v tidy t m)) (row table_group file.group v.tables) (row_there file.group))
   inside_wants (body.Want file wanted own) q fact d = λ may rest. record {
     stays = λ e g w o stands joined k. k;
     rises = λ k. k;
     asks = want_so file wanted own q (want_fact file wanted own q fact).0 (want_fact file wanted own q fact).1 (copy_of v.store file) (λ x e. copy_is c trace ready.past.followed f.me v.store h.store.copies file (narrow file wanted (want_fact file wanted own q fact).0) x e);
   }
-  inside_wants _ q fact d = plain _ (λ rest. quiet_part f.me v)
+  inside_wants x q fact d = plain (takes_inside f p.from x v) (λ rest. apart_part x (λ k. k) (λ k. k) (λ k. k))

@@ -1,11 +1,8 @@
 -- What a site wants after the whole of an event.
-use Rattle.std.proofs.Common.{◌≡◌, ℕ, ◌+◌, ◌==◌, nat_lt, Bool, true, false, List, [], ◌∷◌, ◌++◌, Option, Some, None, refl, sym, ◌∙◌, subst, inl, inr}
+use Rattle.std.proofs.Common.{◌≡◌, ℕ, ◌+◌, nat_lt, Bool, true, false, List, [], ◌∷◌, ◌++◌, Option, Some, None, refl, sym, ◌∙◌, subst, inl, inr}
 use Rattle.std.specs.List.{flat_map}
 use Rattle.locus_ids.specs.declared.config.Config.{Config}
-use Rattle.locus_ids.specs.declared.ids.FileId.{FileId}
-use Rattle.locus_ids.specs.declared.ids.Stamp.{Stamp}
 use Rattle.locus_ids.specs.declared.sites.Links.{Links}
-use Rattle.locus_ids.specs.Sizes.{inode_span}
 use Rattle.trace_book.specs.declared.call.Call.{Call}
 use Rattle.wire_messages.specs.Bodies.{kind_number}
 use Rattle.wire_messages.specs.declared.body.Body.{Body}
@@ -31,9 +28,8 @@ use Rattle.call_row_laws.proofs.of_lock_laws.StepFacts.{SiteSilent, notify_silen
 use Rattle.call_row_laws.proofs.of_lock_laws.of_law_walks.RoleWalks.{on_call_walk, users_repeats_walk}
 use Rattle.call_row_laws.proofs.of_lock_laws.of_law_walks.SyncWalks.{sync_repeats_walk}
 use Rattle.tree_laws.specs.Doing.{IsAdopted, NoWrite, PullsFact, WriteFact, Fine}
-use Rattle.tree_laws.specs.Instances.{Stands}
 use Rattle.tree_laws.specs.Packets.{PacketFact}
-use Rattle.tree_laws.specs.Stores.{Ascends, PullFact}
+use Rattle.tree_laws.specs.Stores.{Ascends}
 use Rattle.one_tree_laws.specs.Places.{InsideFact, SiteFact, SiteFine, SiteIn}
 use Rattle.one_tree_laws.specs.Rest.{AllRest, Past}
 use Rattle.one_tree_laws.specs.Roles.{EventFact, RolesDo}
@@ -231,26 +227,7 @@ received c roles stays n trace links p (body.Notify file kind set size stamp vec
     (λ f. notify_silent f p.from (copy_of v.store file) (record { file = file; kind = kind; set = set; size = size; stamp = stamp; vector = vector; holder = holder; base = None; wanted = None; content = [] }) v.pulls) past h tidy fact
 received c roles stays n trace links p (body.Page file stamp page bytes) v q d past h tidy fact = came_tried c roles stays n trace links p (body.Page file stamp page bytes) v q refl d (λ f. page_silent f stamp page bytes (pull_of v.pulls file) v.pulls) past h tidy fact
 received c roles stays n trace links p (body.Delta file wanted pages) v q d past h tidy fact = came_tried c roles stays n trace links p (body.Delta file wanted pages) v q refl d (λ f. delta_silent f (pages_in (copy_of v.store file)) wanted pages (pull_of v.pulls file) v.pulls) past h tidy fact
-received c roles stays n trace links p (body.Report group copies) v q d past h tidy fact = came c roles stays n trace links p (body.Report group copies) v q refl d past h tidy fact
-received c roles stays n trace links p (body.ReportOk group) v q d past h tidy fact = came c roles stays n trace links p (body.ReportOk group) v q refl d past h tidy fact
-received c roles stays n trace links p (body.Open serial call process request file how) v q d past h tidy fact = came c roles stays n trace links p (body.Open serial call process request file how) v q refl d past h tidy fact
-received c roles stays n trace links p (body.OpenSs inst file mode set kind base vector parents) v q d past h tidy fact = came c roles stays n trace links p (body.OpenSs inst file mode set kind base vector parents) v q refl d past h tidy fact
-received c roles stays n trace links p (body.Opened inst answer) v q d past h tidy fact = came c roles stays n trace links p (body.Opened inst answer) v q refl d past h tidy fact
-received c roles stays n trace links p (body.OpenDone serial answer) v q d past h tidy fact = came c roles stays n trace links p (body.OpenDone serial answer) v q refl d past h tidy fact
-received c roles stays n trace links p (body.Op serial k o seen) v q d past h tidy fact = came c roles stays n trace links p (body.Op serial k o seen) v q refl d past h tidy fact
-received c roles stays n trace links p (body.OpDone serial k result) v q d past h tidy fact = came c roles stays n trace links p (body.OpDone serial k result) v q refl d past h tidy fact
-received c roles stays n trace links p (body.ReadHeld serial k at len) v q d past h tidy fact = came c roles stays n trace links p (body.ReadHeld serial k at len) v q refl d past h tidy fact
-received c roles stays n trace links p (body.AsHeld serial k len) v q d past h tidy fact = came c roles stays n trace links p (body.AsHeld serial k len) v q refl d past h tidy fact
-received c roles stays n trace links p (body.Close serial) v q d past h tidy fact = came c roles stays n trace links p (body.Close serial) v q refl d past h tidy fact
-received c roles stays n trace links p (body.Closed inst made) v q d past h tidy fact = came c roles stays n trace links p (body.Closed inst made) v q refl d past h tidy fact
-received c roles stays n trace links p (body.ClosedOk inst) v q d past h tidy fact = came c roles stays n trace links p (body.ClosedOk inst) v q refl d past h tidy fact
-received c roles stays n trace links p (body.CloseDone serial answer) v q d past h tidy fact = came c roles stays n trace links p (body.CloseDone serial answer) v q refl d past h tidy fact
-received c roles stays n trace links p (body.Look call process request take file what) v q d past h tidy fact = came c roles stays n trace links p (body.Look call process request take file what) v q refl d past h tidy fact
-received c roles stays n trace links p (body.LookSs us call process request take file what serve) v q d past h tidy fact = came c roles stays n trace links p (body.LookSs us call process request take file what serve) v q refl d past h tidy fact
-received c roles stays n trace links p (body.LookDone call request take answer) v q d past h tidy fact = came c roles stays n trace links p (body.LookDone call request take answer) v q refl d past h tidy fact
-received c roles stays n trace links p (body.Pull file stamp page) v q d past h tidy fact = came c roles stays n trace links p (body.Pull file stamp page) v q refl d past h tidy fact
-received c roles stays n trace links p (body.Want file wanted own) v q d past h tidy fact = came c roles stays n trace links p (body.Want file wanted own) v q refl d past h tidy fact
-received c roles stays n trace links p (body.Have file stamp) v q d past h tidy fact = came c roles stays n trace links p (body.Have file stamp) v q refl d past h tidy fact
+received c roles stays n trace links p x v q d past h tidy fact = came c roles stays n trace links p x v q refl d past h tidy fact
 
 -- ---- every event ----
 
