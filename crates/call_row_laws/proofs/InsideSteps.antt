@@ -11,17 +11,12 @@ use Rattle.wire_messages.specs.declared.body.Body.{Body}
 use Rattle.wire_messages.specs.declared.body.Body.TheVariants as body
 use Rattle.role_steps.specs.Own.{Every}
 use Rattle.role_steps.specs.Tables.{row, first_that}
-use Rattle.role_steps.specs.Views.{Frame, Store, Users, SiteView, Outcome, quiet}
-use Rattle.role_steps.specs.Adoption.{notes_own_at, notes_own, table_group, is_ready, adopts_pull, without_pull, adopts_first, with_adopted, fits_own}
+use Rattle.role_steps.specs.Views.{Frame, Users, SiteView, Outcome, quiet, within}
+use Rattle.role_steps.specs.Adoption.{with_store, notes_own_at, notes_own, table_group, is_ready, adopts_pull, without_pull, adopts_first, with_adopted, fits_own}
 use Rattle.role_steps.specs.Epochs.{frame_in}
-use Rattle.role_steps.specs.Looks.{LookRequest}
-use Rattle.role_steps.specs.Mends.{mends_in, is_mend_in, has_mend_in, mending, kept_stamps, wants_mend, row_file, starts_mend_of, starts_mend, starts_mends_in}
-use Rattle.role_steps.specs.Opens.{OpenRequest, on_opened}
-use Rattle.role_steps.specs.Operations.{on_op, on_read_held}
-use Rattle.role_steps.specs.Pulling.{on_notify, on_page, on_delta}
-use Rattle.role_steps.specs.Reports.{on_report, on_open, on_look, on_closed, on_have}
+use Rattle.role_steps.specs.Mends.{mends_in, is_mend_in, has_mend_in, kept_stamps, wants_mend, row_file, starts_mend_of, starts_mend, starts_mends_in}
 use Rattle.role_steps.specs.Requests.{waiting_of, waiting_span}
-use Rattle.role_steps.specs.Storage.{copy_of, instance_of, on_open_ss, on_close, on_closed_ok, on_look_ss, on_pull, on_want}
+use Rattle.role_steps.specs.Storage.{copy_of}
 use Rattle.role_steps.specs.Using.{on_call, on_open_done, on_op_done, on_as_held, on_close_done, on_look_done}
 use Rattle.role_steps.specs.Versions.{file_row}
 use Rattle.role_steps.specs.declared.pulls.Pull.{Pull}
@@ -30,10 +25,13 @@ use Rattle.role_steps.specs.declared.synchronizing.FileRow.{FileRow}
 use Rattle.role_steps.specs.declared.synchronizing.SyncTable.{SyncTable}
 use Rattle.tree_model.specs.Folds.{Trace}
 use Rattle.row_laws.specs.of_the_run.Kept.{Among}
-use Rattle.row_laws.specs.of_the_run.Steps.{from_user, group_of, at_store, at_users, at_pulls, at_table_of, is_opened_in, takes_inside, takes_framed, adopts_of, tries_at, starts_mends_of, epoch_id}
-use Rattle.row_laws.proofs.of_the_run.InsideSync.{Found, every_row, row_found, first_found}
-use Rattle.row_laws.specs.Inward.{AllServed, LooksInward, TableInwardly}
-use Rattle.row_laws.proofs.Walks.{on_opened_inward, on_open_inward, on_look_inward, on_report_inward, on_closed_inward, have_ok, on_have_inward, on_open_ss_serves, on_close_serves, on_closed_ok_serves, on_look_ss_serves, on_pull_serves, on_want_serves, on_op_serves, on_read_held_serves, on_notify_serves, on_page_serves, on_delta_serves}
+use Rattle.row_laws.specs.of_the_run.Steps.{with_pulls, at_users, at_table_of, takes_inside, takes_framed, adopts_of, tries_at, starts_mends_of, epoch_id}
+use Rattle.row_laws.specs.of_the_run.Roles.{IsForUser}
+use Rattle.row_laws.specs.of_the_run.KindLaws.{TablePart}
+use Rattle.row_laws.proofs.of_the_run.Roles.{by_role, tables_of, stores_by, readers_by, pulls_by}
+use Rattle.row_laws.proofs.of_the_run.InsideSync.{Found, every_row, row_found}
+use Rattle.row_laws.specs.Inward.{ServedTold, AllServed, LooksInward}
+use Rattle.row_laws.proofs.Walks.{servedly, same_table, served_tables, served_stores, served_versions, back, have_ok}
 use Rattle.call_row_laws.specs.Serials.{Owned}
 use Rattle.call_row_laws.specs.Waiting.{after, KeyedAs, CallFree}
 use Rattle.call_row_laws.specs.Standing.{UsersDo, WasIn, IsInside, Stands, SiteDone, SiteDoes}
@@ -43,23 +41,11 @@ use Rattle.call_row_laws.proofs.Sites.{all_served_free, plain_done, quiet_done, 
 
 -- ---- tables, stores and pulls ----
 
-table_done : (c : Config) (s m : ℕ) (t : Trace) (g : SyncTable → Outcome SyncTable) (o : Option SyncTable) (v : SiteView) → Found LooksInward o → ((x : SyncTable) → LooksInward x → TableInwardly (g x)) → Stands c s t v → SiteDone c s m t (at_table_of g o v)
+table_done : (c : Config) (s m : ℕ) (t : Trace) (g : SyncTable → Outcome SyncTable) (o : Option SyncTable) (v : SiteView) → Found LooksInward o → ((x : SyncTable) → LooksInward x → TablePart servedly x (g x)) → Stands c s t v → SiteDone c s m t (at_table_of g o v)
 table_done c s m t g None v k f h = quiet_done c s m t v h
 table_done c s m t g (Some x) v k f h =
-    let r : TableInwardly (g x) = f x k in
-    plain_done c s m t v (at_table_of g (Some x) v) refl refl refl (every_row LooksInward table_group (g x).view v.tables r.3 h.tables) (all_served_free (g x).told r.1) h
-
-group_done : (c : Config) (s m : ℕ) (t : Trace) (g : SyncTable → Outcome SyncTable) (group : ℕ) (v : SiteView) → ((x : SyncTable) → LooksInward x → TableInwardly (g x)) → Stands c s t v → SiteDone c s m t (at_table_of g (row table_group group v.tables) v)
-group_done c s m t g group v f h = table_done c s m t g (row table_group group v.tables) v (row_found LooksInward table_group group v.tables h.tables) f h
-
-with_done : (c : Config) (s m : ℕ) (t : Trace) (g : SyncTable → Outcome SyncTable) (test : SyncTable → Bool) (v : SiteView) → ((x : SyncTable) → LooksInward x → TableInwardly (g x)) → Stands c s t v → SiteDone c s m t (at_table_of g (first_that test v.tables) v)
-with_done c s m t g test v f h = table_done c s m t g (first_that test v.tables) v (first_found LooksInward test v.tables h.tables) f h
-
-store_done : (c : Config) (s m : ℕ) (t : Trace) (g : Store → Outcome Store) (v : SiteView) → AllServed (g v.store) → Stands c s t v → SiteDone c s m t (at_store g v)
-store_done c s m t g v k h = plain_done c s m t v (at_store g v) refl refl refl h.tables (all_served_free (g v.store).told k.1) h
-
-pulls_done : (c : Config) (s m : ℕ) (t : Trace) (g : List Pull → Outcome (List Pull)) (v : SiteView) → AllServed (g v.pulls) → Stands c s t v → SiteDone c s m t (at_pulls g v)
-pulls_done c s m t g v k h = plain_done c s m t v (at_pulls g v) refl refl refl h.tables (all_served_free (g v.pulls).told k.1) h
+    let r : TablePart servedly x (g x) = f x k in
+    plain_done c s m t v (at_table_of g (Some x) v) refl refl refl (every_row LooksInward table_group (g x).view v.tables (same_table x (g x).view k r.4 r.3) h.tables) (all_served_free (g x).told r.1) h
 
 -- a part of the users, in the epoch of the site
 inside_users : (c : Config) (s m : ℕ) (t : Trace) (g : Users → Outcome Users) (v : SiteView) (e : InEpoch) → v.epoch ≡ Some e → (WasIn s t e.id → Owned (WasIn s t) (Some e.id) v.users → UsersDo c (WasIn s t) s v.boot (Some e.id) m t (g v.users)) → Stands c s t v → SiteDone c s m t (at_users g v)
@@ -69,44 +55,39 @@ inside_users c s m t g v e here go h =
 
 -- ---- a packet of the epoch ----
 
-inside_done : (c : Config) (s m : ℕ) (t : Trace) (from : ℕ) (x : Body) (v : SiteView) (e : InEpoch) → v.epoch ≡ Some e → Stands c s t v → SiteDone c s m t (takes_inside (frame_in c s v.boot e) from x v)
-inside_done c s m t from (body.Report group copies) v e here h = group_done c s m t (on_report (frame_in c s v.boot e) from copies) group v (on_report_inward (frame_in c s v.boot e) from copies) h
-inside_done c s m t from (body.ReportOk group) v e here h = plain_done c s m t v _ refl refl refl h.tables tt h
-inside_done c s m t from (body.Open serial call process request file how) v e here h = (let o : OpenRequest = record { serial = serial; call = call; process = process; request = request; file = file; how = how } in group_done c s m t (on_open (frame_in c s v.boot e) from o) file.group v (on_open_inward (frame_in c s v.boot e) from o) h)
-inside_done c s m t from (body.OpenSs inst file mode set kind base vector parents) v e here h =
-    store_done c s m t (on_open_ss (frame_in c s v.boot e) (record { inst = inst; file = file; mode = mode; set = set; kind = kind; base = base; vector = vector; parents = parents })) v
-    (on_open_ss_serves (frame_in c s v.boot e) (record { inst = inst; file = file; mode = mode; set = set; kind = kind; base = base; vector = vector; parents = parents }) v.store) h
-inside_done c s m t from (body.Opened inst answer) v e here h = with_done c s m t (on_opened (frame_in c s v.boot e) inst answer) (is_opened_in inst) v (on_opened_inward (frame_in c s v.boot e) inst answer) h
-inside_done c s m t from (body.OpenDone serial answer) v e here h = inside_users c s m t (on_open_done (frame_in c s v.boot e) (kept_stamps v) serial answer) v e here (λ k o. on_open_done_do c (WasIn s t) (frame_in c s v.boot e) (Some e.id) m t (kept_stamps v) serial answer v.users k h.waits o) h
-inside_done c s m t from (body.Op serial n o seen) v e here h =
-    store_done c s m t (on_op (frame_in c s v.boot e) (mending v (group_of (instance_of v.store (from_user from serial)))) (from_user from serial) n o seen) v
-    (on_op_serves (frame_in c s v.boot e) (mending v (group_of (instance_of v.store (from_user from serial)))) (from_user from serial) n o seen v.store) h
-inside_done c s m t from (body.ReadHeld serial n at len) v e here h = store_done c s m t (on_read_held (frame_in c s v.boot e) (from_user from serial) n at len) v (on_read_held_serves (frame_in c s v.boot e) (from_user from serial) n at len v.store) h
-inside_done c s m t from (body.OpDone serial n result) v e here h = inside_users c s m t (on_op_done (frame_in c s v.boot e) serial n result) v e here (λ k o. on_op_done_do c (WasIn s t) (frame_in c s v.boot e) (Some e.id) m t serial n result v.users k h.waits o) h
-inside_done c s m t from (body.AsHeld serial n len) v e here h = inside_users c s m t (on_as_held (frame_in c s v.boot e) serial n) v e here (λ k o. on_as_held_do c (WasIn s t) (frame_in c s v.boot e) (Some e.id) m t serial n v.users k h.waits o) h
-inside_done c s m t from (body.Close serial) v e here h = store_done c s m t (on_close (frame_in c s v.boot e) (from_user from serial)) v (on_close_serves (frame_in c s v.boot e) (from_user from serial) v.store) h
-inside_done c s m t from (body.Closed inst made) v e here h = with_done c s m t (on_closed (frame_in c s v.boot e) from inst made) (is_opened_in inst) v (on_closed_inward (frame_in c s v.boot e) from inst made) h
-inside_done c s m t from (body.ClosedOk inst) v e here h = store_done c s m t (on_closed_ok (frame_in c s v.boot e) inst) v (on_closed_ok_serves (frame_in c s v.boot e) inst v.store) h
-inside_done c s m t from (body.CloseDone serial answer) v e here h = inside_users c s m t (on_close_done (frame_in c s v.boot e) serial answer) v e here (λ k o. on_close_done_do c (WasIn s t) (frame_in c s v.boot e) (Some e.id) m t serial answer v.users h.waits o) h
-inside_done c s m t from (body.Look call process request take file what) v e here h = (let l : LookRequest = record { call = call; process = process; request = request; take = take; file = file; what = what } in group_done c s m t (on_look (frame_in c s v.boot e) from l) file.group v (on_look_inward (frame_in c s v.boot e) from l) h)
-inside_done c s m t from (body.LookSs us call process request take file what serve) v e here h = (let l : LookRequest = record { call = call; process = process; request = request; take = take; file = file; what = what } in store_done c s m t (on_look_ss (frame_in c s v.boot e) us l serve) v (on_look_ss_serves (frame_in c s v.boot e) us l serve v.store) h)
-inside_done c s m t from (body.LookDone call request take answer) v e here h = inside_users c s m t (on_look_done (frame_in c s v.boot e) call request take answer) v e here (λ k o. on_look_done_do c (WasIn s t) (frame_in c s v.boot e) (Some e.id) m t call request take answer v.users h.waits o) h
-inside_done c s m t from (body.Notify file kind set size stamp vector holder) v e here h =
-    (let p : Pull = record { file = file; kind = kind; set = set; size = size; stamp = stamp; vector = vector; holder = holder; base = None; wanted = None; content = [] } in pulls_done c s m t (on_notify (frame_in c s v.boot e) from (copy_of v.store file) p) v (on_notify_serves (frame_in c s v.boot e) from (copy_of v.store file) p v.pulls) h)
-inside_done c s m t from (body.Pull file stamp page) v e here h = store_done c s m t (on_pull (frame_in c s v.boot e) from file stamp page) v (on_pull_serves (frame_in c s v.boot e) from file stamp page v.store) h
-inside_done c s m t from (body.Want file wanted own) v e here h = store_done c s m t (on_want (frame_in c s v.boot e) from file wanted own) v (on_want_serves (frame_in c s v.boot e) from file wanted own v.store) h
-inside_done c s m t from (body.Page file stamp page bytes) v e here h = pulls_done c s m t (on_page (frame_in c s v.boot e) file stamp page bytes) v (on_page_serves (frame_in c s v.boot e) file stamp page bytes v.pulls) h
-inside_done c s m t from (body.Delta file wanted pages) v e here h = pulls_done c s m t (on_delta (frame_in c s v.boot e) (copy_of v.store file) file wanted pages) v (on_delta_serves (frame_in c s v.boot e) (copy_of v.store file) file wanted pages v.pulls) h
-inside_done c s m t from (body.Have file stamp) v e here h = group_done c s m t (on_have from file stamp) file.group v (on_have_inward from file stamp) h
-inside_done c s m t from body.Poll v e here h = quiet_done c s m t v h
-inside_done c s m t from (body.Promise reach) v e here h = quiet_done c s m t v h
-inside_done c s m t from (body.Refuse promised) v e here h = quiet_done c s m t v h
-inside_done c s m t from (body.Install members) v e here h = quiet_done c s m t v h
-inside_done c s m t from body.Joined v e here h = quiet_done c s m t v h
+module _ (c : Config) (s m : ℕ) (t : Trace) (from : ℕ) (v : SiteView) (e : InEpoch) (here : v.epoch ≡ Some e) (h : Stands c s t v) where
+  abbrev f : Frame
+  f = frame_in c s v.boot e
+
+  abbrev Done : Body → Outcome SiteView → Type 0
+  Done x o = SiteDone c s m t o
+
+  users_inside : (x : Body) → IsForUser x → SiteDone c s m t (takes_inside f from x v)
+  users_inside (body.OpenDone serial answer) is = inside_users c s m t (on_open_done f (kept_stamps v) serial answer) v e here (λ k o. on_open_done_do c (WasIn s t) f (Some e.id) m t (kept_stamps v) serial answer v.users k h.waits o) h
+  users_inside (body.OpDone serial n result) is = inside_users c s m t (on_op_done f serial n result) v e here (λ k o. on_op_done_do c (WasIn s t) f (Some e.id) m t serial n result v.users k h.waits o) h
+  users_inside (body.AsHeld serial n len) is = inside_users c s m t (on_as_held f serial n) v e here (λ k o. on_as_held_do c (WasIn s t) f (Some e.id) m t serial n v.users k h.waits o) h
+  users_inside (body.CloseDone serial answer) is = inside_users c s m t (on_close_done f serial answer) v e here (λ k o. on_close_done_do c (WasIn s t) f (Some e.id) m t serial answer v.users h.waits o) h
+  users_inside (body.LookDone call request take answer) is = inside_users c s m t (on_look_done f call request take answer) v e here (λ k o. on_look_done_do c (WasIn s t) f (Some e.id) m t call request take answer v.users h.waits o) h
+  users_inside _ is = absurd is
+
+  -- a part that tells of no call
+  served_done : (o : Outcome SiteView) → o.view.users ≡ v.users → o.view.epoch ≡ v.epoch → o.view.boot ≡ v.boot → o.view.tables ≡ v.tables → AllServed o → SiteDone c s m t o
+  served_done o a b d same k = plain_done c s m t v o a b d (subst (Every LooksInward) (sym same) h.tables) (all_served_free o.told k.1) h
+
+  inside_done : (x : Body) → SiteDone c s m t (takes_inside f from x v)
+  inside_done x = by_role Done f from v (record {
+    tables = tables_of Done servedly f from v (served_tables f) (back ServedTold f from).tables h.tables (λ y g o is found k. table_done c s m t g o v found k h);
+    stores = stores_by Done servedly f from v (served_stores f) served_versions (λ y o is k. served_done (within (with_store v) o) refl refl refl refl k);
+    readers = readers_by Done servedly f from v (served_stores f).reads (back ServedTold f from).stores (λ y o is same k. served_done (within (with_store v) o) refl refl refl refl k);
+    users = users_inside;
+    pulls = pulls_by Done servedly f from v (served_stores f).reads (back ServedTold f from).stores (λ y o is k. served_done (within (with_pulls v) o) refl refl refl refl k);
+    reported = λ group. served_done (takes_inside f from (body.ReportOk group) v) refl refl refl refl (tt, tt, tt);
+    forming = λ y is. quiet_done c s m t v h;
+  }) x
 
 pub framed_done : (c : Config) (s m : ℕ) (t : Trace) (p : Packet) (o : Option InEpoch) (v : SiteView) → v.epoch ≡ o → Stands c s t v → SiteDone c s m t (takes_framed c s p o v)
 framed_done c s m t p None v here h = quiet_done c s m t v h
-framed_done c s m t p (Some e) v here h = inside_done c s m t p.from p.body v e here h
+framed_done c s m t p (Some e) v here h = inside_done c s m t p.from v e here h p.body
 
 -- ---- adoptions ----
 

@@ -18,8 +18,6 @@ named : (inst : Serial) → IsNamed inst → inst.serial < 2 ^ 32 → instances.
 named inst k high = (k.0, counted inst.serial k.1 high)
 
 pub body_fits : (b : Body) → FormsNone b → FitsBut b → IsCounted b → FitsBody b
-body_fits (body.Report group copies) n k h = k
-body_fits (body.ReportOk group) n k h = k
 body_fits (body.Open serial call process request file how) n k h = (counted serial k.0 h.0, (h.1, (k.1, (h.2, (k.2, k.3)))))
 body_fits (body.OpenSs inst file mode set kind base vector parents) n k h = (named inst k.0 h, (k.1, (k.2, (kind_fits kind, (k.3, (k.4, k.5))))))
 body_fits (body.Opened inst answer) n k h = (named inst k.0 h, k.1)
@@ -35,14 +33,9 @@ body_fits (body.CloseDone serial answer) n k h = (counted serial k.0 h, k.1)
 body_fits (body.Look call process request take file what) n k h = (h.0, (k.0, (h.1, (h.2, (k.1, k.2)))))
 body_fits (body.LookSs us call process request take file what serve) n k h = (k.0, ((h.0, (k.1, (h.1, (h.2, (k.2, k.3))))), k.4))
 body_fits (body.LookDone call request take answer) n k h = (h.0, (h.1, (h.2, k)))
-body_fits (body.Notify file kind set size stamp vector holder) n k h = k
-body_fits (body.Pull file stamp page) n k h = k
-body_fits (body.Want file wanted own) n k h = k
-body_fits (body.Page file stamp page bytes) n k h = k
-body_fits (body.Delta file wanted pages) n k h = k
-body_fits (body.Have file stamp) n k h = k
 body_fits body.Poll n k h = absurd n
 body_fits (body.Promise reach) n k h = absurd n
 body_fits (body.Refuse promised) n k h = absurd n
 body_fits (body.Install members) n k h = absurd n
 body_fits body.Joined n k h = absurd n
+body_fits x n k h = k

@@ -1,46 +1,30 @@
 -- What a site does in its epoch forms none, and tells nothing of how sites stand: two laws by kinds.
-use Rattle.std.proofs.Common.{◌≡◌, ℕ, ◌+◌, ◌<◌, List, Option, Some, None, refl, sym, subst}
+use Rattle.std.proofs.Common.{◌≡◌, ℕ, ◌<◌, Option, Some, None, refl, sym, subst}
 use Rattle.locus_ids.specs.declared.ids.EpochId.{EpochId}
-use Rattle.locus_ids.specs.declared.ids.FileId.{FileId}
-use Rattle.locus_ids.specs.declared.ids.Serial.{Serial}
 use Rattle.locus_ids.specs.declared.ids.Stamp.{Stamp}
 use Rattle.locus_ids.specs.declared.config.Config.{Config}
 use Rattle.trace_book.specs.declared.call.Call.{Call}
-use Rattle.trace_book.specs.declared.operation.Op.{Op}
 use Rattle.trace_book.specs.declared.record.Record.{Record}
 use Rattle.trace_book.specs.declared.record.Record.TheVariants as says
 use Rattle.wire_messages.specs.declared.packet.Packet.{Packet}
 use Rattle.wire_messages.specs.declared.body.Body.{Body}
 use Rattle.wire_messages.specs.declared.body.Body.TheVariants as body
-use Rattle.wire_messages.specs.declared.body.OpenedAs.{OpenedAs}
-use Rattle.wire_messages.specs.declared.body.MadeVersion.{MadeVersion}
-use Rattle.wire_messages.specs.declared.body.ReportedCopy.{ReportedCopy}
 use Rattle.role_steps.specs.Own.{Every}
-use Rattle.role_steps.specs.Views.{Frame, SiteView, Store, Users, Told, Shown, Promises, DiskWrite, Outcome, quiet, to_some, to_sync, sync_site, first_written}
-use Rattle.role_steps.specs.Opens.{OpenRequest, on_opened}
-use Rattle.role_steps.specs.Looks.{LookRequest}
-use Rattle.role_steps.specs.Reports.{on_open, on_look, on_report, on_closed, on_have, on_have_of}
-use Rattle.role_steps.specs.Storage.{StoreRequest, on_open_ss, on_close, on_closed_ok, on_look_ss, on_pull, on_want}
-use Rattle.role_steps.specs.Operations.{on_op, on_read_held}
-use Rattle.role_steps.specs.OperationEffects.{Mending}
-use Rattle.role_steps.specs.Pulling.{on_notify, on_page, on_delta}
-use Rattle.role_steps.specs.Versions.{file_row}
+use Rattle.role_steps.specs.Views.{Frame, SiteView, Users, Told, Shown, Promises, DiskWrite, Outcome, quiet, to_some, to_sync, sync_site, first_written}
+use Rattle.role_steps.specs.Reports.{on_have_of}
 use Rattle.role_steps.specs.Requests.{waiting_span}
 use Rattle.role_steps.specs.Using.{goes_on, counted_call, accepted_call}
 use Rattle.role_steps.specs.Epochs.{frame_in}
-use Rattle.role_steps.specs.declared.copies.FileCopy.{FileCopy}
-use Rattle.role_steps.specs.declared.pulls.Pull.{Pull}
 use Rattle.role_steps.specs.declared.rounds.InEpoch.{InEpoch}
 use Rattle.role_steps.specs.declared.synchronizing.SyncTable.{SyncTable}
 use Rattle.role_steps.specs.declared.synchronizing.FileRow.{FileRow}
 use Rattle.lock_laws.specs.of_the_run.Steps.{takes_framed, adopts_of, tries_at, starts_mends_of, repeats_inside}
 use Rattle.lock_laws.specs.of_law_walks.Kinds.{IsInside, IsTableRecord, TellsTable, IsAct, TellsStore, IsVersion, IsPlainRecord, TellsPlain}
-use Rattle.lock_laws.specs.of_law_walks.Laws.{Law, TablesKeep, ReadersKeep, StoresKeep, VersionsKeep, SiteKeeps, SiteAnswers, TablePart, Stays}
+use Rattle.lock_laws.specs.of_law_walks.Laws.{Law, TablesKeep, ReadersKeep, StoresKeep, VersionsKeep, SiteKeeps, SiteAnswers, Stays}
 use Rattle.lock_laws.proofs.of_law_walks.Premises.{of_table, store_request, of_store, of_reader, user_request, of_user, table_tells, store_tells, call_tells, body_answers}
-use Rattle.lock_laws.proofs.of_law_walks.SyncWalks.{on_opened_walk, on_open_walk, on_look_walk, on_report_walk, on_closed_walk}
-use Rattle.lock_laws.proofs.of_law_walks.RoleWalks.{on_open_ss_walk, on_close_walk, on_closed_ok_walk, on_look_ss_walk, on_pull_walk, on_want_walk, on_op_walk, on_read_held_walk, on_notify_walk, on_page_walk, on_delta_walk, goes_on_walk}
+use Rattle.lock_laws.proofs.of_law_walks.RoleWalks.{goes_on_walk}
 use Rattle.lock_laws.proofs.of_law_walks.SiteWalks.{adopts_of_walk, tries_walk, mends_of_walk, framed_walk, repeats_inside_walk}
-use Rattle.row_laws.specs.Inward.{Inward, InwardPacket, RoleRecord, RoleTold, ServedRecord, ServedTold, RoleWrite, AllServed, Inwardly, LookInward, LooksInward, TableInwardly, Indoors}
+use Rattle.row_laws.specs.Inward.{Inward, InwardPacket, RoleRecord, RoleTold, ServedRecord, ServedTold, RoleWrite, Inwardly, LookInward, LooksInward, Indoors}
 
 -- ---- what tables and stores tell is what roles may ----
 
@@ -112,7 +96,7 @@ abbrev inward_law : (Told → Type 0) → Law
 inward_law told = record { sent = InwardPacket; told = told; written = RoleWrite; look = LookInward; table = LooksInward }
 
 -- of tables and stores
-abbrev servedly : Law
+abbrev pub servedly : Law
 servedly = inward_law ServedTold
 
 -- of the site
@@ -120,7 +104,7 @@ abbrev inwardly : Law
 inwardly = inward_law RoleTold
 
 -- a table of the same group
-same_table : (t u : SyncTable) → LooksInward t → u.group ≡ t.group → Every LookInward u.looks → LooksInward u
+pub same_table : (t u : SyncTable) → LooksInward t → u.group ≡ t.group → Every LookInward u.looks → LooksInward u
 same_table t u h e k = (k, subst (λ (g : ℕ). g < waiting_span) (sym e) h.1)
 
 tables : (told : Told → Type 0) (f : Frame) → ((t : Told) → TellsTable t → told t) → TablesKeep (inward_law told) f
@@ -140,10 +124,10 @@ readers told f = record { sends = λ to b h. inward b (of_reader b h); unwritten
 stores : (told : Told → Type 0) (f : Frame) → ((t : Told) → TellsStore t → told t) → StoresKeep (inward_law told) f
 stores told f tells = record { asks = λ group to b h e. inward b (store_request b h); sends = λ to b h. inward b (of_store b h); tells = tells; reads = readers told f; unwritten = tt }
 
-served_tables : (f : Frame) → TablesKeep servedly f
+pub served_tables : (f : Frame) → TablesKeep servedly f
 served_tables f = tables ServedTold f table_tells_served
 
-served_stores : (f : Frame) → StoresKeep servedly f
+pub served_stores : (f : Frame) → StoresKeep servedly f
 served_stores f = stores ServedTold f store_tells_served
 
 keeps : (f : Frame) → SiteKeeps inwardly f
@@ -154,10 +138,10 @@ keeps f = record {
   users = record { asks = λ group to b h e. inward b (user_request b h); sends = λ to b h. inward b (of_user b h); tells = λ t h. tells_role t (call_tells t h); unwritten = tt };
 }
 
-versions : VersionsKeep servedly
-versions = record { tells = version_served; writes = λ d h. version_served d.says h }
+pub served_versions : VersionsKeep servedly
+served_versions = record { tells = version_served; writes = λ d h. version_served d.says h }
 
-back : (told : Told → Type 0) (f : Frame) (from : ℕ) → SiteAnswers (inward_law told) f from
+pub back : (told : Told → Type 0) (f : Frame) (from : ℕ) → SiteAnswers (inward_law told) f from
 back told f from = body_answers (inward_law told) f (λ to b h. inward b h) from
 
 -- ---- parts ----
@@ -181,65 +165,11 @@ pub on_call_rest : (f : Frame) (now : Option EpochId) (process : ℕ) (words : C
     Inwardly (goes_on f (accepted_call f now process words u) (counted_call f now process words u))
 on_call_rest f now process words u = goes_on_walk inwardly f (keeps f).users (accepted_call f now process words u) (counted_call f now process words u)
 
--- ---- tables and stores ----
-
-table_inwardly : (t : SyncTable) (o : Outcome SyncTable) → LooksInward t → TablePart servedly t o → TableInwardly o
-table_inwardly t o h r = (r.0, r.1, r.2, same_table t o.view h r.4 r.3)
-
-pub on_opened_inward : (f : Frame) (inst : Serial) (a : OpenedAs) (t : SyncTable) → LooksInward t → TableInwardly (on_opened f inst a t)
-on_opened_inward f inst a t h = table_inwardly t (on_opened f inst a t) h (on_opened_walk servedly f (served_tables f) inst a t h.0)
-
-pub on_open_inward : (f : Frame) (us : ℕ) (o : OpenRequest) (t : SyncTable) → LooksInward t → TableInwardly (on_open f us o t)
-on_open_inward f us o t h = table_inwardly t (on_open f us o t) h (on_open_walk servedly f (served_tables f) us o t h.0)
-
-pub on_look_inward : (f : Frame) (us : ℕ) (l : LookRequest) (t : SyncTable) → LooksInward t → TableInwardly (on_look f us l t)
-on_look_inward f us l t h = table_inwardly t (on_look f us l t) h (on_look_walk servedly f (served_tables f) us l t h.0)
-
-pub on_report_inward : (f : Frame) (from : ℕ) (xs : List ReportedCopy) (t : SyncTable) → LooksInward t → TableInwardly (on_report f from xs t)
-on_report_inward f from xs t h = table_inwardly t (on_report f from xs t) h (on_report_walk servedly f (served_tables f) from xs t tt h.0)
-
-pub on_closed_inward : (f : Frame) (ss : ℕ) (inst : Serial) (made : Option MadeVersion) (t : SyncTable) → LooksInward t → TableInwardly (on_closed f ss inst made t)
-on_closed_inward f ss inst made t h = table_inwardly t (on_closed f ss inst made t) h (on_closed_walk servedly f (served_tables f) ss (back ServedTold f ss).tables inst made t h.0)
+-- ---- a table ----
 
 pub have_ok : (from : ℕ) (stamp : Stamp) (o : Option FileRow) (t : SyncTable) → LooksInward t → LooksInward (on_have_of from stamp o t)
 have_ok from stamp None t h = h
 have_ok from stamp (Some r) t h = h
-
-pub on_have_inward : (from : ℕ) (file : FileId) (stamp : Stamp) (t : SyncTable) → LooksInward t → TableInwardly (on_have from file stamp t)
-on_have_inward from file stamp t h = (tt, tt, tt, have_ok from stamp (file_row t file.ino) t h)
-
-pub on_open_ss_serves : (f : Frame) (r : StoreRequest) (s : Store) → AllServed (on_open_ss f r s)
-on_open_ss_serves f r s = on_open_ss_walk servedly f (served_stores f) r s
-
-pub on_close_serves : (f : Frame) (inst : Serial) (s : Store) → AllServed (on_close f inst s)
-on_close_serves f inst s = on_close_walk servedly f (served_stores f) versions inst s
-
-pub on_closed_ok_serves : (f : Frame) (inst : Serial) (s : Store) → AllServed (on_closed_ok f inst s)
-on_closed_ok_serves f inst s = on_closed_ok_walk servedly f (served_stores f) inst s
-
-pub on_look_ss_serves : (f : Frame) (us : ℕ) (l : LookRequest) (stamp : Stamp) (s : Store) → AllServed (on_look_ss f us l stamp s)
-on_look_ss_serves f us l stamp s = on_look_ss_walk servedly f (readers ServedTold f) us l stamp s
-
-pub on_pull_serves : (f : Frame) (from : ℕ) (file : FileId) (stamp : Stamp) (page : ℕ) (s : Store) → AllServed (on_pull f from file stamp page s)
-on_pull_serves f from file stamp page s = on_pull_walk servedly f (readers ServedTold f) from file stamp page (λ bytes. tt) s
-
-pub on_want_serves : (f : Frame) (from : ℕ) (file : FileId) (wanted own : Stamp) (s : Store) → AllServed (on_want f from file wanted own s)
-on_want_serves f from file wanted own s = on_want_walk servedly f (readers ServedTold f) from file wanted own (λ pages. tt) s
-
-pub on_op_serves : (f : Frame) (m : Mending) (inst : Serial) (n : ℕ) (o : Op) (seen : List ℕ) (s : Store) → AllServed (on_op f m inst n o seen s)
-on_op_serves f m inst n o seen s = on_op_walk servedly f (served_stores f) versions m inst n o seen s
-
-pub on_read_held_serves : (f : Frame) (inst : Serial) (n at len : ℕ) (s : Store) → AllServed (on_read_held f inst n at len s)
-on_read_held_serves f inst n at len s = on_read_held_walk servedly f (served_stores f) inst n at len s
-
-pub on_notify_serves : (f : Frame) (from : ℕ) (o : Option FileCopy) (p : Pull) (ps : List Pull) → AllServed (on_notify f from o p ps)
-on_notify_serves f from o p ps = on_notify_walk servedly f (readers ServedTold f) from o p tt ps
-
-pub on_page_serves : (f : Frame) (file : FileId) (stamp : Stamp) (page : ℕ) (bytes : List ℕ) (ps : List Pull) → AllServed (on_page f file stamp page bytes ps)
-on_page_serves f file stamp page bytes ps = on_page_walk servedly f (readers ServedTold f) file stamp page bytes ps
-
-pub on_delta_serves : (f : Frame) (own : Option FileCopy) (file : FileId) (stamp : Stamp) (pages : List ℕ) (ps : List Pull) → AllServed (on_delta f own file stamp pages ps)
-on_delta_serves f own file stamp pages ps = on_delta_walk servedly f (readers ServedTold f) own file stamp pages ps
 
 -- ---- the site ----
 

@@ -82,9 +82,6 @@ LookInward l = Inward l.body
 abbrev pub LooksInward : SyncTable → Type 0
 LooksInward t = Every LookInward t.looks × (t.group < waiting_span)
 
-abbrev pub TableInwardly : Outcome SyncTable → Type 0
-TableInwardly o = Every InwardPacket o.sent × Every ServedTold o.told × RoleWrite o.written × LooksInward o.view
-
 -- an outcome of a site that does so, and leaves its boot, its round, its promise and its epoch
 pub record Indoors (v : SiteView) (o : Outcome SiteView) : Type 0 where
   pub boot : o.view.boot ≡ v.boot
