@@ -1,6 +1,7 @@
 -- What the calls read and change, from what callers see.
-use Rattle.std.proofs.Common.{◌≡◌, ◌≢◌, ℕ, zero, suc, ◌+◌, ◌-◌, ◌<◌, ◌≤◌, ◌==◌, List, [], ◌∷◌, ◌++◌, length, map, reverse, set, get_or, Option, Some, None, Bool, true, false, nat_eq, nat_lt, refl, sym, ap, subst, ◌∙◌, arith}
+use Rattle.std.proofs.Common.{◌≡◌, ◌≢◌, ℕ, zero, suc, ◌+◌, ◌-◌, ◌<◌, ◌≤◌, ◌==◌, List, [], ◌∷◌, ◌++◌, length, map, reverse, set, get_or, Option, Some, None, Result, Ok, Err, ◌⊎◌, ⊎_elim, Bool, true, false, nat_eq, nat_lt, refl, sym, ap, subst, ◌∙◌, arith}
 use Rattle.std.specs.Option.{is_some, IfSome}
+use Rattle.std.specs.Result.{IfOk, IfErr}
 use Rattle.std.specs.List.{list_any, slice_range}
 use Rattle.std.proofs.lemmas.Bool.Decides.{nat_tests}
 use Rattle.std.proofs.lemmas.List.{get_or-set_other, length-set, reverse-append}
@@ -10,6 +11,8 @@ use Rattle.wire_messages.specs.declared.body.Body.{Body}
 use Rattle.wire_messages.specs.declared.body.Body.TheVariants as body
 use Rattle.wire_messages.specs.Bodies.{kind_number, kind_of}
 use Rattle.wire_messages.specs.declared.packet.Packet.{Packet}
+use Rattle.wire_reading.specs.declared.decoder.NotAPacket.{NotAPacket}
+use Rattle.wire_reading.specs.declared.decoder.NotAPacket.TheVariants.{NoMemory}
 use Rattle.packet_mail.specs.Kinds.{kind_numbered}
 use Rattle.wire_messages.specs.Packets.{IsPacket}
 use Rattle.packet_queue.specs.of_role_steps.Tables.{row, first_that}
@@ -131,6 +134,16 @@ pub packet_found : (bytes : List ℕ) (p : Packet) (o : Option Numbered) → is_
 packet_found bytes p None s h is = absurd (cc)
 packet_found bytes p (Some x) s h is = ap (λ y. Some y) (sym (packet_is bytes p is) ∙ packet_is bytes x.packet h)
 
+-- what is decoded of the bytes of a packet that was sent
+pub packet_told : (bytes : List ℕ) (r : Result Packet NotAPacket) (o : Option Numbered) → is_some o ≡ true → IfSome o (λ x. IsPacket bytes x.packet) → IfOk r (IsPacket bytes) → IfOk r (λ p. Some p ≡ packet_in o)
+packet_told bytes (Ok p) o s h is = packet_found bytes p o s h is
+packet_told bytes (Err e) o s h is = tt
+
+pub only_memory : (bytes : List ℕ) (r : Result Packet NotAPacket) (o : Option Numbered) → is_some o ≡ true → IfSome o (λ x. IsPacket bytes x.packet) → ((p : Packet) → IsPacket bytes p → (r ≡ Ok p) ⊎ (r ≡ Err NoMemory)) → IfErr r (λ fault. fault ≡ NoMemory)
+only_memory bytes (Ok p) o s h only = tt
+only_memory bytes (Err e) None s h only = absurd (cc)
+only_memory bytes (Err e) (Some x) s h only = ⊎_elim (λ f. absurd (cc)) (λ f. cc) (only x.packet h)
+
 -- the circuit tells who sent the packet, and to whom
 pub ends_are : (q : Queues) (ends log lost : List ℕ) (w : Post) (t : InOrder q ends log) (v : post_of q ends log lost ≡ w) (k : ℕ) → 0 < k → k < length q.circuits → (Some (sender_on (get_or q.circuits k 0)) ≡ sender_in (sent_at k w)) × (Some (receiver_on (get_or q.circuits k 0)) ≡ receiver_in (sent_at k w))
 ends_are q ends log lost w t v zero s h = absurd (omega arith)
@@ -151,33 +164,7 @@ past_end (w ∷ ws) (suc k) l = past_end ws k (omega arith)
 
 kind_back : (b : Body) → kind_numbered (kind_number b) ≡ kind_of b
 kind_back body.Poll = refl
-kind_back (body.Promise _) = refl
-kind_back (body.Refuse _) = refl
-kind_back (body.Install _) = refl
-kind_back body.Joined = refl
-kind_back (body.Report _ _) = refl
-kind_back (body.ReportOk _) = refl
-kind_back (body.Open _ _ _ _ _ _) = refl
-kind_back (body.OpenSs _ _ _ _ _ _ _ _) = refl
-kind_back (body.Opened _ _) = refl
-kind_back (body.OpenDone _ _) = refl
-kind_back (body.Op _ _ _ _) = refl
-kind_back (body.OpDone _ _ _) = refl
-kind_back (body.ReadHeld _ _ _ _) = refl
-kind_back (body.AsHeld _ _ _) = refl
-kind_back (body.Close _) = refl
-kind_back (body.Closed _ _) = refl
-kind_back (body.ClosedOk _) = refl
-kind_back (body.CloseDone _ _) = refl
-kind_back (body.Look _ _ _ _ _ _) = refl
-kind_back (body.LookSs _ _ _ _ _ _ _ _) = refl
-kind_back (body.LookDone _ _ _ _) = refl
-kind_back (body.Notify _ _ _ _ _ _ _) = refl
-kind_back (body.Pull _ _ _) = refl
-kind_back (body.Page _ _ _ _) = refl
-kind_back (body.Have _ _) = refl
-kind_back (body.Want _ _ _) = refl
-kind_back (body.Delta _ _ _) = refl
+kind_back b = refl
 
 -- the kind stands in the second byte
 pub kind_is : (bytes : List ℕ) (k : PacketKind) (o : Option Numbered) → IfSome o (λ x. IsPacket bytes x.packet) → k ≡ kind_numbered (get_or bytes 1 0) → IfSome o (λ x. k ≡ kind_of x.packet.body)

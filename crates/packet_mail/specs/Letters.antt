@@ -1,6 +1,6 @@
 -- What the mail keeps: the bytes of all packets one behind the other, and where each ends. Number 0 stands for no packet.
-use Rattle.std.specs.Prelude.{◌≡◌, ℕ, zero, suc, ◌-◌, ◌<◌, ◌≤◌, ◌==◌, Bool, false, List, [], ◌∷◌, map, reverse, length, slice_index, slice_index_or, slice_range, Result, Ok, Err}
-use Rattle.std.specs.List.{list_any}
+use Rattle.std.specs.Prelude.{◌≡◌, ℕ, zero, suc, ◌-◌, ◌<◌, ◌≤◌, ◌==◌, Bool, false, List, [], ◌∷◌, ◌++◌, map, reverse, length, slice_index, slice_index_or, slice_range, Result, Ok, Err}
+use Rattle.std.specs.List.{list_any, concat}
 use Rattle.field_codec.specs.declared.faults.FieldFault.{FieldFault}
 use Rattle.field_codec.specs.Codec.{whole}
 use Rattle.wire_messages.specs.declared.body.Body.TheVariants as body
@@ -9,7 +9,7 @@ use Rattle.wire_messages.specs.Packets.{packets, IsPacket}
 use Rattle.circuits.specs.of_the_run.Worlds.{Numbered, no_epoch}
 use Rattle.circuits.specs.Circuits.{circuit_of}
 use Rattle.packet_queue.specs.Queues.{Queues, numbers_of}
-use Rattle.packet_mail.specs.Posts.{Post}
+use Rattle.packet_mail.specs.Posts.{Post, posts}
 
 -- stands where no packet was read
 abbrev pub no_packet : Packet
@@ -67,3 +67,16 @@ pub record InOrder (q : Queues) (ends log : List ℕ) : Type 0 where
 pub record TellsLost (marks : List Bool) (lost : List ℕ) : Type 0 where
   pub room : length marks ≡ 262145
   pub each : (k : ℕ) → k < 262145 → slice_index_or marks k false ≡ list_any (λ j. j == k) lost
+
+-- the bytes are those of a packet of the format
+abbrev pub IsSpelled : List ℕ → Type 0
+IsSpelled bytes = IsPacket bytes (packet_of_bytes bytes)
+
+-- letters have come behind a log
+pub record Added (letters : List (List ℕ)) (q : Queues) (ends log : List ℕ) (q' : Queues) (ends' : List ℕ) : Type 0 where
+  pub order : InOrder q' ends' (log ++ concat letters)
+  pub post : (lost : List ℕ) → post_of q' ends' (log ++ concat letters) lost ≡ posts (map packet_of_bytes letters) (post_of q ends log lost)
+
+-- they have, behind each log of so many bytes
+abbrev pub AddsTo : ℕ → List (List ℕ) → Queues → List ℕ → Queues → List ℕ → Type 0
+AddsTo before letters q ends q' ends' = (log : List ℕ) → length log ≡ before → InOrder q ends log → Added letters q ends log q' ends'

@@ -32,9 +32,9 @@ posts ps m = record m {
   bytes = m.bytes + total packet_size ps;
 }
 
--- the limit that one more packet passes, if it passes one
-abbrev pub limit_of_packet : Packet → Post → Option Limit
-limit_of_packet p m = limit_passed (m.packets + 1) (m.bytes + packet_size p) 0
+-- the limit that so many packets more pass, if they pass one
+abbrev pub limit_of_packets : List Packet → Post → Option Limit
+limit_of_packets ps m = limit_passed (m.packets + length ps) (m.bytes + total packet_size ps) 0
 
 -- the packet isn't under way any more
 abbrev pub passes : ℕ → Post → Post

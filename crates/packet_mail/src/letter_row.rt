@@ -1,5 +1,7 @@
 // The bytes of packets, each alone, in one row.
-ghost use Rattle.std.specs.Prelude.{◌≡◌, ◌<◌, ◌∷◌, [], ◌++◌, true, length, Some, slice_get, OnOk, OnErr};
+ghost use Rattle.std.specs.Prelude.{◌≡◌, ◌<◌, ◌∷◌, [], ◌++◌, true, length, take, Some, slice_get, OnOk, OnErr};
+ghost use Rattle.std.specs.List.{concat};
+ghost use Rattle.packet_queue.specs.of_role_steps.Tables.{total};
 ghost use Rattle.wire_messages.specs.Bodies.{body_bytes};
 ghost use Rattle.wire_messages.specs.Packets.{packet_bytes, FitsPacket};
 
@@ -26,13 +28,13 @@ pub struct Letters {
 
 impl Model for Letters {
     ghost use Rattle.std.specs.Prelude.{ℕ, List, length};
-    ghost use Rattle.packet_mail.specs.Spans.{letters_in, ArePlaces};
+    ghost use Rattle.packet_mail.specs.Spans.{letters_in, ArePlaces, AreOneRow};
 
     ghost Value = { List (List ℕ) };
 
     ghost view = { λ l. letters_in l.row l.places.items };
 
-    ghost invariant = { λ l. ArePlaces (length l.row) l.places.items };
+    ghost invariant = { λ l. ArePlaces (length l.row) l.places.items × AreOneRow 0 (length l.row) l.places.items };
 }
 
 /// The body has no bytes.
@@ -96,6 +98,23 @@ fn put_packet(packet: &Packet, encoder: &mut Encoder, out: &mut Bytes) -> Result
     encoder.encode(packet, out)
 }
 
+/// Notes that a letter stands in the row from a place on, or, after `NoMemory`, takes it out again.
+fn note_place(row: &mut Bytes, places: &mut Vec<Span>, start: usize) -> Result<(), NoMemory>
+    ensures row { OnOk result (row.new ≡ row.old) }
+    ensures places { OnOk result (places.new.items ≡ places.old.items ++ record { start = start; end = length row.old } ∷ []) }
+    ensures row_back { OnErr result (row.new ≡ take start row.old) }
+    ensures places_kept { OnErr result (places.new.items ≡ places.old.items) }
+{
+    let end = row.len();
+    match places.push(Span { start, end }) {
+        Ok(()) => Ok(()),
+        Err(_) => {
+            row.truncate(start);
+            Err(NoMemory)
+        }
+    }
+}
+
 impl Letters {
     /// No packet.
     pub fn new(alloc: Global) -> Letters
@@ -123,6 +142,20 @@ impl Letters {
         part(self.row.as_slice(), place.start, place.end)
     }
 
+    /// The bytes of all packets, one behind the other.
+    pub(crate) fn row(&self) -> &[u8]
+        ensures { result.now ≡ concat self.now }
+    {
+        self.row.as_slice()
+    }
+
+    /// The number of bytes of all packets together.
+    pub fn size(&self) -> usize
+        ensures { result ≡ total length self.now }
+    {
+        self.row.len()
+    }
+
     /// Takes all bytes away.
     pub fn clear(&mut self)
         ensures { self.new ≡ [] }
@@ -138,8 +171,7 @@ impl Letters {
     {
         let start = self.row.len();
         put_packet(packet, encoder, &mut self.row)?;
-        let end = self.row.len();
-        self.places.push(Span { start, end })?;
+        note_place(&mut self.row, &mut self.places, start)?;
         Ok(())
     }
 }

@@ -1,22 +1,24 @@
-ghost use Rattle.std.specs.Prelude.{◌≡◌, ◌≢◌, ℕ, ◌+◌, ◌<◌, ◌≤◌, List, [], ◌∷◌, ◌++◌, map, true, is_some, length, slice_range, Ok, Err, Some, None, IfOk, IfSome, OnOk, OnErr};
+ghost use Rattle.std.specs.Prelude.{◌≡◌, ◌≢◌, ℕ, ◌+◌, ◌<◌, ◌≤◌, List, ◌++◌, map, true, is_some, length, slice_range, Ok, Err, Some, None, IfOk, IfErr, IfSome, OnOk, OnErr};
 ghost use Rattle.std.specs.List.{AllByRecursion};
 ghost use Rattle.wire_messages.specs.Bodies.{kind_of};
 ghost use Rattle.wire_messages.specs.Packets.{IsPacket};
-ghost use Rattle.circuits.specs.of_the_run.Worlds.{Limit};
-ghost use Rattle.packet_mail.specs.Posts.{Post, no_post, posts, limit_of_packet, passes, loses, sent_at, is_sent, is_lost, is_underway, number_in, packet_in, next_number, sender_in, receiver_in, pending_of, IsKnown};
-ghost use Rattle.packet_mail.specs.Letters.{post_of, InOrder, TellsLost, IsLetter};
+ghost use Rattle.packet_mail.specs.Posts.{Post, no_post, posts, limit_of_packets, passes, loses, sent_at, is_sent, is_lost, is_underway, number_in, packet_in, next_number, sender_in, receiver_in, pending_of, IsKnown};
+ghost use Rattle.packet_mail.specs.Letters.{packet_of_bytes, post_of, InOrder, TellsLost, IsLetter, IsSpelled, AddsTo};
+ghost use Rattle.packet_queue.specs.of_role_steps.Tables.{total};
+ghost use Rattle.wire_reading.specs.declared.decoder.NotAPacket.{NotAPacket};
 
-use crate::MailFault;
 use crate::kinds::kind_of_letter;
 pub use crate::letters::MOST_BYTES;
-use crate::letters::{part, put_letter, read_letter};
-use circuits::{circuit_of, receiver_on, sender_on};
+use crate::letters::{circuit_of_letter, part, put_letters};
+use crate::{Letters, MailFault};
+use circuits::{receiver_on, sender_on};
 use locus_ids::{Bytes, ItemList, NoMemory, SiteId};
 use packet_queue::{NUMBERS, PacketQueue, filled};
 use std::alloc::Global;
 use std::marker::Model;
 use trace_book::PacketKind;
 use wire_messages::Packet;
+use wire_reading::{NotAPacket, decode};
 
 /// The packets that a run may send.
 pub const MOST_PACKETS: u32 = 262_144;
@@ -55,6 +57,24 @@ impl Model for Mail {
     ghost invariant = { λ m. InOrder m.queue m.ends.items m.log × TellsLost m.lost_marks.items (reverse m.lost.items) };
 }
 
+/// Adds packets, whose bytes stand behind so many of the log.
+fn add_all(queue: &mut PacketQueue, ends: &mut Vec<u32>, letters: &Letters, before: usize)
+    requires room { length queue.old.circuits + length letters.now ≤ 262145 }
+    requires table { length ends.old.items ≡ 262145 }
+    requires size { before + total length letters.now ≤ 134217728 }
+    requires spelled { AllByRecursion IsSpelled letters.now }
+    ensures { AddsTo before letters.now queue.old ends.old.items queue.new ends.new.items }
+{
+    let mut end = before;
+    for i in 0..letters.len() {
+        let letter = letters.letter(i);
+        end += letter.len();
+        let number = queue.len();
+        ends[number as usize] = end as u32;
+        queue.add(circuit_of_letter(letter));
+    }
+}
+
 impl Mail {
     ghost use Rattle.packet_mail.specs.Posts.{Post};
 
@@ -90,22 +110,22 @@ impl Mail {
         self.log.len()
     }
 
-    /// Sends a packet, which these bytes are, with the next number.
-    pub fn put(&mut self, packet: &Packet, letter: &[u8]) -> Result<(), MailFault>
-        requires { IsPacket letter.now packet.now }
-        ensures ok { OnOk result (self.new ≡ posts (packet.now ∷ []) self.old) }
-        ensures room { OnOk result (limit_of_packet packet.now self.old ≡ None) }
+    /// Sends packets, whose bytes these are, with the next numbers: all of them, or, after a fault, none.
+    pub fn put_all(&mut self, letters: &Letters) -> Result<(), MailFault>
+        requires { AllByRecursion IsSpelled letters.now }
+        ensures ok { OnOk result (self.new ≡ posts (map packet_of_bytes letters.now) self.old) }
+        ensures room { OnOk result (limit_of_packets (map packet_of_bytes letters.now) self.old ≡ None) }
         ensures err { OnErr result (self.new ≡ self.old) }
-        ensures full { result ≡ Err MailFault.Full → limit_of_packet packet.now self.old ≢ None }
+        ensures full { result ≡ Err MailFault.Full → limit_of_packets (map packet_of_bytes letters.now) self.old ≢ None }
         ensures fits { result ≢ Err MailFault.Unfit }
     {
-        let number = self.queue.len();
-        if number > MOST_PACKETS {
+        let room = (NUMBERS - self.queue.len()) as usize;
+        if letters.len() > room {
             return Err(MailFault::Full);
         }
-        put_letter(&mut self.log, letter)?;
-        self.ends[number as usize] = self.log.len() as u32;
-        self.queue.add(circuit_of(packet.from, packet.to));
+        let before = self.log.len();
+        put_letters(&mut self.log, letters.row())?;
+        add_all(&mut self.queue, &mut self.ends, letters, before);
         Ok(())
     }
 
@@ -171,15 +191,13 @@ impl Mail {
         part(self.log.as_slice(), start, end)
     }
 
-    /// The packet of this number, or `None` exactly where none was sent.
-    pub fn packet(&self, alloc: Global, number: u32) -> Result<Option<Packet>, NoMemory>
-        ensures { IfOk result (λ found. found ≡ packet_in (sent_at number self.now)) }
+    /// The packet of this number. It is given as the decoder gives it, so that it isn't moved on the way.
+    pub fn packet(&self, alloc: Global, number: u32) -> Result<Packet, NotAPacket>
+        requires { is_sent number self.now ≡ true }
+        ensures found { IfOk result (λ packet. Some packet ≡ packet_in (sent_at number self.now)) }
+        ensures memory { IfErr result (λ fault. fault ≡ NotAPacket.NoMemory) }
     {
-        if !self.is_sent(number) {
-            return Ok(None);
-        }
-        let packet = read_letter(alloc, self.letter(number))?;
-        Ok(Some(packet))
+        decode(alloc, self.letter(number))
     }
 
     /// The kind of the packet of this number.
