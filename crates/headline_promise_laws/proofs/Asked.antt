@@ -142,9 +142,9 @@ starts_so c named lines fit trace placed comes m site h = record { ours = ours; 
     a : Agrees c now (past c now)
     a = all_agrees c named now (comes_before c m trace comes)
 
-    site_of : (l : ScheduleLine) → line_at lines m ≡ l → places.starts_at l now ≡ Some site → is_of_cluster c site ≡ true
-    site_of (Event (line.Part s)) e k = ap (is_of_cluster c) (sym (given (is_up now s && is_some (epoch_of now s)) s site k).is) ∙ in_cluster c.sites s (fit m (line.Part s) e)
-    site_of (Event (line.Merge s)) e k = ap (is_of_cluster c) (sym (given (is_up now s) s site k).is) ∙ in_cluster c.sites s (fit m (line.Merge s) e)
+    site_of : (l : ScheduleLine) → line_at lines m ≡ l → places.starts_at c l now ≡ Some site → is_of_cluster c site ≡ true
+    site_of (Event (line.Part s)) e k = ap (is_of_cluster c) (sym (given (is_up c now s && is_some (epoch_of now s)) s site k).is) ∙ in_cluster c.sites s (fit m (line.Part s) e)
+    site_of (Event (line.Merge s)) e k = ap (is_of_cluster c) (sym (given (is_up c now s) s site k).is) ∙ in_cluster c.sites s (fit m (line.Merge s) e)
     site_of l e k = none_some site k
 
     ours : is_of_cluster c site ≡ true
@@ -157,12 +157,12 @@ starts_so c named lines fit trace placed comes m site h = record { ours = ours; 
     some_not_none None j = j
     some_not_none (Some x) j = refl
 
-    by_line : (l : ScheduleLine) → places.starts_at l now ≡ Some site → starts_by l (past c now) site ≡ true
-    by_line (Event (line.Part s)) k = (let it : Given (is_up now s && is_some (epoch_of now s)) s site = given (is_up now s && is_some (epoch_of now s)) s site k
+    by_line : (l : ScheduleLine) → places.starts_at c l now ≡ Some site → starts_by l (past c now) site ≡ true
+    by_line (Event (line.Part s)) k = (let it : Given (is_up c now s && is_some (epoch_of now s)) s site = given (is_up c now s && is_some (epoch_of now s)) s site k
         in both (s == site) (not (is_none (site_at (past c now) site).epoch)) (number_test s site it.is)
-        (some_not_none (site_at (past c now) site).epoch (ap is_some (a.sites.epoch site) ∙ (ap (λ x. is_some (epoch_of now x)) (sym it.is) ∙ (both_parts (is_up now s) (is_some (epoch_of now s)) it.so).1))))
-    by_line (Event (line.Merge s)) k = (let it : Given (is_up now s) s site = given (is_up now s) s site k
-        in both (s == site) (site_at (past c now) site).up (number_test s site it.is) (a.sites.up site there ∙ (ap (is_up now) (sym it.is) ∙ it.so)))
+        (some_not_none (site_at (past c now) site).epoch (ap is_some (a.sites.epoch site) ∙ (ap (λ x. is_some (epoch_of now x)) (sym it.is) ∙ (both_parts (is_up c now s) (is_some (epoch_of now s)) it.so).1))))
+    by_line (Event (line.Merge s)) k = (let it : Given (is_up c now s) s site = given (is_up c now s) s site k
+        in both (s == site) (site_at (past c now) site).up (number_test s site it.is) (a.sites.up site there ∙ (ap (is_up c now) (sym it.is) ∙ it.so)))
     by_line l k = none_some site k
 
 -- Leaves and joins.

@@ -164,20 +164,20 @@ alone lines n (r ∷ before) placed h = at (r.line == n) (is_void r.what) refl r
 
 -- Whether a line is void.
 
-up_is : (c : Config) (now : Trace) (p : Past) → Agrees c now p → (site : ℕ) → is_site c.sites site ≡ true → (site_at p site).up ≡ is_up now site
+up_is : (c : Config) (now : Trace) (p : Past) → Agrees c now p → (site : ℕ) → is_site c.sites site ≡ true → (site_at p site).up ≡ is_up c now site
 up_is c now p a site h = a.sites.up site (of_cluster_there c p.sites site a.sites.numbers (in_cluster c.sites site h))
 
 -- a stopped site is in none
-apart_is : (c : Config) (now : Trace) (p : Past) → Agrees c now p → (site : ℕ) → is_none (site_at p site).epoch ≡ old.is_apart now site
-apart_is c now p a site = ap is_none (a.sites.epoch site) ∙ at (is_up now site) refl
+apart_is : (c : Config) (now : Trace) (p : Past) → Agrees c now p → (site : ℕ) → is_none (site_at p site).epoch ≡ old.is_apart c now site
+apart_is c now p a site = ap is_none (a.sites.epoch site) ∙ at (is_up c now site) refl
   where
-    at : (b : Bool) → is_up now site ≡ b → is_none (epoch_of now site) ≡ (not b || is_none (epoch_of now site))
+    at : (b : Bool) → is_up c now site ≡ b → is_none (epoch_of now site) ≡ (not b || is_none (epoch_of now site))
     at true e = refl
     at false e = ap is_none (a.sites.down site e)
 
 -- by the value, by the folds
-effect_is : (c : Config) → c.sites ≤ sites_max → (earlier : List ScheduleLine) (now : Trace) (p : Past) → Agrees c now p → (l : ScheduleLine) → ((e : Line) → l ≡ Event e → fits_event c.sites e ≡ true) → has_no_effect earlier p l ≡ old.is_void_after earlier now l
-effect_is c few earlier now p a (Event (line.Call site process words)) fit = ap (λ o. Some o) (ap (λ b. not b || list_any (waits_at site process) p.calls) (a.sites.up site (there site (both_parts (is_site c.sites site) (is_between 1 8 process) (both_parts (is_site c.sites site && is_between 1 8 process) (fits_call c.sites words) (fit (line.Call site process words) refl)).0).0)) ∙ ap (λ b. not (is_up now site) || b) waits)
+effect_is : (c : Config) → c.sites ≤ sites_max → (earlier : List ScheduleLine) (now : Trace) (p : Past) → Agrees c now p → (l : ScheduleLine) → ((e : Line) → l ≡ Event e → fits_event c.sites e ≡ true) → has_no_effect earlier p l ≡ old.is_void_after c earlier now l
+effect_is c few earlier now p a (Event (line.Call site process words)) fit = ap (λ o. Some o) (ap (λ b. not b || list_any (waits_at site process) p.calls) (a.sites.up site (there site (both_parts (is_site c.sites site) (is_between 1 8 process) (both_parts (is_site c.sites site && is_between 1 8 process) (fits_call c.sites words) (fit (line.Call site process words) refl)).0).0)) ∙ ap (λ b. not (is_up c now site) || b) waits)
   where
     there : (s : ℕ) → is_site c.sites s ≡ true → is_there p s ≡ true
     there s h = of_cluster_there c p.sites s a.sites.numbers (in_cluster c.sites s h)
@@ -252,7 +252,7 @@ silent c lines n [] h placed e = refl
 silent c lines n (r ∷ before) h placed e = at (silent c lines n before h.1 placed.1) (nat_lt r.line n) (r.line == n) (is_void r.what) refl refl refl
   where
     kept : nat_lt r.line n ≡ false → old.is_void_line lines before n ≡ Some false
-    kept k = sym (ap (λ b. old.is_void_after (take (n - 1) lines) (cond b (r ∷ before) (before_line before n)) (line_at lines n)) k) ∙ e
+    kept k = sym (ap (λ b. old.is_void_after c (take (n - 1) lines) (cond b (r ∷ before) (before_line before n)) (line_at lines n)) k) ∙ e
 
     voids : (a b : Bool) → (r.line == n) ≡ a → is_void r.what ≡ b → old.how_many is_void n (r ∷ before) ≡ cond (a && b) (suc (old.how_many is_void n before)) (old.how_many is_void n before)
     voids a b k j = one_more is_void n r before ∙ (ap (λ x. cond (x && is_void r.what) (suc (old.how_many is_void n before)) (old.how_many is_void n before)) k ∙ ap (λ x. cond (a && x) (suc (old.how_many is_void n before)) (old.how_many is_void n before)) j)
