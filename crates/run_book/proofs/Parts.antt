@@ -2,7 +2,6 @@
 use Rattle.std.proofs.Common.{◌≡◌, ℕ, zero, suc, ◌+◌, ◌<◌, List, [], ◌∷◌, ◌++◌, length, drop, get_or, Some, refl, sym, ap, subst, ◌∙◌, append_assoc, arith}
 use Rattle.std.specs.Prelude.{slice_get}
 use Rattle.std.specs.List.{AllByRecursion}
-use Rattle.std.proofs.lemmas.List.{append-nil}
 use Rattle.std.proofs.lemmas.Option.{slice_get-get_or}
 use Rattle.wire_messages.specs.Outboxes.{Outgoing}
 use Rattle.packet_order.specs.Orders.{together}
@@ -11,10 +10,6 @@ use Rattle.trace_book.specs.declared.record.Record.{Record}
 use Rattle.wire_messages.specs.declared.packet.Packet.{Packet}
 use Rattle.wire_messages.specs.Packets.{FitsPacket}
 use Rattle.packet_order.specs.Counts.{FitsIfCounted}
-use Rattle.role_steps.specs.Tables.{total}
-use Rattle.the_run.specs.Worlds.{packet_size, numbered_from, newest_onto}
-use Rattle.packet_mail.specs.Posts.{Post, posts}
-use Rattle.packet_mail.proofs.Sent.{post_same}
 use Rattle.the_run.specs.Commands.{Counts, counted_in, reply_line}
 use Rattle.run_book.specs.Ledgers.{lines_text}
 use Rattle.run_book.specs.Writings.{counts_after, replies_of}
@@ -44,37 +39,9 @@ pub all_behind : {A : Type 0} (P : A → Type 0) (xs ys : List A) → AllByRecur
 all_behind P [] ys h = h
 all_behind P (x ∷ xs) ys h = all_behind P xs ys h.1
 
--- the first packet, and then the others
-pub posts_one : (p : Packet) (ps : List Packet) (m : Post) → posts (p ∷ ps) m ≡ posts ps (posts (p ∷ []) m)
-posts_one p ps m = post_same
-    refl
-    (sym (append_assoc m.underway (record { number = m.packets + 1; packet = p } ∷ []) (numbered_from (m.packets + 1 + 1) ps)))
-    refl
-    (omega arith)
-    (omega arith)
-
-pub posts_append : (ps qs : List Packet) (m : Post) → posts (ps ++ qs) m ≡ posts qs (posts ps m)
-posts_append [] qs m =
-    let e : m.packets ≡ m.packets + 0 = omega arith in
-    let f : m.bytes ≡ m.bytes + 0 = omega arith in
-    post_same
-    (ap (λ k. newest_onto (numbered_from (k + 1) qs) m.sent) e)
-    (ap (λ k. m.underway ++ numbered_from (k + 1) qs) e ∙ ap (λ u. u ++ numbered_from (m.packets + 0 + 1) qs) (sym (append-nil m.underway)))
-    refl
-    (ap (λ k. k + length qs) e)
-    (ap (λ k. k + total packet_size qs) f)
-posts_append (p ∷ ps) qs m = posts_one p (ps ++ qs) m ∙ (posts_append ps qs (posts (p ∷ []) m) ∙ ap (posts qs) (sym (posts_one p ps m)))
-
 -- a property of one element more
 pub rest_has : {A : Type 0} (P : A → Type 0) (xs : List A) (i : ℕ) (p : A) → Some p ≡ slice_get xs i → P p → (AllByRecursion P (drop i xs) → AllByRecursion P xs) → AllByRecursion P (drop (i + 1) xs) → AllByRecursion P xs
 rest_has P xs i p at h f k = f (subst (AllByRecursion P) (sym (left_from xs i p at)) (h, k))
-
-pub next_has : {A : Type 0} (P : A → Type 0) (xs : List A) (i : ℕ) (p : A) → Some p ≡ slice_get xs i → AllByRecursion P (drop i xs) → P p × AllByRecursion P (drop (i + 1) xs)
-next_has P xs i p at h = subst (AllByRecursion P) (left_from xs i p at) h
-
--- one packet more is sent
-pub put_more : (xs : List Packet) (i : ℕ) (p : Packet) (m n whole : Post) → Some p ≡ slice_get xs i → n ≡ posts (p ∷ []) m → posts (drop i xs) m ≡ whole → posts (drop (i + 1) xs) n ≡ whole
-put_more xs i p m n whole at e h = ap (posts (drop (i + 1) xs)) e ∙ (sym (posts_one p (drop (i + 1) xs) m) ∙ (ap (λ ys. posts ys m) (sym (left_from xs i p at)) ∙ h))
 
 pub part_left : (parts : List Outgoing) (i : ℕ) (part : Outgoing) → i < length parts → part ≡ get_or parts i part → drop i parts ≡ part ∷ drop (i + 1) parts
 part_left parts i part l e = left_from parts i part (ap (λ x. Some x) e ∙ sym (slice_get-get_or parts i part l))
@@ -116,17 +83,6 @@ part_fits [] i part l e h = absurd (omega arith)
 part_fits (q ∷ qs) zero part l e h = subst (λ (z : Outgoing). AllByRecursion (λ (p : Packet). FitsIfCounted p) z.packets) (sym e) (all_front (λ (p : Packet). FitsIfCounted p) q.packets (together qs).packets h)
 part_fits (q ∷ qs) (suc i) part l e h = part_fits qs i part (omega arith) e (all_behind (λ (p : Packet). FitsIfCounted p) q.packets (together qs).packets h)
 
--- those of the next part, and those after it
-pub part_next : (parts : List Outgoing) (i : ℕ) (part : Outgoing) → i < length parts → part ≡ get_or parts i part → AllByRecursion (λ (p : Packet). FitsPacket p) (together (drop i parts)).packets → AllByRecursion (λ (p : Packet). FitsPacket p) part.packets × AllByRecursion (λ (p : Packet). FitsPacket p) (together (drop (i + 1) parts)).packets
-part_next parts i part l e h =
-    let k : AllByRecursion (λ (p : Packet). FitsPacket p) (part.packets ++ (together (drop (i + 1) parts)).packets) = subst (λ (ps : List Outgoing). AllByRecursion (λ (p : Packet). FitsPacket p) (together ps).packets) (part_left parts i part l e) h in
-    (all_front (λ (p : Packet). FitsPacket p) part.packets (together (drop (i + 1) parts)).packets k, all_behind (λ (p : Packet). FitsPacket p) part.packets (together (drop (i + 1) parts)).packets k)
-
+-- the packets of one part more are of the format
 pub part_rest : (parts : List Outgoing) (i : ℕ) (part : Outgoing) → i < length parts → part ≡ get_or parts i part → AllByRecursion (λ (p : Packet). FitsPacket p) part.packets → (AllByRecursion (λ (p : Packet). FitsPacket p) (together (drop i parts)).packets → AllByRecursion (λ (p : Packet). FitsPacket p) (together parts).packets) → AllByRecursion (λ (p : Packet). FitsPacket p) (together (drop (i + 1) parts)).packets → AllByRecursion (λ (p : Packet). FitsPacket p) (together parts).packets
 part_rest parts i part l e h f k = f (subst (λ (ps : List Outgoing). AllByRecursion (λ (p : Packet). FitsPacket p) (together ps).packets) (sym (part_left parts i part l e)) (all_append (λ (p : Packet). FitsPacket p) part.packets (together (drop (i + 1) parts)).packets h k))
-
-pub part_posts : (parts : List Outgoing) (i : ℕ) (part : Outgoing) (m n whole : Post) → i < length parts → part ≡ get_or parts i part → n ≡ posts part.packets m → posts (together (drop i parts)).packets m ≡ whole → posts (together (drop (i + 1) parts)).packets n ≡ whole
-part_posts parts i part m n whole l e k h =
-    ap (posts (together (drop (i + 1) parts)).packets) k
-    ∙ (sym (posts_append part.packets (together (drop (i + 1) parts)).packets m)
-    ∙ (ap (λ ps. posts (together ps).packets m) (sym (part_left parts i part l e)) ∙ h))

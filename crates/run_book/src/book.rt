@@ -8,7 +8,7 @@ ghost use Rattle.run_book.specs.Ledgers.{no_ledger, limit_in, lines_text, with_e
 ghost use Rattle.run_book.specs.Writings.{counts_in};
 
 use crate::counts::with_parts;
-use crate::measures::{Measured, is_past, put_all, sizes_of};
+use crate::measures::{Measured, is_past, measure, send_all};
 use crate::writing::add_written;
 use crate::{BookFault, Passed, RunCounts, Writing};
 use locus_ids::{Bytes, NoMemory};
@@ -160,7 +160,7 @@ impl RunBook {
         ensures ok { (n : ℕ) → event.now.text ≡ lines_text n (together parts.now).records → OnOk result (self.new ≡ with_event n (together parts.now).packets (together parts.now).records self.old) }
         ensures unfit { result ≡ Err BookFault.Unfit → ⊥ }
     {
-        put_all(&mut self.mail, parts, &event.letters)?;
+        send_all(&mut self.mail, parts, &event.letters)?;
         let Ok(counts) = with_parts(self.counts, parts) else {
             return Err(BookFault::NoMemory);
         };
@@ -213,11 +213,11 @@ impl RunBook {
             return Ok(());
         }
         let alloc = self.allocator();
-        let before = replace(&mut self.event, Measured::new(alloc));
-        let event = match sizes_of(alloc, line, out, &mut self.encoder, before) {
-            Ok(event) => event,
+        match measure(alloc, line, out, &mut self.encoder, &mut self.event) {
+            Ok(()) => {}
             Err(fault) => return Err(fault),
-        };
+        }
+        let event = replace(&mut self.event, Measured::new(alloc));
         self.enter(out.parts(), &event)?;
         self.event = event;
         Ok(())

@@ -1,7 +1,7 @@
-ghost use Rattle.std.specs.Prelude.{◌≡◌, ℕ, ◌+◌, ◌≤◌, [], ◌∷◌, ◌++◌, map, nat_lt, length, slice_get, Err, Some, IfOk, OnOk};
+ghost use Rattle.std.specs.Prelude.{◌≡◌, ◌+◌, ◌≤◌, [], ◌∷◌, ◌++◌, map, nat_lt, Err, OnOk};
 ghost use Rattle.std.specs.List.{AllByRecursion};
 ghost use Rattle.role_steps.specs.Tables.{total};
-ghost use Rattle.wire_messages.specs.Packets.{FitsPacket, IsPacket, packet_bytes};
+ghost use Rattle.wire_messages.specs.Packets.{FitsPacket, packet_bytes};
 ghost use Rattle.packet_order.specs.Counts.{FitsIfCounted};
 ghost use Rattle.wire_messages.specs.declared.packet.Packet.{Packet};
 ghost use Rattle.the_run.specs.Worlds.{packet_size};
@@ -72,40 +72,25 @@ fn add_letters(
     Ok(())
 }
 
-/// The bytes of each packet in turn, if all are of the format. They take the memory of letters of before.
-fn letters_of_all(
+/// The bytes of each packet in turn, if all are of the format, in place of those of before.
+fn put_letters(
     alloc: Global,
     parts: &[Part],
     encoder: &mut Encoder,
-    before: Letters,
-) -> Result<Letters, BookFault>
-    ensures letters { IfOk result (λ made. made ≡ map packet_bytes (together parts.now).packets) }
+    letters: &mut Letters,
+) -> Result<(), BookFault>
+    ensures letters { OnOk result (letters.new ≡ map packet_bytes (together parts.now).packets) }
     ensures fits { OnOk result (AllByRecursion (λ p. FitsPacket p) (together parts.now).packets) }
     ensures unfit { result ≡ Err BookFault.Unfit → AllByRecursion (λ p. FitsIfCounted p) (together parts.now).packets → ⊥ }
 {
-    let mut letters = before;
     letters.clear();
     for part in parts {
-        match add_letters(alloc, part, encoder, &mut letters) {
+        match add_letters(alloc, part, encoder, letters) {
             Ok(()) => {}
             Err(fault) => return Err(fault),
         }
     }
-    Ok(letters)
-}
-
-/// The number of bytes of all letters together.
-fn size_of_all(letters: &Letters) -> Result<usize, NoMemory>
-    ensures { IfOk result (λ size. size ≡ total length letters.now) }
-{
-    let mut size: usize = 0;
-    for i in 0..letters.len() {
-        let Some(more) = size.checked_add(letters.letter(i).len()) else {
-            return Err(NoMemory);
-        };
-        size = more;
-    }
-    Ok(size)
+    Ok(())
 }
 
 /// Adds the text of some records of one line.
@@ -118,62 +103,29 @@ fn add_text(line: u32, records: &[Record], text: &mut Bytes) -> Result<(), NoMem
     Ok(())
 }
 
-/// The text of all records, those of one line. It takes the memory of a text of before.
-fn text_of_all(line: u32, parts: &[Part], before: Bytes) -> Result<Bytes, NoMemory>
-    ensures { IfOk result (λ text. text ≡ lines_text line (together parts.now).records) }
+/// The text of all records, those of one line, in place of that of before.
+fn put_text(line: u32, parts: &[Part], text: &mut Bytes) -> Result<(), NoMemory>
+    ensures { OnOk result (text.new ≡ lines_text line (together parts.now).records) }
 {
-    let mut text = before;
     text.clear();
     for part in parts {
-        add_text(line, part.records(), &mut text)?;
-    }
-    Ok(text)
-}
-
-/// Sends a packet, which these bytes are.
-fn put_one(mail: &mut Mail, packet: &Packet, letter: &[u8]) -> Result<(), BookFault>
-    requires { IsPacket letter.now packet.now }
-    ensures ok { OnOk result (mail.new ≡ posts (packet.now ∷ []) mail.old) }
-    ensures fits { result ≡ Err BookFault.Unfit → ⊥ }
-{
-    match mail.put(packet, letter) {
-        Ok(()) => Ok(()),
-        Err(_) => Err(BookFault::NoMemory),
-    }
-}
-
-/// Sends the packets of a part, whose bytes stand among these from a place on.
-fn put_part(mail: &mut Mail, part: &Part, letters: &Letters, first: usize) -> Result<(), BookFault>
-    requires packets { AllByRecursion (λ p. FitsPacket p) part.now.packets }
-    requires room { first + length part.now.packets ≤ length letters.now }
-    requires letters { (i : ℕ) (p : Packet) → slice_get part.now.packets i ≡ Some p → slice_get letters.now (first + i) ≡ Some (packet_bytes p) }
-    ensures ok { OnOk result (mail.new ≡ posts part.now.packets mail.old) }
-    ensures fits { result ≡ Err BookFault.Unfit → ⊥ }
-{
-    let _count = letters.len();
-    for i in 0..part.len() {
-        match part.packet(i) {
-            Some(packet) => put_one(mail, packet, letters.letter(first + i))?,
-            None => return Err(BookFault::NoMemory),
-        }
+        add_text(line, part.records(), text)?;
     }
     Ok(())
 }
 
 /// Sends all packets, whose bytes these are.
-pub fn put_all(mail: &mut Mail, parts: &[Part], letters: &Letters) -> Result<(), BookFault>
+pub fn send_all(mail: &mut Mail, parts: &[Part], letters: &Letters) -> Result<(), BookFault>
     requires packets { AllByRecursion (λ p. FitsPacket p) (together parts.now).packets }
     requires letters { letters.now ≡ map packet_bytes (together parts.now).packets }
     ensures ok { OnOk result (mail.new ≡ posts (together parts.now).packets mail.old) }
     ensures fits { result ≡ Err BookFault.Unfit → ⊥ }
 {
-    let _count = letters.len();
-    let mut first = 0;
-    for part in parts {
-        put_part(mail, part, letters, first)?;
-        first += part.len();
+    let _parts = parts;
+    match mail.put_all(letters) {
+        Ok(()) => Ok(()),
+        Err(_) => Err(BookFault::NoMemory),
     }
-    Ok(())
 }
 
 /// What an event sends and tells, measured.
@@ -196,37 +148,29 @@ impl Measured {
     }
 }
 
-/// Measures what an event of a line sends and tells, in the memory of an event of before. `Unfit` only where a packet isn't one of
-/// the format.
-pub fn sizes_of(
+/// Measures what an event of a line sends and tells, in place of an event of before. `Unfit` only where a packet isn't one of the
+/// format.
+pub fn measure(
     alloc: Global,
     line: u32,
     out: &Dispatch,
     encoder: &mut Encoder,
-    before: Measured,
-) -> Result<Measured, BookFault>
-    ensures letters { IfOk result (λ event. event.letters ≡ map packet_bytes out.now.packets) }
-    ensures bytes { IfOk result (λ event. event.bytes ≡ total packet_size out.now.packets) }
-    ensures text { IfOk result (λ event. event.text ≡ lines_text line out.now.records) }
+    event: &mut Measured,
+) -> Result<(), BookFault>
+    ensures letters { OnOk result (event.new.letters ≡ map packet_bytes out.now.packets) }
+    ensures bytes { OnOk result (event.new.bytes ≡ total packet_size out.now.packets) }
+    ensures text { OnOk result (event.new.text ≡ lines_text line out.now.records) }
     ensures fits { OnOk result (AllByRecursion (λ p. FitsPacket p) out.now.packets) }
     ensures unfit { result ≡ Err BookFault.Unfit → AllByRecursion (λ p. FitsIfCounted p) out.now.packets → ⊥ }
 {
     let parts = out.parts();
-    let letters = match letters_of_all(alloc, parts, encoder, before.letters) {
-        Ok(letters) => letters,
+    match put_letters(alloc, parts, encoder, &mut event.letters) {
+        Ok(()) => {}
         Err(fault) => return Err(fault),
-    };
-    let bytes = match size_of_all(&letters) {
-        Ok(bytes) => bytes,
-        Err(_) => return Err(BookFault::NoMemory),
-    };
-    let text = match text_of_all(line, parts, before.text) {
-        Ok(text) => text,
-        Err(_) => return Err(BookFault::NoMemory),
-    };
-    Ok(Measured {
-        letters,
-        bytes,
-        text,
-    })
+    }
+    event.bytes = event.letters.size();
+    match put_text(line, parts, &mut event.text) {
+        Ok(()) => Ok(()),
+        Err(_) => Err(BookFault::NoMemory),
+    }
 }
