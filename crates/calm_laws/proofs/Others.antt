@@ -147,22 +147,7 @@ handler_leaves f from (body.Promise reach) v k n r = absurd n
 handler_leaves f from (body.Refuse theirs) v k n r = absurd n
 handler_leaves f from (body.Install members) v k n r = absurd n
 handler_leaves f from body.Joined v k n r = absurd n
-handler_leaves f from (body.Report group copies) v k n r = absurd k
-handler_leaves f from (body.Open serial call process request file how) v k n r = absurd k
-handler_leaves f from (body.OpenSs inst file mode set kind base vector parents) v k n r = absurd k
-handler_leaves f from (body.Opened inst answer) v k n r = absurd k
-handler_leaves f from (body.OpenDone serial answer) v k n r = absurd k
-handler_leaves f from (body.Op serial number o seen) v k n r = absurd k
-handler_leaves f from (body.OpDone serial number result) v k n r = absurd k
-handler_leaves f from (body.ReadHeld serial number at len) v k n r = absurd k
-handler_leaves f from (body.AsHeld serial number len) v k n r = absurd k
-handler_leaves f from (body.Close serial) v k n r = absurd k
-handler_leaves f from (body.Closed inst made) v k n r = absurd k
-handler_leaves f from (body.ClosedOk inst) v k n r = absurd k
-handler_leaves f from (body.CloseDone serial answer) v k n r = absurd k
-handler_leaves f from (body.Look call process request take file what) v k n r = absurd k
-handler_leaves f from (body.LookSs us call process request take file what stamp) v k n r = absurd k
-handler_leaves f from (body.LookDone call request take answer) v k n r = absurd k
+handler_leaves f from x v k n r = absurd k
 
 adoption_leaves : (c : Config) (m : ℕ) (o : Option InEpoch) (u : SiteView) → Rising (map table_group u.tables) → Leaves u (adopts_of c m o u).view
 adoption_leaves c m None u r = leaves_itself u
@@ -271,29 +256,7 @@ takes_leaves c e m links p (body.Promise reach) v is k i r o = inl (promise_leav
 takes_leaves c e m links p (body.Refuse theirs) v is k i r o = inl (refuse_leaves m links p.epoch theirs v.round v k.none)
 takes_leaves c e m links p (body.Install members) v is k i r o = inl (install_leaves c m p.from p.from_boot p.epoch members v i)
 takes_leaves c e m links p body.Joined v is k i r o = inl (joined_leaves p.from p.epoch v)
-takes_leaves c e m links p (body.Report group copies) v is k i r o = absurd o
-takes_leaves c e m links p (body.Open serial call process request file how) v is k i r o = absurd o
-takes_leaves c e m links p (body.OpenSs inst file mode set kind base vector parents) v is k i r o = absurd o
-takes_leaves c e m links p (body.Opened inst answer) v is k i r o = absurd o
-takes_leaves c e m links p (body.OpenDone serial answer) v is k i r o = absurd o
-takes_leaves c e m links p (body.Op serial number op seen) v is k i r o = absurd o
-takes_leaves c e m links p (body.OpDone serial number result) v is k i r o = absurd o
-takes_leaves c e m links p (body.ReadHeld serial number at len) v is k i r o = absurd o
-takes_leaves c e m links p (body.AsHeld serial number len) v is k i r o = absurd o
-takes_leaves c e m links p (body.Close serial) v is k i r o = absurd o
-takes_leaves c e m links p (body.Closed inst made) v is k i r o = absurd o
-takes_leaves c e m links p (body.ClosedOk inst) v is k i r o = absurd o
-takes_leaves c e m links p (body.CloseDone serial answer) v is k i r o = absurd o
-takes_leaves c e m links p (body.Look call process request take file what) v is k i r o = absurd o
-takes_leaves c e m links p (body.LookSs us call process request take file what stamp) v is k i r o = absurd o
-takes_leaves c e m links p (body.LookDone call request take answer) v is k i r o = absurd o
-takes_leaves c e m links p (body.ReportOk group) v is k i r o = inl (framed_leaves c m p v.epoch v r (subst IsOther (sym is) tt) (subst FormsNone (sym is) tt))
-takes_leaves c e m links p (body.Notify file kind set size stamp vector holder) v is k i r o = inl (framed_leaves c m p v.epoch v r (subst IsOther (sym is) tt) (subst FormsNone (sym is) tt))
-takes_leaves c e m links p (body.Pull file stamp page) v is k i r o = inl (framed_leaves c m p v.epoch v r (subst IsOther (sym is) tt) (subst FormsNone (sym is) tt))
-takes_leaves c e m links p (body.Want file wanted own) v is k i r o = inl (framed_leaves c m p v.epoch v r (subst IsOther (sym is) tt) (subst FormsNone (sym is) tt))
-takes_leaves c e m links p (body.Page file stamp page bytes) v is k i r o = inl (framed_leaves c m p v.epoch v r (subst IsOther (sym is) tt) (subst FormsNone (sym is) tt))
-takes_leaves c e m links p (body.Delta file wanted pages) v is k i r o = inl (framed_leaves c m p v.epoch v r (subst IsOther (sym is) tt) (subst FormsNone (sym is) tt))
-takes_leaves c e m links p (body.Have file stamp) v is k i r o = inl (framed_leaves c m p v.epoch v r (subst IsOther (sym is) tt) (subst FormsNone (sym is) tt))
+takes_leaves c e m links p x v is k i r o = inl (framed_leaves c m p v.epoch v r (subst IsOther (sym is) o) (subst FormsNone (sym is) tt))
 
 -- ---- the row ----
 

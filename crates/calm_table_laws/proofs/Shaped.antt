@@ -269,29 +269,7 @@ module _ (c : Config) (me : ℕ) (named : EpochId → ℕ → Serial → Type 0)
   takes_keeps links p (body.Refuse promised) v is sent taken = λ told. refuse_stays links p.epoch promised v.round v
   takes_keeps links p (body.Install members) v is sent taken = λ told. install_stays p.from p.from_boot p.epoch members v
   takes_keeps links p body.Joined v is sent taken = λ told. joined_stays p.from p.epoch v
-  takes_keeps links p (body.Report group copies) v is sent taken = framed_keeps p v.epoch v sent (ap (λ (y : Body). nat_lt (kind_number y) 6) is) taken refl
-  takes_keeps links p (body.ReportOk group) v is sent taken = framed_keeps p v.epoch v sent (ap (λ (y : Body). nat_lt (kind_number y) 6) is) taken refl
-  takes_keeps links p (body.Open serial call process request file how) v is sent taken = framed_keeps p v.epoch v sent (ap (λ (y : Body). nat_lt (kind_number y) 6) is) taken refl
-  takes_keeps links p (body.OpenSs inst file mode set kind base vector parents) v is sent taken = framed_keeps p v.epoch v sent (ap (λ (y : Body). nat_lt (kind_number y) 6) is) taken refl
-  takes_keeps links p (body.Opened inst answer) v is sent taken = framed_keeps p v.epoch v sent (ap (λ (y : Body). nat_lt (kind_number y) 6) is) taken refl
-  takes_keeps links p (body.OpenDone serial answer) v is sent taken = framed_keeps p v.epoch v sent (ap (λ (y : Body). nat_lt (kind_number y) 6) is) taken refl
-  takes_keeps links p (body.Op serial n o seen) v is sent taken = framed_keeps p v.epoch v sent (ap (λ (y : Body). nat_lt (kind_number y) 6) is) taken refl
-  takes_keeps links p (body.ReadHeld serial n at len) v is sent taken = framed_keeps p v.epoch v sent (ap (λ (y : Body). nat_lt (kind_number y) 6) is) taken refl
-  takes_keeps links p (body.OpDone serial n result) v is sent taken = framed_keeps p v.epoch v sent (ap (λ (y : Body). nat_lt (kind_number y) 6) is) taken refl
-  takes_keeps links p (body.AsHeld serial n len) v is sent taken = framed_keeps p v.epoch v sent (ap (λ (y : Body). nat_lt (kind_number y) 6) is) taken refl
-  takes_keeps links p (body.Close serial) v is sent taken = framed_keeps p v.epoch v sent (ap (λ (y : Body). nat_lt (kind_number y) 6) is) taken refl
-  takes_keeps links p (body.Closed inst made) v is sent taken = framed_keeps p v.epoch v sent (ap (λ (y : Body). nat_lt (kind_number y) 6) is) taken refl
-  takes_keeps links p (body.ClosedOk inst) v is sent taken = framed_keeps p v.epoch v sent (ap (λ (y : Body). nat_lt (kind_number y) 6) is) taken refl
-  takes_keeps links p (body.CloseDone serial answer) v is sent taken = framed_keeps p v.epoch v sent (ap (λ (y : Body). nat_lt (kind_number y) 6) is) taken refl
-  takes_keeps links p (body.Look call process request take file what) v is sent taken = framed_keeps p v.epoch v sent (ap (λ (y : Body). nat_lt (kind_number y) 6) is) taken refl
-  takes_keeps links p (body.LookSs us call process request take file what serve) v is sent taken = framed_keeps p v.epoch v sent (ap (λ (y : Body). nat_lt (kind_number y) 6) is) taken refl
-  takes_keeps links p (body.LookDone call request take answer) v is sent taken = framed_keeps p v.epoch v sent (ap (λ (y : Body). nat_lt (kind_number y) 6) is) taken refl
-  takes_keeps links p (body.Notify file kind set size stamp vector holder) v is sent taken = framed_keeps p v.epoch v sent (ap (λ (y : Body). nat_lt (kind_number y) 6) is) taken refl
-  takes_keeps links p (body.Pull file stamp page) v is sent taken = framed_keeps p v.epoch v sent (ap (λ (y : Body). nat_lt (kind_number y) 6) is) taken refl
-  takes_keeps links p (body.Want file wanted own) v is sent taken = framed_keeps p v.epoch v sent (ap (λ (y : Body). nat_lt (kind_number y) 6) is) taken refl
-  takes_keeps links p (body.Page file stamp page bytes) v is sent taken = framed_keeps p v.epoch v sent (ap (λ (y : Body). nat_lt (kind_number y) 6) is) taken refl
-  takes_keeps links p (body.Delta file wanted pages) v is sent taken = framed_keeps p v.epoch v sent (ap (λ (y : Body). nat_lt (kind_number y) 6) is) taken refl
-  takes_keeps links p (body.Have file stamp) v is sent taken = framed_keeps p v.epoch v sent (ap (λ (y : Body). nat_lt (kind_number y) 6) is) taken refl
+  takes_keeps links p x v is sent taken = framed_keeps p v.epoch v sent (ap (λ (y : Body). nat_lt (kind_number y) 6) is) taken refl
 
   whole_keeps : (links : Links) (v : SiteView) (o : Outcome SiteView) (tries : SiteView → Outcome SiteView) → Keeps v o → Stays o.view (tries o.view).view → Keeps v (whole c me links o tries)
   whole_keeps links v o tries h t told ts = ends_stay links (tries o.view).view (t (h (every_left (TellsNamed named) o.told (ends_event c me links (tries o.view).view).told (every_right (TellsNamed named) (tries o.view).told (o.told ++ (ends_event c me links (tries o.view).view).told) told)) ts))

@@ -141,34 +141,13 @@ module _ (c : Config) (t : List Line) (past : Past c t) (agree : InstancesAgree 
       (subst (λ (g : ℕ). IsReporter c t f.epoch p.from g) (sym (at_group group tab e).1) (subst (λ (x : EpochId). IsReporter c t x p.from group) at k.0))
       (subst (λ (g : ℕ). ReportFact c t f.epoch p.from g copies) (sym (at_group group tab e).1) (subst (λ (x : EpochId). ReportFact c t x p.from group copies) at k.1))
       (rows_of tab (at_group group tab e).0)) h
-  inside_inodes p (body.ReportOk group) at k = h
   inside_inodes p (body.Open serial call process request file how) at k = plainly _ (row table_group file.group v.tables) (λ tab. on_open_files f p.from _ tab) (λ tab e. (at_group file.group tab e).0)
-  inside_inodes p (body.OpenSs inst file mode set kind base vector parents) at k = h
   inside_inodes p (body.Opened inst answer) at k = plainly _ (first_that (is_opened_in inst) v.tables) (λ tab. on_opened_files f inst answer tab) (λ tab e. first_among (is_opened_in inst) v.tables tab e)
-  inside_inodes p (body.OpenDone serial answer) at k = h
-  inside_inodes p (body.Op serial n o seen) at k = h
-  inside_inodes p (body.ReadHeld serial n from len) at k = h
-  inside_inodes p (body.OpDone serial n result) at k = h
-  inside_inodes p (body.AsHeld serial n len) at k = h
-  inside_inodes p (body.Close serial) at k = h
   inside_inodes p (body.Closed inst made) at k = at_table_keeps _ (first_that (is_opened_in inst) v.tables) v (λ tab e. close_keeps c t past agree f inside.frame tab (fact_of tab (first_among (is_opened_in inst) v.tables tab e)) p.from inst made
       (subst (λ (x : EpochId). ClosedFact c t x p.from inst made) at k) (rows_of tab (first_among (is_opened_in inst) v.tables tab e))) h
-  inside_inodes p (body.ClosedOk inst) at k = h
-  inside_inodes p (body.CloseDone serial answer) at k = h
   inside_inodes p (body.Look call process request take file what) at k = plainly _ (row table_group file.group v.tables) (λ tab. on_look_files f p.from _ tab) (λ tab e. (at_group file.group tab e).0)
-  inside_inodes p (body.LookSs us call process request take file what serve) at k = h
-  inside_inodes p (body.LookDone call request take answer) at k = h
-  inside_inodes p (body.Notify file kind set size stamp vector holder) at k = h
-  inside_inodes p (body.Pull file stamp page) at k = h
-  inside_inodes p (body.Want file wanted own) at k = h
-  inside_inodes p (body.Page file stamp page bytes) at k = h
-  inside_inodes p (body.Delta file wanted pages) at k = h
   inside_inodes p (body.Have file stamp) at k = at_table_keeps _ (row table_group file.group v.tables) v (λ tab e. have_rows p.from stamp file.ino tab (rows_of tab (at_group file.group tab e).0)) h
-  inside_inodes p body.Poll at k = h
-  inside_inodes p (body.Promise reach) at k = h
-  inside_inodes p (body.Refuse promised) at k = h
-  inside_inodes p (body.Install members) at k = h
-  inside_inodes p body.Joined at k = h
+  inside_inodes p x at k = h
 
 -- ---- how an epoch is formed ----
 
@@ -296,26 +275,4 @@ module _ (c : Config) (t : List Line) (past : Past c t) (agree : InstancesAgree 
   takes_inodes (body.Refuse promised) is = refuse_keeps p.to links p.epoch promised v.round v own
   takes_inodes (body.Install members) is = install_keeps c p.to p.from p.from_boot p.epoch members v own
   takes_inodes body.Joined is = joined_keeps p.from p.epoch v own
-  takes_inodes (body.Report group copies) is = framed (body.Report group copies) is refl v.epoch refl
-  takes_inodes (body.ReportOk group) is = framed (body.ReportOk group) is refl v.epoch refl
-  takes_inodes (body.Open serial call process request file how) is = framed (body.Open serial call process request file how) is refl v.epoch refl
-  takes_inodes (body.OpenSs inst file mode set kind base vector parents) is = framed (body.OpenSs inst file mode set kind base vector parents) is refl v.epoch refl
-  takes_inodes (body.Opened inst answer) is = framed (body.Opened inst answer) is refl v.epoch refl
-  takes_inodes (body.OpenDone serial answer) is = framed (body.OpenDone serial answer) is refl v.epoch refl
-  takes_inodes (body.Op serial n o seen) is = framed (body.Op serial n o seen) is refl v.epoch refl
-  takes_inodes (body.ReadHeld serial n at len) is = framed (body.ReadHeld serial n at len) is refl v.epoch refl
-  takes_inodes (body.OpDone serial n result) is = framed (body.OpDone serial n result) is refl v.epoch refl
-  takes_inodes (body.AsHeld serial n len) is = framed (body.AsHeld serial n len) is refl v.epoch refl
-  takes_inodes (body.Close serial) is = framed (body.Close serial) is refl v.epoch refl
-  takes_inodes (body.Closed inst made) is = framed (body.Closed inst made) is refl v.epoch refl
-  takes_inodes (body.ClosedOk inst) is = framed (body.ClosedOk inst) is refl v.epoch refl
-  takes_inodes (body.CloseDone serial answer) is = framed (body.CloseDone serial answer) is refl v.epoch refl
-  takes_inodes (body.Look call process request take file what) is = framed (body.Look call process request take file what) is refl v.epoch refl
-  takes_inodes (body.LookSs us call process request take file what serve) is = framed (body.LookSs us call process request take file what serve) is refl v.epoch refl
-  takes_inodes (body.LookDone call request take answer) is = framed (body.LookDone call request take answer) is refl v.epoch refl
-  takes_inodes (body.Notify file kind set size stamp vector holder) is = framed (body.Notify file kind set size stamp vector holder) is refl v.epoch refl
-  takes_inodes (body.Pull file stamp page) is = framed (body.Pull file stamp page) is refl v.epoch refl
-  takes_inodes (body.Want file wanted own) is = framed (body.Want file wanted own) is refl v.epoch refl
-  takes_inodes (body.Page file stamp page bytes) is = framed (body.Page file stamp page bytes) is refl v.epoch refl
-  takes_inodes (body.Delta file wanted pages) is = framed (body.Delta file wanted pages) is refl v.epoch refl
-  takes_inodes (body.Have file stamp) is = framed (body.Have file stamp) is refl v.epoch refl
+  takes_inodes x is = framed x is refl v.epoch refl

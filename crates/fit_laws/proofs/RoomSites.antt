@@ -13,20 +13,19 @@ use Rattle.wire_messages.specs.declared.body.Body.{Body}
 use Rattle.wire_messages.specs.declared.body.Body.TheVariants as body
 use Rattle.role_steps.specs.Tables.{row, without_row, first_that, total, with_row}
 use Rattle.role_steps.specs.Views.{Frame, Store, SiteView, Promises, DiskWrite, Outcome, Event, Calls, Receives, Ticks, Parts, Merges, GivesUp, quiet, sends, tells, and_then, first_written}
-use Rattle.role_steps.specs.Reports.{on_report, on_open, on_look, on_closed, on_have}
-use Rattle.role_steps.specs.Opens.{on_opened}
 use Rattle.role_steps.specs.Storage.{content_of, copy_of, instance_of, on_open_ss, changed_pages, copy_key, copy_pages, free_pages}
 use Rattle.role_steps.specs.Epochs.{is_epoch_below, frame_in, leaves_of, leaves, promises, promised_view, reached, polls, round_id, begins_round, starts_merge, boots_where, merge_boot, part_boot, starts_part_of, starts_part, promise_packet, refuse_packet, on_poll, on_promise_of, on_refuse_of, joins, may_install, is_in, joined_packet, on_install, on_joined, passed_over, unanswered, chosen_members, chosen_set, installs_all, decides_if, passes_over_of, passes_over}
 use Rattle.role_steps.specs.Adoption.{notes_own_at, copy_adopted, table_group, without_pull, is_ready, adopts_pull, adopts_first, has_room, with_adopted, fits_own, content_under}
-use Rattle.role_steps.specs.Mends.{mending, kept_stamps, has_mend_in, wants_mend, starts_mend_of, starts_mend, starts_mends_in, row_file}
+use Rattle.role_steps.specs.Mends.{mending, has_mend_in, wants_mend, starts_mend_of, starts_mend, starts_mends_in, row_file}
 use Rattle.role_steps.specs.declared.pulls.Pull.{Pull}
 use Rattle.role_steps.specs.declared.rounds.InEpoch.{InEpoch}
 use Rattle.role_steps.specs.declared.rounds.Round.{Round}
 use Rattle.role_steps.specs.declared.synchronizing.SyncTable.{SyncTable}
 use Rattle.role_steps.specs.declared.synchronizing.FileRow.{FileRow}
-use Rattle.the_run.specs.Steps.{from_user, group_of, at_table_of, is_opened_in, takes_inside, is_dropped, takes_framed, takes, adopts_of, adopts_in, tries_at, starts_mends_of, ends_event, whole, ticks_after, call_frame, epoch_id, takes_call, step}
-use Rattle.rest_laws.specs.of_run_laws.Words.{Talks}
-use Rattle.rest_laws.proofs.of_run_laws.Telling.{on_opened_talks, on_open_talks, on_look_talks, on_report_talks, on_closed_talks, on_have_talks, on_notify_talks, on_page_talks, on_delta_talks, on_as_held_talks, on_call_talks, on_open_done_talks, on_op_done_talks, on_close_done_talks, on_look_done_talks}
+use Rattle.the_run.specs.Roles.{IsForStore}
+use Rattle.rest_laws.proofs.of_vector_laws.of_law_walks.Untouched.{Untouched, untouched}
+use Rattle.the_run.specs.Steps.{from_user, group_of, takes_inside, is_dropped, takes_framed, takes, adopts_of, adopts_in, tries_at, starts_mends_of, ends_event, whole, ticks_after, call_frame, epoch_id, takes_call, step}
+use Rattle.rest_laws.proofs.of_run_laws.Telling.{on_call_talks}
 use Rattle.std.specs.Prelude.{nat_le}
 use Rattle.std.proofs.lemmas.Bool.Decides.{nat_tests}
 use Rattle.role_steps.proofs.of_plain_facts.Numbers.{equal}
@@ -62,43 +61,25 @@ then_keeps v o g h k = calm_then v.store o.view.store (g o.view).view.store o.wr
 
 -- ---- packets inside the epoch ----
 
-table_keeps : (g : SyncTable → Outcome SyncTable) (o : Option SyncTable) (v : SiteView) → ((t : SyncTable) → Talks (g t)) → Keeps v (at_table_of g o v)
-table_keeps g None v h = quiet_keeps v
-table_keeps g (Some t) v h = still v (at_table_of g (Some t) v) refl (h t).1
+apart_keeps : (f : Frame) (from : ℕ) (x : Body) (v : SiteView) → (IsForStore x → ⊥) → Keeps v (takes_inside f from x v)
+apart_keeps f from x v n = (let u : Untouched v (takes_inside f from x v) = untouched f from x v n in still v (takes_inside f from x v) u.0 u.1)
 
 inside_room : (f : Frame) (from : ℕ) (x : Body) (v : SiteView) → StoreGood v.store → SiteRooms v (takes_inside f from x v)
-inside_room f from (body.Report group copies) v good = rooming (table_keeps (on_report f from copies) (row table_group group v.tables) v (on_report_talks f from copies))
-inside_room f from (body.ReportOk group) v good = rooming (quietly v.store None refl)
-inside_room f from (body.Open serial call process request file how) v good = rooming (table_keeps (on_open f from (record { serial = serial; call = call; process = process; request = request; file = file; how = how })) (row table_group file.group v.tables) v (on_open_talks f from (record { serial = serial; call = call; process = process; request = request; file = file; how = how })))
 inside_room f from (body.OpenSs inst file mode set kind base vector parents) v good = (let k : Calm v.store (on_open_ss f (record { inst = inst; file = file; mode = mode; set = set; kind = kind; base = base; vector = vector; parents = parents }) v.store).view (on_open_ss f (record { inst = inst; file = file; mode = mode; set = set; kind = kind; base = base; vector = vector; parents = parents }) v.store).written = on_open_ss_calm f (record { inst = inst; file = file; mode = mode; set = set; kind = kind; base = base; vector = vector; parents = parents }) v.store in calm_rooms v.store _ _ k)
-inside_room f from (body.Opened inst answer) v good = rooming (table_keeps (on_opened f inst answer) (first_that (is_opened_in inst) v.tables) v (on_opened_talks f inst answer))
-inside_room f from (body.OpenDone serial answer) v good = rooming (quietly v.store _ (on_open_done_talks f (kept_stamps v) serial answer v.users).1)
 inside_room f from (body.Op serial n o seen) v good = on_op_room f (mending v (group_of (instance_of v.store (from_user from serial)))) (from_user from serial) n o seen v.store good
 inside_room f from (body.ReadHeld serial n at len) v good = on_read_held_room f (from_user from serial) n at len v.store good
-inside_room f from (body.OpDone serial n result) v good = rooming (quietly v.store _ (on_op_done_talks f serial n result v.users).1)
-inside_room f from (body.AsHeld serial n len) v good = rooming (quietly v.store _ (on_as_held_talks f serial n v.users).1)
 inside_room f from (body.Close serial) v good = on_close_room f (from_user from serial) v.store good
-inside_room f from (body.Closed inst made) v good = rooming (table_keeps (on_closed f from inst made) (first_that (is_opened_in inst) v.tables) v (on_closed_talks f from inst made))
 inside_room f from (body.ClosedOk inst) v good = calm_rooms v.store _ _ (on_closed_ok_calm f inst v.store)
-inside_room f from (body.CloseDone serial answer) v good = rooming (quietly v.store _ (on_close_done_talks f serial answer v.users).1)
-inside_room f from (body.Look call process request take file what) v good = rooming (table_keeps (on_look f from (record { call = call; process = process; request = request; take = take; file = file; what = what })) (row table_group file.group v.tables) v (on_look_talks f from (record { call = call; process = process; request = request; take = take; file = file; what = what })))
-inside_room f from (body.LookSs us call process request take file what serve) v good = rooming (quietly v.store None refl)
-inside_room f from (body.LookDone call request take answer) v good = rooming (quietly v.store _ (on_look_done_talks f call request take answer v.users).1)
-inside_room f from (body.Notify file kind set size stamp vector holder) v good = rooming (quietly v.store _ (on_notify_talks f from (copy_of v.store file) (record { file = file; kind = kind; set = set; size = size; stamp = stamp; vector = vector; holder = holder; base = None; wanted = None; content = [] }) v.pulls).1)
-inside_room f from (body.Pull file stamp page) v good = rooming (quietly v.store None refl)
-inside_room f from (body.Want file wanted own) v good = rooming (quietly v.store None refl)
-inside_room f from (body.Page file stamp page bytes) v good = rooming (quietly v.store _ (on_page_talks f file stamp page bytes v.pulls).1)
-inside_room f from (body.Delta file wanted pages) v good = rooming (quietly v.store _ (on_delta_talks f (copy_of v.store file) file wanted pages v.pulls).1)
-inside_room f from (body.Have file stamp) v good = rooming (table_keeps (on_have from file stamp) (row table_group file.group v.tables) v (on_have_talks from file stamp))
-inside_room f from body.Poll v good = rooming (quiet_keeps v)
-inside_room f from (body.Promise reach) v good = rooming (quiet_keeps v)
-inside_room f from (body.Refuse promised) v good = rooming (quiet_keeps v)
-inside_room f from (body.Install members) v good = rooming (quiet_keeps v)
-inside_room f from body.Joined v good = rooming (quiet_keeps v)
+inside_room f from x v good = rooming (apart_keeps f from x v (λ n. n))
 
 framed_room : (c : Config) (me : ℕ) (p : Packet) (e : Option InEpoch) (v : SiteView) → StoreGood v.store → SiteRooms v (takes_framed c me p e v)
 framed_room c me p None v good = rooming (quiet_keeps v)
 framed_room c me p (Some e) v good = inside_room (frame_in c me v.boot e) p.from p.body v good
+
+-- a packet that no instance takes
+framed_keeps : (c : Config) (me : ℕ) (p : Packet) (x : Body) (v : SiteView) → p.body ≡ x → (IsForStore x → ⊥) → (o : Option InEpoch) → Keeps v (takes_framed c me p o v)
+framed_keeps c me p x v e n None = quiet_keeps v
+framed_keeps c me p x v e n (Some i) = subst (λ (y : Body). Keeps v (takes_inside (frame_in c me v.boot i) p.from y v)) (sym e) (apart_keeps (frame_in c me v.boot i) p.from x v n)
 
 -- ---- adoptions and mends ----
 
@@ -286,22 +267,9 @@ received_room c me links p (body.Promise reach) v e good room = writes_room c me
 received_room c me links p (body.Refuse promised) v e good room = writes_room c me links v (takes c me links p (body.Refuse promised) v) (rooming (on_refuse_keeps me links p.epoch promised v.round v))
 received_room c me links p (body.Install members) v e good room = writes_room c me links v (takes c me links p (body.Install members) v) (rooming (on_install_keeps c me p.from p.from_boot p.epoch members v))
 received_room c me links p body.Joined v e good room = writes_room c me links v (takes c me links p body.Joined v) (rooming (on_joined_keeps p.from p.epoch v))
-received_room c me links p (body.Notify file kind set size stamp vector holder) v e good room = tried_room c me links v (takes_framed c me p v.epoch v) (notify_keeps v.epoch) room
-  where
-    notify_keeps : (o : Option InEpoch) → Keeps v (takes_framed c me p o v)
-    notify_keeps None = quiet_keeps v
-    notify_keeps (Some i) = subst (λ (y : Body). Keeps v (takes_inside (frame_in c me v.boot i) p.from y v)) (sym e)
-        (quietly v.store _ (on_notify_talks (frame_in c me v.boot i) p.from (copy_of v.store file) (record { file = file; kind = kind; set = set; size = size; stamp = stamp; vector = vector; holder = holder; base = None; wanted = None; content = [] }) v.pulls).1)
-received_room c me links p (body.Page file stamp page bytes) v e good room = tried_room c me links v (takes_framed c me p v.epoch v) (page_keeps v.epoch) room
-  where
-    page_keeps : (o : Option InEpoch) → Keeps v (takes_framed c me p o v)
-    page_keeps None = quiet_keeps v
-    page_keeps (Some i) = subst (λ (y : Body). Keeps v (takes_inside (frame_in c me v.boot i) p.from y v)) (sym e) (quietly v.store _ (on_page_talks (frame_in c me v.boot i) file stamp page bytes v.pulls).1)
-received_room c me links p (body.Delta file wanted pages) v e good room = tried_room c me links v (takes_framed c me p v.epoch v) (delta_keeps v.epoch) room
-  where
-    delta_keeps : (o : Option InEpoch) → Keeps v (takes_framed c me p o v)
-    delta_keeps None = quiet_keeps v
-    delta_keeps (Some i) = subst (λ (y : Body). Keeps v (takes_inside (frame_in c me v.boot i) p.from y v)) (sym e) (quietly v.store _ (on_delta_talks (frame_in c me v.boot i) (copy_of v.store file) file wanted pages v.pulls).1)
+received_room c me links p (body.Notify file kind set size stamp vector holder) v e good room = tried_room c me links v (takes_framed c me p v.epoch v) (framed_keeps c me p _ v e (λ n. n) v.epoch) room
+received_room c me links p (body.Page file stamp page bytes) v e good room = tried_room c me links v (takes_framed c me p v.epoch v) (framed_keeps c me p _ v e (λ n. n) v.epoch) room
+received_room c me links p (body.Delta file wanted pages) v e good room = tried_room c me links v (takes_framed c me p v.epoch v) (framed_keeps c me p _ v e (λ n. n) v.epoch) room
 received_room c me links p _ v e good room = writes_room c me links v (takes_framed c me p v.epoch v) (framed_room c me p v.epoch v good)
 
 ticks_room : (c : Config) (me : ℕ) (links : Links) (v : SiteView) → PullsRoom v → SiteRooms v (ticks_after c me links (adopts_in c me v))

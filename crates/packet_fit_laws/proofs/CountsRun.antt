@@ -180,23 +180,7 @@ inside_rise n f from (body.Opened inst answer) v = table_rise n (on_opened f ins
 inside_rise n f from (body.Closed inst made) v = table_rise n (on_closed f from inst made) (first_that (is_opened_in inst) v.tables) v
 inside_rise n f from (body.Look call process request take file what) v = table_rise n (on_look f from (record { call = call; process = process; request = request; take = take; file = file; what = what })) (row table_group file.group v.tables) v
 inside_rise n f from (body.Have file stamp) v = table_rise n (on_have from file stamp) (row table_group file.group v.tables) v
-inside_rise n f from body.Poll v = stays_rise n v (quiet v) (refl, refl)
-inside_rise n f from (body.Promise reach) v = stays_rise n v (quiet v) (refl, refl)
-inside_rise n f from (body.Refuse promised) v = stays_rise n v (quiet v) (refl, refl)
-inside_rise n f from (body.Install members) v = stays_rise n v (quiet v) (refl, refl)
-inside_rise n f from body.Joined v = stays_rise n v (quiet v) (refl, refl)
-inside_rise n f from (body.ReportOk group) v = stays_rise n v (takes_inside f from (body.ReportOk group) v) (refl, refl)
-inside_rise n f from (body.OpenSs inst file mode set kind base vector parents) v = stays_rise n v (takes_inside f from (body.OpenSs inst file mode set kind base vector parents) v) (refl, refl)
-inside_rise n f from (body.Op serial number o seen) v = stays_rise n v (takes_inside f from (body.Op serial number o seen) v) (refl, refl)
-inside_rise n f from (body.ReadHeld serial number at len) v = stays_rise n v (takes_inside f from (body.ReadHeld serial number at len) v) (refl, refl)
-inside_rise n f from (body.Close serial) v = stays_rise n v (takes_inside f from (body.Close serial) v) (refl, refl)
-inside_rise n f from (body.ClosedOk inst) v = stays_rise n v (takes_inside f from (body.ClosedOk inst) v) (refl, refl)
-inside_rise n f from (body.LookSs us call process request take file what serve) v = stays_rise n v (takes_inside f from (body.LookSs us call process request take file what serve) v) (refl, refl)
-inside_rise n f from (body.Notify file kind set size stamp vector holder) v = stays_rise n v (takes_inside f from (body.Notify file kind set size stamp vector holder) v) (refl, refl)
-inside_rise n f from (body.Pull file stamp page) v = stays_rise n v (takes_inside f from (body.Pull file stamp page) v) (refl, refl)
-inside_rise n f from (body.Want file wanted own) v = stays_rise n v (takes_inside f from (body.Want file wanted own) v) (refl, refl)
-inside_rise n f from (body.Page file stamp page bytes) v = stays_rise n v (takes_inside f from (body.Page file stamp page bytes) v) (refl, refl)
-inside_rise n f from (body.Delta file wanted pages) v = stays_rise n v (takes_inside f from (body.Delta file wanted pages) v) (refl, refl)
+inside_rise n f from x v = stays_rise n v (takes_inside f from x v) (refl, refl)
 
 framed_rise : (n : ℕ) (c : Config) (me : ℕ) (p : Packet) (e : Option InEpoch) (v : SiteView) → SiteRises n v (takes_framed c me p e v)
 framed_rise n c me p None v = stays_rise n v (quiet v) (refl, refl)

@@ -22,14 +22,11 @@ use Rattle.wire_messages.specs.declared.packet.Packet.{Packet}
 use Rattle.locus_ids.specs.declared.sites.Members.{Members}
 use Rattle.locus_ids.specs.declared.sites.Sites.{Sites}
 use Rattle.role_steps.specs.Epochs.{is_in, joined_packet, joins, promise_packet, promises, reached, refuse_packet, round_id, starts_merge, starts_part, boots_where, frame_in, leaves, may_install, merge_boot, on_install, on_poll, on_promise_of, on_refuse_of, begins_round, is_epoch_below, starts_part_of, part_boot}
-use Rattle.role_steps.specs.Mends.{kept_stamps, mending}
-use Rattle.role_steps.specs.Opens.{on_opened}
+use Rattle.role_steps.specs.Mends.{kept_stamps}
 use Rattle.role_steps.specs.Own.{Every}
 use Rattle.role_steps.specs.Pulling.{pull_of, pages_in}
-use Rattle.role_steps.specs.Reports.{on_closed, on_have, on_report}
-use Rattle.role_steps.specs.Storage.{copy_of, instance_of}
-use Rattle.role_steps.specs.Tables.{first_that, row}
-use Rattle.role_steps.specs.Adoption.{table_group}
+use Rattle.role_steps.specs.Storage.{copy_of}
+use Rattle.role_steps.specs.Tables.{first_that}
 use Rattle.role_steps.specs.Using.{asks_close_of, asks_op_number, asks_open_of, asks_take, close_answer, content_answer, looks_again, with_brought, on_close_done_of, on_look_done_of, on_op_done_of, on_open_done_of, op_answer, takes_answer, takes_look, asks_held_number, keeps_brought, takes_copied, on_as_held_of}
 use Rattle.role_steps.specs.Views.{Event, Calls, Receives, Ticks, Parts, Merges, GivesUp, Frame, SiteView, Told, Shown, Promises, Users, Outcome, and_then, quiet, sends}
 use Rattle.role_steps.specs.declared.rounds.InEpoch.{InEpoch}
@@ -39,13 +36,13 @@ use Rattle.role_steps.specs.declared.users.Asking.{Asking}
 use Rattle.role_steps.specs.declared.users.Asking.TheVariants as asking
 use Rattle.role_steps.specs.declared.users.WaitingCall.{WaitingCall}
 use Rattle.the_run.specs.Kept.{Among}
-use Rattle.the_run.specs.Steps.{adopts_in, at_table_of, ends_event, from_user, group_of, is_dropped, is_opened_in, step, takes, takes_call, takes_framed, takes_inside, tries_at, whole}
+use Rattle.the_run.specs.Steps.{adopts_in, at_table_of, ends_event, is_dropped, step, takes, takes_call, takes_framed, takes_inside, tries_at, whole}
 use Rattle.role_steps.proofs.Caching.{kept_only}
 use Rattle.law_walks.specs.Kinds.{IsVersion, TellsStore, TellsTable}
 use Rattle.law_walks.specs.Laws.{Law, StoresKeep, TableAnswers, TablesKeep, VersionsKeep, frame_law}
-use Rattle.law_walks.proofs.Premises.{every_unit, frame_stores, frame_tables}
-use Rattle.law_walks.proofs.RoleWalks.{on_close_walk, on_closed_ok_walk, on_look_ss_walk, on_notify_walk, on_op_walk, on_open_ss_walk, on_page_walk, on_pull_walk, on_delta_walk, on_read_held_walk, on_want_walk}
-use Rattle.law_walks.proofs.SyncWalks.{on_closed_walk, on_have_walk, on_look_walk, on_open_walk, on_opened_walk, on_report_walk}
+use Rattle.law_walks.proofs.Premises.{frame_stores, frame_tables}
+use Rattle.the_run.specs.Roles.{IsForUser}
+use Rattle.the_run.proofs.Roles.{by_role, tables_by, stores_by, readers_by, pulls_by}
 use Rattle.whole_run_laws.proofs.of_one_tree_laws.of_lock_laws.StepFacts.{framed_notify, notify_silent, page_silent, delta_silent}
 use Rattle.prompt_laws.proofs.Heads.{Mild, MildTold, accepted_by, adopts_of_mild, ends_mild, mild_any, mild_append}
 
@@ -156,38 +153,27 @@ looked_inside f v (looked.No why) (Some w) among = inr (record { call = w; among
 
 -- ---- a packet of the epoch ----
 
-by_role : (f : Frame) (from : ℕ) (x : Body) (v : SiteView) → Every (MildTold None) (takes_inside f from x v).told → Inside f v (takes_inside f from x v).told
-by_role f from x v h = inl (every_mild (takes_inside f from x v).told h)
+users_inside : (f : Frame) (from : ℕ) (v : SiteView) (x : Body) → IsForUser x → Inside f v (takes_inside f from x v).told
+users_inside f from v (body.OpenDone serial answer) h = opened_inside f v serial answer (first_that (asks_open_of serial) v.users.waiting) (found_in (asks_open_of serial) v.users.waiting)
+users_inside f from v (body.OpDone serial n result) h = acted_inside f v result (first_that (asks_op_number serial n result) v.users.waiting) (found_in (asks_op_number serial n result) v.users.waiting)
+users_inside f from v (body.AsHeld serial n len) h = held_inside f v (first_that (asks_held_number serial n) v.users.waiting) (found_in (asks_held_number serial n) v.users.waiting)
+users_inside f from v (body.CloseDone serial answer) h = closed_inside f v serial answer (first_that (asks_close_of serial) v.users.waiting) (found_in (asks_close_of serial) v.users.waiting)
+users_inside f from v (body.LookDone call request take answer) h = looked_inside f v answer (first_that (asks_take call request take answer) v.users.waiting) (found_in (asks_take call request take answer) v.users.waiting)
+users_inside f from v _ h = absurd h
+
+abbrev InsideOf : Frame → SiteView → Body → Outcome SiteView → Type 0
+InsideOf f v x o = Inside f v o.told
 
 inside_told : (f : Frame) (from : ℕ) (x : Body) (v : SiteView) → Inside f v (takes_inside f from x v).told
-inside_told f from (body.Report group copies) v = inl (table_mild (on_report f from copies) (row table_group group v.tables) v (λ t. (on_report_walk mild_law f (tables f) from copies t tt (every_unit t.looks)).1))
-inside_told f from (body.ReportOk group) v = inl tt
-inside_told f from (body.Open serial call process request file how) v = inl (table_mild _ (row table_group file.group v.tables) v (λ t. (on_open_walk mild_law f (tables f) from (record { serial = serial; call = call; process = process; request = request; file = file; how = how }) t (every_unit t.looks)).1))
-inside_told f from (body.OpenSs inst file mode set kind base vector parents) v = inl (every_mild _ (on_open_ss_walk mild_law f (stores f) _ v.store).1)
-inside_told f from (body.Opened inst answer) v = inl (table_mild (on_opened f inst answer) (first_that (is_opened_in inst) v.tables) v (λ t. (on_opened_walk mild_law f (tables f) inst answer t (every_unit t.looks)).1))
-inside_told f from (body.OpenDone serial answer) v = opened_inside f v serial answer (first_that (asks_open_of serial) v.users.waiting) (found_in (asks_open_of serial) v.users.waiting)
-inside_told f from (body.Op serial n o seen) v = inl (every_mild _ (on_op_walk mild_law f (stores f) versions (mending v (group_of (instance_of v.store (from_user from serial)))) (from_user from serial) n o seen v.store).1)
-inside_told f from (body.ReadHeld serial n at len) v = inl (every_mild _ (on_read_held_walk mild_law f (stores f) (from_user from serial) n at len v.store).1)
-inside_told f from (body.OpDone serial n result) v = acted_inside f v result (first_that (asks_op_number serial n result) v.users.waiting) (found_in (asks_op_number serial n result) v.users.waiting)
-inside_told f from (body.AsHeld serial n len) v = held_inside f v (first_that (asks_held_number serial n) v.users.waiting) (found_in (asks_held_number serial n) v.users.waiting)
-inside_told f from (body.Close serial) v = inl (every_mild _ (on_close_walk mild_law f (stores f) versions (from_user from serial) v.store).1)
-inside_told f from (body.Closed inst made) v = inl (table_mild (on_closed f from inst made) (first_that (is_opened_in inst) v.tables) v (λ t. (on_closed_walk mild_law f (tables f) from (backs f from) inst made t (every_unit t.looks)).1))
-inside_told f from (body.ClosedOk inst) v = inl (every_mild _ (on_closed_ok_walk mild_law f (stores f) inst v.store).1)
-inside_told f from (body.CloseDone serial answer) v = closed_inside f v serial answer (first_that (asks_close_of serial) v.users.waiting) (found_in (asks_close_of serial) v.users.waiting)
-inside_told f from (body.Look call process request take file what) v = inl (table_mild _ (row table_group file.group v.tables) v (λ t. (on_look_walk mild_law f (tables f) from (record { call = call; process = process; request = request; take = take; file = file; what = what }) t (every_unit t.looks)).1))
-inside_told f from (body.LookSs us call process request take file what serve) v = by_role f from (body.LookSs us call process request take file what serve) v (on_look_ss_walk mild_law f (stores f).reads us (record { call = call; process = process; request = request; take = take; file = file; what = what }) serve v.store).1
-inside_told f from (body.LookDone call request take answer) v = looked_inside f v answer (first_that (asks_take call request take answer) v.users.waiting) (found_in (asks_take call request take answer) v.users.waiting)
-inside_told f from (body.Notify file kind set size stamp vector holder) v = inl (every_mild _ (on_notify_walk mild_law f (stores f).reads from (copy_of v.store file) _ tt v.pulls).1)
-inside_told f from (body.Pull file stamp page) v = by_role f from (body.Pull file stamp page) v (on_pull_walk mild_law f (stores f).reads from file stamp page (λ b. tt) v.store).1
-inside_told f from (body.Want file wanted own) v = by_role f from (body.Want file wanted own) v (on_want_walk mild_law f (stores f).reads from file wanted own (λ b. tt) v.store).1
-inside_told f from (body.Page file stamp page bytes) v = inl (every_mild _ (on_page_walk mild_law f (stores f).reads file stamp page bytes v.pulls).1)
-inside_told f from (body.Delta file wanted pages) v = inl (every_mild _ (on_delta_walk mild_law f (stores f).reads (copy_of v.store file) file wanted pages v.pulls).1)
-inside_told f from (body.Have file stamp) v = inl (table_mild (on_have from file stamp) (row table_group file.group v.tables) v (λ t. (on_have_walk mild_law f (tables f) from file stamp t (every_unit t.looks)).1))
-inside_told f from body.Poll v = inl tt
-inside_told f from (body.Promise reach) v = inl tt
-inside_told f from (body.Refuse promised) v = inl tt
-inside_told f from (body.Install members) v = inl tt
-inside_told f from body.Joined v = inl tt
+inside_told f from x v = by_role (InsideOf f v) f from v (record {
+    tables = tables_by (InsideOf f v) mild_law f from v (tables f) (backs f from) (λ t. tt) (λ y g o is h. inl (table_mild g o v (λ t. (h t).1)));
+    stores = stores_by (InsideOf f v) mild_law f from v (stores f) versions (λ y o is h. inl (every_mild o.told h.1));
+    readers = readers_by (InsideOf f v) mild_law f from v (stores f).reads (λ b is. tt) (λ y o is same h. inl (every_mild o.told h.1));
+    users = users_inside f from v;
+    pulls = pulls_by (InsideOf f v) mild_law f from v (stores f).reads (λ b is. tt) (λ y o is h. inl (every_mild o.told h.1));
+    reported = λ group. inl tt;
+    forming = λ y is. inl tt;
+  }) x
 
 -- ---- an event ----
 

@@ -128,26 +128,7 @@ module _ (c : Config) (roles : RolesDo c) (links : Links) (trace : List Line) (p
       (λ f. notify_silent f p.from (copy_of v.store file) (record { file = file; kind = kind; set = set; size = size; stamp = stamp; vector = vector; holder = holder; base = None; wanted = None; content = [] }) v.pulls) h came
   packet_could (body.Page file stamp page bytes) v q d h came = tried_could (body.Page file stamp page bytes) v q refl d (λ f. page_silent f stamp page bytes (pull_of v.pulls file) v.pulls) h came
   packet_could (body.Delta file wanted pages) v q d h came = tried_could (body.Delta file wanted pages) v q refl d (λ f. delta_silent f (pages_in (copy_of v.store file)) wanted pages (pull_of v.pulls file) v.pulls) h came
-  packet_could (body.Report group copies) v q d h came = came_could (body.Report group copies) v q refl d h came
-  packet_could (body.ReportOk group) v q d h came = came_could (body.ReportOk group) v q refl d h came
-  packet_could (body.Open serial call process request file how) v q d h came = came_could (body.Open serial call process request file how) v q refl d h came
-  packet_could (body.OpenSs inst file mode set kind base vector parents) v q d h came = came_could (body.OpenSs inst file mode set kind base vector parents) v q refl d h came
-  packet_could (body.Opened inst answer) v q d h came = came_could (body.Opened inst answer) v q refl d h came
-  packet_could (body.OpenDone serial answer) v q d h came = came_could (body.OpenDone serial answer) v q refl d h came
-  packet_could (body.Op serial k o seen) v q d h came = came_could (body.Op serial k o seen) v q refl d h came
-  packet_could (body.OpDone serial k result) v q d h came = came_could (body.OpDone serial k result) v q refl d h came
-  packet_could (body.Close serial) v q d h came = came_could (body.Close serial) v q refl d h came
-  packet_could (body.Closed inst made) v q d h came = came_could (body.Closed inst made) v q refl d h came
-  packet_could (body.ClosedOk inst) v q d h came = came_could (body.ClosedOk inst) v q refl d h came
-  packet_could (body.CloseDone serial answer) v q d h came = came_could (body.CloseDone serial answer) v q refl d h came
-  packet_could (body.Look call process request take file what) v q d h came = came_could (body.Look call process request take file what) v q refl d h came
-  packet_could (body.LookSs us call process request take file what serve) v q d h came = came_could (body.LookSs us call process request take file what serve) v q refl d h came
-  packet_could (body.LookDone call request take answer) v q d h came = came_could (body.LookDone call request take answer) v q refl d h came
-  packet_could (body.Pull file stamp page) v q d h came = came_could (body.Pull file stamp page) v q refl d h came
-  packet_could (body.Want file wanted own) v q d h came = came_could (body.Want file wanted own) v q refl d h came
-  packet_could (body.ReadHeld serial k at len) v q d h came = came_could (body.ReadHeld serial k at len) v q refl d h came
-  packet_could (body.AsHeld serial k len) v q d h came = came_could (body.AsHeld serial k len) v q refl d h came
-  packet_could (body.Have file stamp) v q d h came = came_could (body.Have file stamp) v q refl d h came
+  packet_could x v q d h came = came_could x v q refl d h came
 
   takes_could : (v : SiteView) → SiteFact c p.to trace v → Arrives c trace p v → Could c trace (step c p.to links v (Receives p)).written
   takes_could v h k = over (is_dropped p v) refl
