@@ -57,7 +57,7 @@ site_inside : (c : Config) (lines more : List ScheduleLine) (w : World) (id : Ep
 site_inside c lines more w id members s twin stands listed up boot inside = by_place (place_at w s) refl
   where
     stood : (standing s w.trace).epoch ≡ Some id
-    stood = sym (epoch_standing s w.trace up) ∙ inside
+    stood = sym (epoch_standing c s w.trace up) ∙ inside
 
     by_epoch : (v : SiteView) → place_at w s ≡ Some (Running v) → (o : Option InEpoch) → v.epoch ≡ o → epoch_id o ≡ Some id → IsInside w (record { id = id; members = members }) s
     by_epoch v here None e h = absurd (none_some id h)

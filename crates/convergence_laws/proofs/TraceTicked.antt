@@ -52,7 +52,7 @@ boots_same : (members : Members) (s : ℕ) → views.boot_in members.boot s ≡ 
 boots_same members zero = refl
 boots_same members (suc p) = refl
 
-pub together_by : (c : Config) (lines : List ScheduleLine) (id : EpochId) (members : Members) (first w : World) → WorldFact c w → Stands w → GoesOn first w → AreTogether first (record { id = id; members = members }) → members_of (trace_of first) id ≡ Some members → traced.AreTogether lines (trace_of w) id members →
+pub together_by : (c : Config) (lines : List ScheduleLine) (id : EpochId) (members : Members) (first w : World) → WorldFact c w → Stands w → GoesOn first w → AreTogether first (record { id = id; members = members }) → members_of (trace_of first) id ≡ Some members → traced.AreTogether c lines (trace_of w) id members →
     AreTogether w (record { id = id; members = members })
 together_by c lines id members first w fact stands goes start listed h = record { inside = inside; connected = λ s t m k ne. ap (λ (xs : List CutCircuit). list_any (is_between s t) xs) goes.circuits ∙ start.connected s t m k ne }
   where
@@ -69,8 +69,8 @@ together_by c lines id members first w fact stands goes start listed h = record 
         listed_s : is_member members s ≡ true
         listed_s = member_is members s (λ z. m (boots_same members s ∙ z))
 
-        up : is_up (entries w.trace) s ≡ true
-        up = ap (λ t. is_up t s) (sym (shown_entries w.trace)) ∙ h.up s listed_s
+        up : is_up c (entries w.trace) s ≡ true
+        up = ap (λ t. is_up c t s) (sym (shown_entries w.trace)) ∙ h.up s listed_s
 
         in_epoch : epoch_of (entries w.trace) s ≡ Some id
         in_epoch = ap (λ t. epoch_of t s) (sym (shown_entries w.trace)) ∙ h.inside s listed_s
@@ -88,6 +88,6 @@ together_by c lines id members first w fact stands goes start listed h = record 
             }
 
         by_place : (o : Option Place) → place_at w s ≡ o → IsInside w (record { id = id; members = members }) s
-        by_place None k = absurd (none_some id (sym (stands.only s k) ∙ (sym (epoch_standing s w.trace (h.up s listed_s)) ∙ h.inside s listed_s)))
+        by_place None k = absurd (none_some id (sym (stands.only s k) ∙ (sym (epoch_standing c s w.trace (h.up s listed_s)) ∙ h.inside s listed_s)))
         by_place (Some (Stopped d)) k = absurd (true_false (sym up ∙ (fact.places s (Stopped d) k).stopped))
         by_place (Some (Running v)) k = by_epoch v k v.epoch refl (fact.places s (Running v) k)

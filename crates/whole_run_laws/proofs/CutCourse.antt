@@ -42,7 +42,7 @@ use Rattle.whole_run_laws.proofs.CutLines.{next_counts, arm_counts, first_counts
 -- how its disks were written, and that they are counted
 pub record Counted (c : Config) (lines : List ScheduleLine) (n : ℕ) (w : World) : Type 0 where
   pub wrote : ℕ → List ℕ
-  pub courses : Courses lines n w
+  pub courses : Courses c lines n w
   pub holds : Holds c w
   pub counts : Counts wrote c lines n w
 
@@ -90,7 +90,7 @@ counts_kept c lines fit roles = record {
     courses = on.receives n l x v w is d here sent p.courses;
     holds = held.receives n l x v w is d here sent p.holds;
     counts = does_counts p.wrote c roles lines n x.packet.to (Receives x.packet) v (passed x.number w) here (p.courses.course.places x.packet.to (Running v) here).0
-        (step_forms (DeedsOf w.trace x.packet.to) x.packet.to c (links_of (passed x.number w) x.packet.to) v (Receives x.packet) (p.courses.good.views x.packet.to v here) (p.courses.course.places x.packet.to (Running v) here).2 (sent_polls lines n w x sent p.courses.course)).told
+        (step_forms (DeedsOf w.trace x.packet.to) x.packet.to c (links_of (passed x.number w) x.packet.to) v (Receives x.packet) (p.courses.good.views x.packet.to v here) (p.courses.course.places x.packet.to (Running v) here).2 (sent_polls c lines n w x sent p.courses.course)).told
         (λ past. (refl, arrives_fact c w x v (p.holds past.rest) sent here)) (held.passes n x.number w p.holds) (same_counts p.wrote c lines n w (passed x.number w).underway w.lost w.circuits p.counts);
   };
   passes = λ n k w p. record { wrote = p.wrote; courses = on.passes n k w p.courses; holds = held.passes n k w p.holds; counts = same_counts p.wrote c lines n w (passed k w).underway w.lost w.circuits p.counts };
@@ -112,7 +112,7 @@ counts_kept c lines fit roles = record {
   booting = λ n s d w there is here p. record { wrote = p.wrote; courses = on.booting n s d w there is here p.courses; holds = held.booting n s d w there is here p.holds; counts = boot_counts_as p.wrote c lines (n + 1) s d w here (p.courses.course.places s (Stopped d) here).0 (begun c lines n (line.Boot s) w there is (λ t x. refl) p) };
 }
   where
-    on : KeptIn c lines (Courses lines)
+    on : KeptIn c lines (Courses c lines)
     on = courses_kept c lines
 
     held : KeptIn c lines (λ n w. Holds c w)

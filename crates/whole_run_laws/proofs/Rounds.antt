@@ -93,16 +93,16 @@ acts_none n s k v o w h g =
 -- ---- in the round ----
 
 -- so many packets were delivered in the round, and it hasn't ended
-record Goes (lines : List ScheduleLine) (n more : ℕ) (w : World) : Type 0 where
-  courses : Courses lines n w
+record Goes (c : Config) (lines : List ScheduleLine) (n more : ℕ) (w : World) : Type 0 where
+  courses : Courses c lines n w
   counted : Counted more w
   none : NoEnd n w.trace
 
-passed_goes : (c : Config) (lines : List ScheduleLine) (n more : ℕ) (x : Numbered) (w : World) → Among x w.underway → Goes lines n more w → Goes lines n (more + 1) (passed x.number w)
+passed_goes : (c : Config) (lines : List ScheduleLine) (n more : ℕ) (x : Numbered) (w : World) → Among x w.underway → Goes c lines n more w → Goes c lines n (more + 1) (passed x.number w)
 passed_goes c lines n more x w a g = record { courses = (courses_kept c lines).passes n x.number w g.courses; counted = taken_counts more x w a g.counted; none = g.none }
 
-takes_goes : (c : Config) (lines : List ScheduleLine) (n most more : ℕ) (x : Numbered) (v : SiteView) (w : World) → IsLine lines n (line.Settle most) → place_at w x.packet.to ≡ Some (Running v) → Among x w.underway → Goes lines n more w →
-    Goes lines n (more + 1) (acts n x.packet.to v (step c x.packet.to (links_of (passed x.number w) x.packet.to) v (Receives x.packet)) (passed x.number w))
+takes_goes : (c : Config) (lines : List ScheduleLine) (n most more : ℕ) (x : Numbered) (v : SiteView) (w : World) → IsLine lines n (line.Settle most) → place_at w x.packet.to ≡ Some (Running v) → Among x w.underway → Goes c lines n more w →
+    Goes c lines n (more + 1) (acts n x.packet.to v (step c x.packet.to (links_of (passed x.number w) x.packet.to) v (Receives x.packet)) (passed x.number w))
 takes_goes c lines n most more x v w is here a g = record {
   courses = (courses_kept c lines).receives n (line.Settle most) x v w is tt here (inr a) g.courses;
   counted = acts_counts (more + 1) n x.packet.to v _ (passed x.number w) (taken_counts more x w a g.counted);
@@ -111,21 +111,21 @@ takes_goes c lines n most more x v w is here a g = record {
       (found_among (λ (y : Numbered). FormingPacket y.packet) x w.underway g.courses.course.underway a)) g.none;
 }
 
-arrives_goes : (c : Config) (lines : List ScheduleLine) (n most more : ℕ) (x : Numbered) (w : World) → IsLine lines n (line.Settle most) → Among x w.underway → Goes lines n more w → Goes lines n (more + 1) (arrives c n x w)
+arrives_goes : (c : Config) (lines : List ScheduleLine) (n most more : ℕ) (x : Numbered) (w : World) → IsLine lines n (line.Settle most) → Among x w.underway → Goes c lines n more w → Goes c lines n (more + 1) (arrives c n x w)
 arrives_goes c lines n most more x w is a g = by_place (place_at w x.packet.to) refl
   where
-    passes : Goes lines n (more + 1) (passed x.number w)
+    passes : Goes c lines n (more + 1) (passed x.number w)
     passes = passed_goes c lines n more x w a g
 
-    by_place : (o : Option Place) → place_at w x.packet.to ≡ o → Goes lines n (more + 1) (arrives_at c n x.packet o (passed x.number w))
+    by_place : (o : Option Place) → place_at w x.packet.to ≡ o → Goes c lines n (more + 1) (arrives_at c n x.packet o (passed x.number w))
     by_place None e = passes
     by_place (Some (Stopped d)) e = passes
-    by_place (Some (Running v)) e = elim (is_dropped x.packet v) as (λ b. Goes lines n (more + 1) (elim b [ true ↦ passed x.number w | false ↦ happens c n x.packet.to (Receives x.packet) (passed x.number w) ])) [
+    by_place (Some (Running v)) e = elim (is_dropped x.packet v) as (λ b. Goes c lines n (more + 1) (elim b [ true ↦ passed x.number w | false ↦ happens c n x.packet.to (Receives x.packet) (passed x.number w) ])) [
       | true ↦ passes
-      | false ↦ subst (λ (o : Option Place). Goes lines n (more + 1) (happens_at c n x.packet.to (Receives x.packet) o (passed x.number w))) (sym e) (takes_goes c lines n most more x v w is e a g)
+      | false ↦ subst (λ (o : Option Place). Goes c lines n (more + 1) (happens_at c n x.packet.to (Receives x.packet) o (passed x.number w))) (sym e) (takes_goes c lines n most more x v w is e a g)
     ]
 
-tick_goes : (c : Config) (lines : List ScheduleLine) (n most s : ℕ) (w : World) (o : Option Place) → IsLine lines n (line.Settle most) → place_at w s ≡ o → Goes lines n 0 w → Goes lines n 0 (happens_at c n s Ticks o w)
+tick_goes : (c : Config) (lines : List ScheduleLine) (n most s : ℕ) (w : World) (o : Option Place) → IsLine lines n (line.Settle most) → place_at w s ≡ o → Goes c lines n 0 w → Goes c lines n 0 (happens_at c n s Ticks o w)
 tick_goes c lines n most s w None is e g = g
 tick_goes c lines n most s w (Some (Stopped d)) is e g = g
 tick_goes c lines n most s w (Some (Running v)) is e g = record {
@@ -134,7 +134,7 @@ tick_goes c lines n most s w (Some (Running v)) is e g = record {
   none = acts_none n s (causes_of s (links_of w s) v Ticks) v _ w (step_forms (DeedsOf w.trace s) s c (links_of w s) v Ticks (g.courses.good.views s v e) (g.courses.course.places s (Running v) e).2 tt) g.none;
 }
 
-ticks_go : (c : Config) (lines : List ScheduleLine) (n most : ℕ) (ss : List ℕ) (w : World) → IsLine lines n (line.Settle most) → Goes lines n 0 w → Goes lines n 0 (ticks_to c n ss w)
+ticks_go : (c : Config) (lines : List ScheduleLine) (n most : ℕ) (ss : List ℕ) (w : World) → IsLine lines n (line.Settle most) → Goes c lines n 0 w → Goes c lines n 0 (ticks_to c n ss w)
 ticks_go c lines n most [] w is g = g
 ticks_go c lines n most (s ∷ ss) w is g = ticks_go c lines n most ss (happens c n s Ticks w) is (tick_goes c lines n most s w (place_at w s) is refl g)
 
@@ -142,7 +142,7 @@ there_length : (x : Numbered) (xs : List Numbered) → Among x xs → 1 ≤ leng
 there_length x [] a = absurd a
 there_length x (y ∷ ys) a = omega arith
 
-delivers_none : (c : Config) (lines : List ScheduleLine) (n most budget more : ℕ) (w : World) → IsLine lines n (line.Settle most) → Goes lines n more w → 262144 ≤ more + budget → NoEnd n (delivers c n budget w).trace
+delivers_none : (c : Config) (lines : List ScheduleLine) (n most budget more : ℕ) (w : World) → IsLine lines n (line.Settle most) → Goes c lines n more w → 262144 ≤ more + budget → NoEnd n (delivers c n budget w).trace
 delivers_none c lines n most zero more w is g le = by_next (next_packet w) refl
   where
     by_next : (o : Option Numbered) → next_packet w ≡ o → NoEnd n (ends_round n w o).trace
@@ -150,15 +150,15 @@ delivers_none c lines n most zero more w is g le = by_next (next_packet w) refl
     by_next (Some x) e = absurd (let a : 1 ≤ length w.underway = there_length x w.underway (next_among w w.over x e) in let b : more + length w.underway ≤ w.packets = g.counted.under in let d : w.packets ≤ 262144 = g.counted.sent in omega (arith, a, b, d, le))
 delivers_none c lines n most (suc budget) more w is g le = by_next (λ u. delivers_none c lines n most budget (more + 1) u is) (next_packet w) refl
   where
-    by_next : ((u : World) → Goes lines n (more + 1) u → 262144 ≤ (more + 1) + budget → NoEnd n (delivers c n budget u).trace) → (o : Option Numbered) → next_packet w ≡ o → NoEnd n (goes_round c n (delivers c n budget) w o).trace
+    by_next : ((u : World) → Goes c lines n (more + 1) u → 262144 ≤ (more + 1) + budget → NoEnd n (delivers c n budget u).trace) → (o : Option Numbered) → next_packet w ≡ o → NoEnd n (goes_round c n (delivers c n budget) w o).trace
     by_next f None e = g.none
     by_next f (Some x) e = f (arrives c n x w) (arrives_goes c lines n most more x w is (next_among w w.over x e) g) (omega (arith, le))
 
 -- ---- where the line begins ----
 
-courses_at : (c : Config) (lines : List ScheduleLine) (k : ℕ) → k ≤ length lines → Courses lines k (world c lines k)
+courses_at : (c : Config) (lines : List ScheduleLine) (k : ℕ) → k ≤ length lines → Courses c lines k (world c lines k)
 courses_at c lines zero le = first_courses c lines
-courses_at c lines (suc k) le = subst (Courses lines (suc k)) (sym (next_world c lines k)) (subst (λ (m : ℕ). Courses lines m (acts_line c m (line_at lines (suc k)) (world c lines k))) (one_more k) (line_keeps c lines (Courses lines) (courses_kept c lines) k (line_at lines (suc k)) (world c lines k) (omega (arith, le)) (ap (line_at lines) (one_more k)) (courses_at c lines k (omega (arith, le)))))
+courses_at c lines (suc k) le = subst (Courses c lines (suc k)) (sym (next_world c lines k)) (subst (λ (m : ℕ). Courses c lines m (acts_line c m (line_at lines (suc k)) (world c lines k))) (one_more k) (line_keeps c lines (Courses c lines) (courses_kept c lines) k (line_at lines (suc k)) (world c lines k) (omega (arith, le)) (ap (line_at lines) (one_more k)) (courses_at c lines k (omega (arith, le)))))
 
 line_there : (xs : List ScheduleLine) (k : ℕ) (l : LineWords) → slice_index_or xs k Passed ≡ EventLine l → suc k ≤ length xs
 line_there [] k l e = absurd (passed_event l e)
@@ -204,12 +204,12 @@ large_rounds c lines (suc k) most is le = none_later (suc k) (trace_of (run_in c
     there : suc k ≤ length lines
     there = line_there lines k (line.Settle most) is
 
-    before : Courses lines k (world c lines k)
+    before : Courses c lines k (world c lines k)
     before = courses_at c lines k (omega (arith, there))
 
-    start : Goes lines (suc k) 0 (world c lines k)
+    start : Goes c lines (suc k) 0 (world c lines k)
     start = record {
-      courses = subst (λ (m : ℕ). Courses lines m (world c lines k)) (one_more k) ((courses_kept c lines).begins k (world c lines k) (omega (arith, there)) (ap (λ (m : ℕ). begins_quietly (line_at lines m)) (one_more k) ∙ ap begins_quietly is) before);
+      courses = subst (λ (m : ℕ). Courses c lines m (world c lines k)) (one_more k) ((courses_kept c lines).begins k (world c lines k) (omega (arith, there)) (ap (λ (m : ℕ). begins_quietly (line_at lines m)) (one_more k) ∙ ap begins_quietly is) before);
       counted = every_run c (Counted 0) (counted_kept c) (first_counts c) (take k lines);
       none = none_before (suc k) k (world c lines k).trace before.course.ascends (omega arith);
     }
