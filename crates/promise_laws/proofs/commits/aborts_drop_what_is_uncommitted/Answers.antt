@@ -1,5 +1,0 @@
-use Rattle.promise_laws.proofs.Aborting.{aborts_drop}
-use Rattle.promise_laws.proofs.commits.aborts_drop_what_is_uncommitted.Goals as goal
-
-pub returns : goal.returns
-returns c = λ lines order. aborts_drop lines order

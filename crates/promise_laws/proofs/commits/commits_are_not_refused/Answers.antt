@@ -1,5 +1,0 @@
-use Rattle.promise_laws.proofs.CommitsGranted.{never_refused}
-use Rattle.promise_laws.proofs.commits.commits_are_not_refused.Goals as goal
-
-pub returns : goal.returns
-returns c = λ lines order. never_refused lines order

@@ -1,5 +1,0 @@
-use Rattle.promise_laws.proofs.CommitsAsked.{commits_asked}
-use Rattle.promise_laws.proofs.commits.commits_come_when_asked.Goals as goal
-
-pub returns : goal.returns
-returns c = λ lines order. commits_asked lines order

@@ -1,5 +1,0 @@
-use Rattle.promise_laws.proofs.RunsHold.{commits_stay}
-use Rattle.promise_laws.proofs.holding.commits_stay_held.Goals as goal
-
-pub returns : goal.returns
-returns c = λ lines order. commits_stay lines order

@@ -1,5 +1,0 @@
-use Rattle.promise_laws.proofs.AcknowledgedRuns.{acknowledged_new}
-use Rattle.promise_laws.proofs.holding.what_is_acknowledged_is_new.Goals as goal
-
-pub returns : goal.returns
-returns c = λ lines order. acknowledged_new lines order

@@ -1,5 +1,0 @@
-use Rattle.promise_laws.proofs.OneTrace.{trace_is_one}
-use Rattle.promise_laws.proofs.one_trace.the_printed_trace_is_one.Goals as goal
-
-pub returns : goal.returns
-returns c = λ w. trace_is_one w

@@ -1,5 +1,0 @@
-use Rattle.promise_laws.proofs.BudgetsPassed.{budgets_passed}
-use Rattle.promise_laws.proofs.rounds.budgets_were_passed.Goals as goal
-
-pub returns : goal.returns
-returns c = λ config lines. budgets_passed config lines

@@ -1,5 +1,0 @@
-use Rattle.prompt_laws.proofs.RunPlaces.{records_stand}
-use Rattle.prompt_laws.proofs.places.records_stand_where_they_may.Goals as goal
-
-pub returns : goal.returns
-returns c = λ lines order. records_stand lines order

@@ -1,5 +1,0 @@
-use Rattle.prompt_laws.proofs.Heeding.{stops_next}
-use Rattle.prompt_laws.proofs.prompt.disks_are_heeded.Goals as goal
-
-pub returns : goal.returns
-returns c = λ lines order. stops_next lines order

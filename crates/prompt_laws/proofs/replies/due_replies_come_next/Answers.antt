@@ -1,5 +1,0 @@
-use Rattle.prompt_laws.proofs.RunDue.{replies_next}
-use Rattle.prompt_laws.proofs.replies.due_replies_come_next.Goals as goal
-
-pub returns : goal.returns
-returns c = λ lines order. replies_next lines order

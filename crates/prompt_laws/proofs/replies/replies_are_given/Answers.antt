@@ -1,5 +1,0 @@
-use Rattle.prompt_laws.proofs.RunReplies.{replies_given}
-use Rattle.prompt_laws.proofs.replies.replies_are_given.Goals as goal
-
-pub returns : goal.returns
-returns c = λ lines order. replies_given lines order

@@ -1,5 +1,0 @@
-use Rattle.prompt_laws.proofs.RunSpeaks.{records_speak}
-use Rattle.prompt_laws.proofs.speaking.records_speak_of_what_is.Goals as goal
-
-pub returns : goal.returns
-returns c = λ lines order. records_speak lines order

@@ -1,5 +1,0 @@
-use Rattle.stop_laws.proofs.Sampled.{stays_is_exact, lost_is_exact, fails_is_exact}
-use Rattle.stop_laws.proofs.samples.right_cuts_are_exact.Goals as goal
-
-pub returns : goal.returns
-returns c = record { stays = stays_is_exact; lost = lost_is_exact; fails = fails_is_exact }
