@@ -1,17 +1,13 @@
 -- The first world.
-use Rattle.std.proofs.Common.{◌≡◌, ℕ, zero, suc, ◌+◌, ◌<◌, ◌≤◌, ◌==◌, nat_lt, List, [], ◌∷◌, ◌++◌, length, map, filter, min, Some, None, true, false, add-one, refl, sym, ap, subst, ◌∙◌, arith}
+use Rattle.std.proofs.Common.{◌≡◌, ℕ, zero, suc, ◌+◌, ◌<◌, ◌≤◌, nat_lt, List, [], ◌∷◌, ◌++◌, length, min, Option, Some, None, add-one, refl, sym, ap, subst, ◌∙◌, arith}
 use Rattle.std.specs.Prelude.{slice_get}
-use Rattle.std.specs.List.{list_any}
 use Rattle.std.proofs.lemmas.Bool.Decides.{nat_tests}
 use Rattle.std.proofs.lemmas.Option.{slice_get_within}
 use Rattle.std.proofs.lemmas.List.{length-append}
 use Rattle.locus_ids.specs.Sizes.{sites_max}
 use Rattle.locus_ids.specs.declared.config.Config.{Config}
-use Rattle.role_steps.specs.Tables.{row}
-use Rattle.role_steps.specs.Views.{all_sites}
-use Rattle.role_steps.proofs.Numbers.{listed_site}
-use Rattle.role_steps.proofs.Rows.{passed_row, found_row}
-use Rattle.the_run.specs.Worlds.{PlaceRow, place_in, place_at, place_site, first_place, first_world}
+use Rattle.the_run.specs.Worlds.{Place, place_at, first_world}
+use Rattle.the_run.proofs.FirstWorld.{first_places as each_place, first_there}
 use Rattle.site_place.specs.Places.{PlaceState}
 use Rattle.run_book.specs.Ledgers.{Ledger, no_ledger, Keeps}
 use Rattle.world.specs.States.{WorldState, state_at, place_of, first_state, AreFirst}
@@ -20,37 +16,20 @@ use Rattle.world.specs.Shown.{nothing_taken, IsSite, Shows}
 use Rattle.world.proofs.Tables.{split, either, state_none}
 use Rattle.world.proofs.Events.{own_along}
 
-any_first : (s t : ℕ) (ss : List ℕ) → (t == s) ≡ false → list_any (λ i. i == s) (t ∷ ss) ≡ true → list_any (λ i. i == s) ss ≡ true
-any_first s t ss e h = rw e at h
-
 module _ (c : Config) where
-  -- the rows of the sites of a list that the cluster has
-  abbrev rows : List ℕ → List PlaceRow
-  rows ss = map (first_place c) (filter (λ s. nat_lt s (c.sites + 1)) ss)
-
-  row_found : (s : ℕ) (ss : List ℕ) → nat_lt s (c.sites + 1) ≡ true → list_any (λ i. i == s) ss ≡ true → row place_site s (rows ss) ≡ Some (first_place c s)
-  row_found s [] h e = absurd (cc)
-  row_found s (t ∷ ss) h e = either (nat_lt t (c.sites + 1))
-      (λ p. either (t == s)
-      (λ q. let same : t ≡ s = grind (arith, nat_tests) in rw p (found_row (first_place c t) (row place_site s (rows ss)) (t == s) q ∙ ap (λ i. Some (first_place c i)) same))
-      (λ q. rw p (passed_row (first_place c t) (row place_site s (rows ss)) (t == s) q ∙ row_found s ss h (any_first s t ss q e))))
-      (λ p. either (t == s)
-      (λ q. absurd (let same : t ≡ s = grind (arith, nat_tests) in let r : nat_lt s (c.sites + 1) ≡ false = ap (λ i. nat_lt i (c.sites + 1)) (sym same) ∙ p in cc))
-      (λ q. rw p (row_found s ss h (any_first s t ss q e))))
-
-  row_absent : (s : ℕ) (ss : List ℕ) → nat_lt s (c.sites + 1) ≡ false → row place_site s (rows ss) ≡ None
-  row_absent s [] h = refl
-  row_absent s (t ∷ ss) h = either (nat_lt t (c.sites + 1))
-      (λ p. either (t == s)
-      (λ q. absurd (let same : t ≡ s = grind (arith, nat_tests) in let r : nat_lt s (c.sites + 1) ≡ true = ap (λ i. nat_lt i (c.sites + 1)) (sym same) ∙ p in cc))
-      (λ q. rw p (passed_row (first_place c t) (row place_site s (rows ss)) (t == s) q ∙ row_absent s ss h)))
-      (λ p. rw p (row_absent s ss h))
+  -- no place is of a site that the cluster hasn't got
+  none_there : (s : ℕ) → c.sites + 1 ≤ s → place_at (first_world c) s ≡ None
+  none_there s high = by_place (place_at (first_world c) s) refl
+    where
+      by_place : (o : Option Place) → place_at (first_world c) s ≡ o → place_at (first_world c) s ≡ None
+      by_place None here = here
+      by_place (Some p) here = absurd (let low : s ≤ c.sites = each_place c (λ t q. t ≤ c.sites) (λ t own. own.1) s p here in omega (arith, high, low))
 
   first_places : (places : List PlaceState) → AreFirst c (min c.sites sites_max) places → (s : ℕ) → 1 ≤ s → s ≤ sites_max → place_at (first_world c) s ≡ place_of (state_at places s)
   first_places places f zero a b = absurd (omega arith)
   first_places places f (suc k) a b = either (nat_lt (suc k) (c.sites + 1))
-      (λ p. let l : suc k < c.sites + 1 = grind (arith, nat_tests) in ap place_in (row_found (suc k) all_sites p (listed_site (suc k) a b)) ∙ sym (ap place_of (f.each k (omega arith)) ∙ ap (λ i. Some (first_state c i).place) (omega arith)))
-      (λ p. let l : c.sites + 1 ≤ suc k = grind (arith, nat_tests) in let m : length places ≡ min c.sites sites_max = f.size in ap place_in (row_absent (suc k) all_sites p) ∙ sym (ap place_of (state_none places (suc k) k (omega arith) (omega arith))))
+      (λ p. let l : suc k < c.sites + 1 = grind (arith, nat_tests) in first_there c (suc k) ((a, b), omega (arith, l)) ∙ sym (ap place_of (f.each k (omega arith)) ∙ ap (λ i. Some (first_state c i).place) (omega arith)))
+      (λ p. let l : c.sites + 1 ≤ suc k = grind (arith, nat_tests) in let m : length places ≡ min c.sites sites_max = f.size in none_there (suc k) l ∙ sym (ap place_of (state_none places (suc k) k (omega arith) (omega arith))))
 
   first_scripts : (places : List PlaceState) → AreFirst c (min c.sites sites_max) places → (s : ℕ) (p : PlaceState) → state_at places s ≡ Some p → None ≡ p.armed
   first_scripts places f zero p e = absurd (cc)
