@@ -12,13 +12,13 @@ use Rattle.row_laws.specs.Shown.{EachRecord, trace_of}
 use Rattle.row_laws.proofs.AskedRun.{run_placed}
 use Rattle.past_laws.specs.Agreement.{past}
 use Rattle.past_laws.specs.Along.{EachComesSo, IsNamed}
-use Rattle.headline_promise_laws.specs.of_headline_laws.of_prompt_laws.Due.{IsDueRow, RepliesComeNext}
-use Rattle.headline_promise_laws.proofs.of_headline_laws.of_prompt_laws.RunDue.{replies_next}
-use Rattle.headline_promise_laws.proofs.Comes.{run_comes_so, run_is_named}
+use Rattle.headline_laws.specs.Prompting.Due.{IsDueRow, RepliesComeNext}
+use Rattle.headline_laws.proofs.Prompting.RunDue.{replies_next}
+use Rattle.headline_laws.proofs.HeadlinePromises.Comes.{run_comes_so, run_is_named}
 use Rattle.audit_rules.specs.Consistent.{Sound}
 use Rattle.audit_laws.specs.Reading.{EachInTurn, LinesRise, audited_all, entry_as_read}
 use Rattle.audit_laws.proofs.Known.{all_known}
-use Rattle.turn_laws.proofs.Turns.{in_turn}
+use Rattle.audit_laws.proofs.Turns.Turns.{in_turn}
 
 lines_rise : (lines : List ScheduleLine) (trace : Trace) → EachRecord (IsPlaced lines) trace → LinesRise trace
 lines_rise lines [] h = tt

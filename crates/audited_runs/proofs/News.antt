@@ -26,16 +26,16 @@ use Rattle.promises.specs.Past.{site_at}
 use Rattle.promises.specs.Rows.{is_there, may_follow}
 use Rattle.past_laws.specs.Agreement.{past}
 use Rattle.row_laws.specs.Rows.{MemberRecord}
-use Rattle.headline_promise_laws.specs.of_headline_laws.of_prompt_laws.Speaks.{IsCaller, IsOfProcess, IsSite, RecordSpeaks}
+use Rattle.headline_laws.specs.Prompting.Speaks.{IsCaller, IsOfProcess, IsSite, RecordSpeaks}
 use Rattle.record_reading.specs.Ranges.{is_any_site, is_call_id, is_counted, is_epoch, is_instance, is_members, is_mend, is_process, is_request, is_words}
-use Rattle.record_text_laws.specs.Texts.{BootsAreLow, CountsRecord, JoinFits}
-use Rattle.record_text_laws.proofs.ByKind.{any_site, call_text, counted}
-use Rattle.record_text_laws.proofs.JoinTexts.{join_text}
-use Rattle.version_text_laws.specs.Texts.{CommitFits}
-use Rattle.tree_text_laws.specs.NewTexts.{is_new_call, is_new_text}
-use Rattle.new_text_laws.specs.Keeping.{AsksLow}
-use Rattle.new_text_laws.proofs.Operations.{act_counted}
-use Rattle.reach_laws.specs.Reach.{IsListed, IsSerial, ReachedRecord}
+use Rattle.text_laws.specs.Records.Texts.{BootsAreLow, CountsRecord, JoinFits}
+use Rattle.text_laws.proofs.Records.ByKind.{any_site, call_text, counted}
+use Rattle.text_laws.proofs.Records.JoinTexts.{join_text}
+use Rattle.text_laws.specs.VersionTexts.Texts.{CommitFits}
+use Rattle.text_laws.specs.TreeTexts.NewTexts.{is_new_call, is_new_text}
+use Rattle.text_laws.specs.NewTexts.Keeping.{AsksLow}
+use Rattle.text_laws.proofs.NewTexts.Operations.{act_counted}
+use Rattle.packet_laws.specs.Reaching.Reach.{IsListed, IsSerial, ReachedRecord}
 
 -- what is known of a record of a run and of those before it
 pub record Known (c : Config) (before : Trace) (r : Entry) : Type 0 where

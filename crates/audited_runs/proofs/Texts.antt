@@ -21,29 +21,29 @@ use Rattle.row_laws.proofs.AskedRun.{run_members}
 use Rattle.row_laws.proofs.SitesGoOn.{run_sites}
 use Rattle.row_laws.proofs.SitesPlaced.{first_has, places_kept}
 use Rattle.tree_laws.specs.Printed.{entries}
-use Rattle.few_kept_laws.proofs.of_rest_laws.Packs.{schedule_packs}
-use Rattle.few_kept_laws.proofs.of_rest_laws.Shown.{shown_entries}
-use Rattle.few_kept_laws.proofs.of_rest_laws.StoreStepFirst.{four_groups}
+use Rattle.text_laws.proofs.of_rest_laws.Packs.{schedule_packs}
+use Rattle.text_laws.proofs.of_rest_laws.Shown.{shown_entries}
+use Rattle.text_laws.proofs.of_rest_laws.StoreStepFirst.{four_groups}
 use Rattle.past_laws.specs.Along.{EachComesSo, IsNamed}
 use Rattle.past_laws.proofs.Agreeing.{may_follow_all, one_tree, reverse_more}
-use Rattle.headline_promise_laws.specs.of_headline_laws.of_prompt_laws.Speaks.{IsSite, SpeaksOfWhatIs}
-use Rattle.headline_promise_laws.proofs.of_headline_laws.of_prompt_laws.RunSpeaks.{records_speak}
-use Rattle.headline_promise_laws.proofs.Comes.{run_comes_so, run_is_named}
+use Rattle.headline_laws.specs.Prompting.Speaks.{IsSite, SpeaksOfWhatIs}
+use Rattle.headline_laws.proofs.Prompting.RunSpeaks.{records_speak}
+use Rattle.headline_laws.proofs.HeadlinePromises.Comes.{run_comes_so, run_is_named}
 use Rattle.record_reading.specs.Ranges.{is_counted, is_record}
-use Rattle.record_text_laws.specs.Texts.{BootsAreLow, IsCountedCall, IsJoinFit, IsLined}
-use Rattle.record_text_laws.proofs.Boots.{run_boots}
-use Rattle.record_text_laws.proofs.Each.{run_calls_counted, run_lined}
-use Rattle.record_text_laws.proofs.Few.{run_few}
-use Rattle.record_text_laws.proofs.Joins.{run_joins}
-use Rattle.version_text_laws.specs.Texts.{CommitFits}
-use Rattle.tree_text_laws.specs.NewTexts.{is_new_text}
-use Rattle.tree_text_laws.proofs.Whole.{trace_texts}
-use Rattle.new_text_laws.specs.Keeping.{KeepsFew}
-use Rattle.new_text_laws.proofs.Mounts.{mounts_are_texts}
-use Rattle.new_text_laws.proofs.Rows.{asks_low}
-use Rattle.few_kept_laws.proofs.Few.{run_keeps_few}
-use Rattle.reach_laws.specs.Reach.{IsReached}
-use Rattle.reach_laws.proofs.Run.{run_reached}
+use Rattle.text_laws.specs.Records.Texts.{BootsAreLow, IsCountedCall, IsJoinFit, IsLined}
+use Rattle.text_laws.proofs.Records.Boots.{run_boots}
+use Rattle.text_laws.proofs.Records.Each.{run_calls_counted, run_lined}
+use Rattle.text_laws.proofs.Records.Few.{run_few}
+use Rattle.text_laws.proofs.Records.Joins.{run_joins}
+use Rattle.text_laws.specs.VersionTexts.Texts.{CommitFits}
+use Rattle.text_laws.specs.TreeTexts.NewTexts.{is_new_text}
+use Rattle.text_laws.proofs.TreeTexts.Whole.{trace_texts}
+use Rattle.text_laws.specs.NewTexts.Keeping.{KeepsFew}
+use Rattle.text_laws.proofs.NewTexts.Mounts.{mounts_are_texts}
+use Rattle.text_laws.proofs.NewTexts.Rows.{asks_low}
+use Rattle.text_laws.proofs.FewKept.Few.{run_keeps_few}
+use Rattle.packet_laws.specs.Reaching.Reach.{IsReached}
+use Rattle.packet_laws.proofs.Reaching.Run.{run_reached}
 use Rattle.audit_laws.specs.Inputs.{are_texts}
 use Rattle.audited_runs.proofs.Begun.{has_booted}
 use Rattle.audited_runs.proofs.News.{Known, new_text}

@@ -1,2 +1,2 @@
 pub mod Answered
-pub use Rattle.headline_promise_laws.specs as of_headline_promise_laws
+pub use Rattle.headline_laws.specs as of_headline_laws

@@ -11,7 +11,7 @@ ghost use Rattle.audit_laws.specs.Reading.{audited_all, entry_as_read};
 ghost use Rattle.audited_runs.specs.Answered.{IsAuditedWell};
 
 use audit_laws::sound_traces_are_answered_yes;
-use version_text_laws::commits_have_texts;
+use text_laws::commits_have_texts;
 
 /// As its records are read of their texts, each record of every run is consistent with those before it. So the trace of a schedule of no more
 /// than 4,294,967,295 lines, which is text, is answered yes behind its header lines and `trace`.

@@ -12,7 +12,7 @@ use Rattle.dir_format.specs.Contents.{entries_of}
 use Rattle.dir_format.specs.Lookups.{shown_names}
 use Rattle.tree_model.specs.Folds.{Trace}
 use Rattle.tree_model.specs.Histories.{history}
-use Rattle.box_laws.specs.Boxes.{AreBoxes, KeepsToMail, boxed, makings}
+use Rattle.headline_laws.specs.Boxes.Boxes.{AreBoxes, KeepsToMail, boxed, makings}
 
 pub record Sample : Type 0 where
   pub lines : List ScheduleLine

@@ -29,27 +29,27 @@ use Rattle.the_run.specs.Kept.{Among}
 use Rattle.the_run.specs.Runs.{next_packet, delivers, ticks_to, acts_line, run_in, run}
 use Rattle.the_run.proofs.Runs.{every_run}
 use Rattle.the_run.specs.Worlds.{World, Running, CutCircuit, place_at, is_between}
-use Rattle.orderly_traces.specs.of_row_laws.Shown.{trace_of}
-use Rattle.orderly_traces.proofs.of_row_laws.Fitting.{schedule_fits, schedule_few}
-use Rattle.orderly_laws.specs.Calm.{IsInside, AreTogether, delivered}
-use Rattle.orderly_laws.proofs.Choosing.{among_sites}
-use Rattle.orderly_laws.proofs.Rounds.{ticks_kept}
-use Rattle.orderly_traces.specs.Agreeing.{IsWithin}
-use Rattle.orderly_traces.specs.Fits.{FitsCluster}
-use Rattle.orderly_traces.proofs.Circuits.{take_fits, self_uncut}
-use Rattle.orderly_traces.proofs.Forms.{order_fits}
-use Rattle.orderly_traces.proofs.Placed.{place_within}
-use Rattle.orderly_traces.proofs.Spans.{world, next_world, one_more, before_at}
-use Rattle.fit_laws.proofs.of_rest_laws.MendStepRows.{HasRow, has_row}
-use Rattle.calm_sent_laws.specs.of_one_tree_laws.Places.{InsideFact, SiteFact, SiteIn, WorldFact}
-use Rattle.calm_sent_laws.specs.of_one_tree_laws.Roles.{RolesDo}
-use Rattle.calm_sent_laws.proofs.of_one_tree_laws.Run.{run_holds}
-use Rattle.calm_sent_laws.proofs.of_one_tree_laws.Staying.{stays}
-use Rattle.fit_laws.proofs.of_rest_laws.StoreStepFirst.{four_groups}
-use Rattle.fit_laws.proofs.of_rest_laws.Packs.{schedule_packs}
-use Rattle.fit_laws.proofs.of_rest_laws.Resting.{run_low, run_rests}
-use Rattle.fit_laws.proofs.of_rest_laws.Roles.{roles_do}
-use Rattle.fit_laws.proofs.of_rest_laws.Shown.{shown_entries}
+use Rattle.row_laws.specs.Shown.{trace_of}
+use Rattle.row_laws.proofs.Fitting.{schedule_fits, schedule_few}
+use Rattle.row_laws.specs.Orderly.Calm.{IsInside, AreTogether, delivered}
+use Rattle.row_laws.proofs.Orderly.Choosing.{among_sites}
+use Rattle.row_laws.proofs.Orderly.Rounds.{ticks_kept}
+use Rattle.row_laws.specs.OrderlyRows.Agreeing.{IsWithin}
+use Rattle.row_laws.specs.OrderlyRows.Fits.{FitsCluster}
+use Rattle.row_laws.proofs.OrderlyRows.Circuits.{take_fits, self_uncut}
+use Rattle.row_laws.proofs.OrderlyRows.Forms.{order_fits}
+use Rattle.row_laws.proofs.OrderlyRows.Placed.{place_within}
+use Rattle.row_laws.proofs.OrderlyRows.Spans.{world, next_world, one_more, before_at}
+use Rattle.rest_laws.proofs.MendStepRows.{HasRow, has_row}
+use Rattle.store_laws.specs.OneTree.Places.{InsideFact, SiteFact, SiteIn, WorldFact}
+use Rattle.store_laws.specs.OneTree.Roles.{RolesDo}
+use Rattle.store_laws.proofs.OneTree.Run.{run_holds}
+use Rattle.store_laws.proofs.OneTree.Staying.{stays}
+use Rattle.rest_laws.proofs.StoreStepFirst.{four_groups}
+use Rattle.rest_laws.proofs.Packs.{schedule_packs}
+use Rattle.rest_laws.proofs.Resting.{run_low, run_rests}
+use Rattle.rest_laws.proofs.Roles.{roles_do}
+use Rattle.rest_laws.proofs.Shown.{shown_entries}
 use Rattle.calm_laws.specs.Carrying.{IsMember}
 use Rattle.calm_laws.specs.Calming.{NobodyWaits}
 use Rattle.calm_laws.specs.Rounds.{after, IsInRound, IsCalm, CalmLeft}

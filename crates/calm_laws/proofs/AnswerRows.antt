@@ -17,12 +17,12 @@ use Rattle.the_run.specs.Kept.{Among}
 use Rattle.the_run.specs.Runs.{arrives}
 use Rattle.the_run.specs.Steps.{tries_at, whole, step}
 use Rattle.the_run.specs.Worlds.{World, Running, Numbered, Line, place_at, told_onto}
-use Rattle.epoch_laws.specs.Forming.{FormsNone}
-use Rattle.epoch_laws.specs.Known.{Places}
+use Rattle.run_laws.specs.Epochs.Forming.{FormsNone}
+use Rattle.run_laws.specs.Epochs.Known.{Places}
 use Rattle.lawful_trace.specs.Progress.{Answers}
 use Rattle.tree_laws.specs.Calls.{log_after, log}
 use Rattle.tree_laws.specs.Users.{own_call, WaitingFact}
-use Rattle.calm_sent_laws.specs.of_one_tree_laws.Places.{InsideFact, SiteIn, WorldFact}
+use Rattle.store_laws.specs.OneTree.Places.{InsideFact, SiteIn, WorldFact}
 use Rattle.calm_laws.specs.Carrying.{frame_of, Goes, Carries, IsAllCarried}
 use Rattle.calm_laws.specs.Rounds.{Delivery}
 use Rattle.calm_laws.proofs.Calls.{CallsAsk, IsSent}
@@ -33,8 +33,8 @@ use Rattle.calm_laws.proofs.Keeping.{KeepsRoles, AllKeep, one_keeps, roles_then,
 use Rattle.calm_laws.proofs.Lists.{every_among}
 use Rattle.calm_laws.proofs.Requests.{Requested, request_carries}
 use Rattle.calm_laws.proofs.Rows.{AllGoToMembers, TriesNone, Taker, taker, Event, event_row, handler_after}
-use Rattle.orderly_laws.specs.Calm.{IsInside}
-use Rattle.orderly_laws.proofs.Places.{view_eq}
+use Rattle.row_laws.specs.Orderly.Calm.{IsInside}
+use Rattle.row_laws.proofs.Orderly.Places.{view_eq}
 
 -- ---- a log grows where its call takes an answer ----
 

@@ -18,7 +18,7 @@ use Rattle.tree_laws.specs.Packets.{serial_of}
 use Rattle.tree_laws.specs.Printed.{entries}
 use Rattle.tree_laws.specs.Serials.{asked_now, ops_asked}
 use Rattle.tree_laws.specs.Users.{own_call, AskingIs, WaitingFact}
-use Rattle.calm_sent_laws.proofs.of_store_laws.AnswerAskers.{op_had}
+use Rattle.store_laws.proofs.AnswerAskers.{op_had}
 
 -- the call asks something of this instance
 pub record Uses (c : Config) (trace : List Line) (f : Frame) (y : WaitingCall) (i : Serial) : Type 0 where

@@ -19,25 +19,25 @@ use Rattle.role_steps.specs.Views.{Told, Shown, Begins, all_sites, first_site, i
 use Rattle.role_steps.specs.declared.rounds.InEpoch.{InEpoch}
 use Rattle.the_run.specs.Kept.{Among}
 use Rattle.the_run.specs.Worlds.{World, Line}
-use Rattle.calm_table_laws.specs.of_vector_laws.Written.{WasTold, past_of}
-use Rattle.calm_table_laws.specs.of_pack_laws.Packs.{ToldPacked}
-use Rattle.calm_table_laws.specs.of_lock_laws.Going.{BegunAt, WasBegunAt}
-use Rattle.calm_table_laws.specs.of_lock_laws.Asked.{IsBegun, WhatIsAskedIsBegun}
-use Rattle.calm_table_laws.specs.of_lock_laws.Facts.{GrantedAt}
-use Rattle.calm_table_laws.proofs.of_lock_laws.Asked.{asked_begun}
-use Rattle.calm_table_laws.proofs.of_lock_laws.FactsRun.{Both, both_kept, first_world_fact}
+use Rattle.site_laws.specs.Vectors.Written.{WasTold, past_of}
+use Rattle.site_laws.specs.Packs.Packs.{ToldPacked}
+use Rattle.site_laws.specs.Locks.Going.{BegunAt, WasBegunAt}
+use Rattle.site_laws.specs.Locks.Asked.{IsBegun, WhatIsAskedIsBegun}
+use Rattle.site_laws.specs.Locks.Facts.{GrantedAt}
+use Rattle.site_laws.proofs.Locks.Asked.{asked_begun}
+use Rattle.site_laws.proofs.Locks.FactsRun.{Both, both_kept, first_world_fact}
 use Rattle.run_laws.proofs.Run.{first_good}
 use Rattle.tree_laws.specs.Following.{IsFollowed, MakesInTime, MayTell}
 use Rattle.tree_laws.specs.Past.{BeginsIt, GrantRecord, Printed, WasBegun, WasGranted, WasNamed}
 use Rattle.tree_laws.proofs.Making.{IsAskedAt, begun_asked}
-use Rattle.calm_sent_laws.specs.of_store_laws.Rests.{IsAsGranted}
-use Rattle.calm_sent_laws.proofs.of_store_laws.Begun.{granted_named}
-use Rattle.calm_sent_laws.proofs.of_store_laws.Numbers.{serial_key_eq}
-use Rattle.calm_sent_laws.proofs.of_store_laws.Places.{plain_place}
-use Rattle.fit_laws.proofs.of_rest_laws.StoreStepNamed.{named_low}
-use Rattle.fit_laws.proofs.of_rest_laws.StoreStepResting.{store_rests}
-use Rattle.calm_sent_laws.specs.of_one_tree_laws.Rest.{EachRest, Past}
-use Rattle.orderly_laws.proofs.Choosing.{among_sites}
+use Rattle.store_laws.specs.Rests.{IsAsGranted}
+use Rattle.store_laws.proofs.Begun.{granted_named}
+use Rattle.store_laws.proofs.Numbers.{serial_key_eq}
+use Rattle.store_laws.proofs.Places.{plain_place}
+use Rattle.rest_laws.proofs.StoreStepNamed.{named_low}
+use Rattle.rest_laws.proofs.StoreStepResting.{store_rests}
+use Rattle.store_laws.specs.OneTree.Rest.{EachRest, Past}
+use Rattle.row_laws.proofs.Orderly.Choosing.{among_sites}
 use Rattle.calm_laws.specs.Carrying.{IsMember, own_serial}
 use Rattle.calm_laws.specs.Rounds.{IsInRound}
 use Rattle.calm_laws.proofs.Rounds.{in_round}

@@ -22,8 +22,8 @@ use Rattle.role_steps.specs.declared.synchronizing.SyncTable.{SyncTable}
 use Rattle.role_steps.specs.declared.users.UserInstance.{UserInstance}
 use Rattle.role_steps.specs.declared.users.WaitingCall.{WaitingCall}
 use Rattle.the_run.specs.Kept.{Among}
-use Rattle.orderly_laws.proofs.Formed.{among_left, among_right}
-use Rattle.orderly_laws.proofs.Numbers.{left_without}
+use Rattle.row_laws.proofs.Orderly.Formed.{among_left, among_right}
+use Rattle.row_laws.proofs.Orderly.Numbers.{left_without}
 
 -- the packets of its request are all sent
 abbrev pub IsSent : Frame → WaitingCall → List Packet → Type 0

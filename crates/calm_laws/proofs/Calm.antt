@@ -14,8 +14,8 @@ use Rattle.the_run.specs.Kept.{Among}
 use Rattle.the_run.specs.Runs.{arrives, next_packet, ticks_to, run_in}
 use Rattle.the_run.specs.Worlds.{World, Numbered, place_at}
 use Rattle.lawful_trace.specs.Places.{lines_before}
-use Rattle.epoch_laws.proofs.Run.{run_good}
-use Rattle.orderly_laws.specs.Calm.{IsInside, AreTogether, delivers_next, delivered}
+use Rattle.run_laws.proofs.Epochs.Run.{run_good}
+use Rattle.row_laws.specs.Orderly.Calm.{IsInside, AreTogether, delivers_next, delivered}
 use Rattle.calm_laws.specs.Carrying.{IsMember, frame_of, Carries, IsCarried, HasReported, Reports, IsAllCarried}
 use Rattle.calm_laws.specs.Rounds.{after, IsInRound, IsCalm, CalmLeft, CalmRoundsLeaveNobody}
 use Rattle.calm_laws.proofs.Deliveries.{one_delivery}

@@ -6,8 +6,8 @@ use Rattle.schedule_lines.specs.Schedule.{AreInOrder}
 use Rattle.schedule_lines.specs.declared.line.ScheduleLine.{ScheduleLine}
 use Rattle.the_run.specs.Runs.{run}
 use Rattle.lawful_trace.specs.Calm.{CalmRoundsAnswer}
-use Rattle.orderly_traces.specs.of_row_laws.Shown.{trace_of}
-use Rattle.orderly_traces.specs.Agreeing.{IsWithin}
+use Rattle.row_laws.specs.Shown.{trace_of}
+use Rattle.row_laws.specs.OrderlyRows.Agreeing.{IsWithin}
 use Rattle.calm_laws.specs.Rounds.{CalmLeft, CalmRoundsLeaveNobody}
 use Rattle.calm_laws.proofs.Answer.{calm_rounds_answer}
 use Rattle.calm_laws.proofs.Calm.{calm_round}

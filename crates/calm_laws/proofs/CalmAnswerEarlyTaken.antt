@@ -39,12 +39,12 @@ use Rattle.role_steps.specs.declared.users.WaitingCall.{WaitingCall}
 use Rattle.role_steps.proofs.Rows.{row_other}
 use Rattle.the_run.specs.Kept.{Among}
 use Rattle.the_run.proofs.Boots.{at_each}
-use Rattle.calm_sent_laws.proofs.of_store_laws.Numbers.{serial_key_eq}
-use Rattle.calm_sent_laws.proofs.of_store_laws.Tabled.{latest_other}
-use Rattle.calm_sent_laws.proofs.of_sync_laws.Adding.{latest_found, latest_same}
-use Rattle.orderly_laws.proofs.Formed.{among_left, among_right}
-use Rattle.calm_table_laws.specs.Shapes.{HoldsListed, IsRequest, IsRequestOf, TableShape}
-use Rattle.calm_table_laws.proofs.Shaping.{TellsRecord, TellsNamed, early_keeps}
+use Rattle.store_laws.proofs.Numbers.{serial_key_eq}
+use Rattle.store_laws.proofs.Tabled.{latest_other}
+use Rattle.tree_laws.proofs.Syncs.Adding.{latest_found, latest_same}
+use Rattle.row_laws.proofs.Orderly.Formed.{among_left, among_right}
+use Rattle.calm_laws.specs.TablesCalm.Shapes.{HoldsListed, IsRequest, IsRequestOf, TableShape}
+use Rattle.calm_laws.proofs.TablesCalm.Shaping.{TellsRecord, TellsNamed, early_keeps}
 use Rattle.calm_laws.specs.Carrying.{IsMember, frame_of, held_request, look_body, open_body, own_serial}
 use Rattle.calm_laws.specs.Rounds.{AnswersAgain, look_of}
 use Rattle.calm_laws.proofs.Lists.{every_among, row_key}

@@ -35,8 +35,8 @@ use Rattle.tree_laws.proofs.Looking.{mend_asks}
 use Rattle.tree_laws.proofs.Names.{same_epoch_eq}
 use Rattle.tree_laws.proofs.OneBoot.{one_boot}
 use Rattle.tree_laws.proofs.Scripts.{named_stays}
-use Rattle.fit_laws.specs.of_order_laws.ProcessAnswered.{WasAnswered}
-use Rattle.fit_laws.proofs.of_order_laws.ProcessCurrent.{Reached, reached}
+use Rattle.rest_laws.specs.of_tree_laws.Orders.ProcessAnswered.{WasAnswered}
+use Rattle.rest_laws.proofs.of_tree_laws.Orders.ProcessCurrent.{Reached, reached}
 use Rattle.calm_laws.proofs.CalmAnswerOneCall.{LooksIn, IsCaller, earlier_idle}
 
 abbrev With : ℕ → Told → List Line → List Line

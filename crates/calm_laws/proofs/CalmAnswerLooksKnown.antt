@@ -54,15 +54,15 @@ use Rattle.tree_laws.specs.Users.{own_call, AskingIs, WaitingFact}
 use Rattle.tree_laws.proofs.Alone.{call_is}
 use Rattle.tree_laws.proofs.Looking.{looked_low}
 use Rattle.tree_laws.proofs.OneBoot.{one_boot}
-use Rattle.calm_sent_laws.proofs.of_user_laws.Looked.{looks_so}
-use Rattle.calm_sent_laws.proofs.of_one_tree_laws.UserStepResting.{steady}
-use Rattle.fit_laws.proofs.of_rest_laws.StoreStepKnown.{known_call}
-use Rattle.fit_laws.proofs.of_rest_laws.EpochTreeStarted.{looked_started, named_started}
-use Rattle.calm_sent_laws.specs.of_one_tree_laws.Places.{InsideFact, NumberedFact}
-use Rattle.calm_sent_laws.specs.of_one_tree_laws.Rest.{Past}
-use Rattle.calm_sent_laws.proofs.of_one_tree_laws.Inside.{table_here}
-use Rattle.fit_laws.proofs.of_rest_laws.Asked.{user_rests}
-use Rattle.calm_table_laws.specs.Shapes.{AnswersLast, CameIn, HoldsListed, IsAnswered, IsNamedIn, IsOwnAnswer, IsRequest, IsRequestOf, IsStat, TableShape}
+use Rattle.store_laws.proofs.Users.Looked.{looks_so}
+use Rattle.store_laws.proofs.OneTree.UserStepResting.{steady}
+use Rattle.rest_laws.proofs.StoreStepKnown.{known_call}
+use Rattle.rest_laws.proofs.EpochTreeStarted.{looked_started, named_started}
+use Rattle.store_laws.specs.OneTree.Places.{InsideFact, NumberedFact}
+use Rattle.store_laws.specs.OneTree.Rest.{Past}
+use Rattle.store_laws.proofs.OneTree.Inside.{table_here}
+use Rattle.rest_laws.proofs.Asked.{user_rests}
+use Rattle.calm_laws.specs.TablesCalm.Shapes.{AnswersLast, CameIn, HoldsListed, IsAnswered, IsNamedIn, IsOwnAnswer, IsRequest, IsRequestOf, IsStat, TableShape}
 use Rattle.calm_laws.specs.Carrying.{IsMember, frame_of, held_request, look_body, IsServedByHolders}
 use Rattle.calm_laws.specs.Rounds.{AnswersAgain, KnowsLook, look_of}
 use Rattle.calm_laws.proofs.CloseAgreed.{past_of}

@@ -33,19 +33,19 @@ use Rattle.role_steps.proofs.Rows.{row_same}
 use Rattle.the_run.specs.Kept.{Among}
 use Rattle.the_run.specs.Steps.{at_table_of, is_opened_in, takes_inside}
 use Rattle.the_run.specs.Worlds.{World, Running, place_at}
-use Rattle.epoch_laws.specs.Forming.{FormsNone}
-use Rattle.epoch_laws.specs.Known.{Places}
+use Rattle.run_laws.specs.Epochs.Forming.{FormsNone}
+use Rattle.run_laws.specs.Epochs.Known.{Places}
 use Rattle.tree_laws.specs.Packets.{BodyFact, OpenFact, PacketFact}
 use Rattle.tree_laws.specs.Users.{WaitingFact}
-use Rattle.calm_sent_laws.specs.of_one_tree_laws.Places.{InsideFact}
-use Rattle.calm_sent_laws.specs.of_one_tree_laws.Rest.{Past}
-use Rattle.calm_sent_laws.proofs.of_one_tree_laws.Inside.{table_here}
-use Rattle.calm_sent_laws.proofs.of_one_tree_laws.Parts.{tables_rise}
-use Rattle.calm_sent_laws.proofs.of_one_tree_laws.Rising.{Rising}
-use Rattle.orderly_laws.specs.Calm.{AreTogether}
-use Rattle.orderly_laws.proofs.Formed.{among_right}
-use Rattle.orderly_laws.proofs.Rounds.{next_among}
-use Rattle.calm_table_laws.specs.Shapes.{CameIn, IsNamedIn}
+use Rattle.store_laws.specs.OneTree.Places.{InsideFact}
+use Rattle.store_laws.specs.OneTree.Rest.{Past}
+use Rattle.store_laws.proofs.OneTree.Inside.{table_here}
+use Rattle.store_laws.proofs.OneTree.Parts.{tables_rise}
+use Rattle.store_laws.proofs.OneTree.Rising.{Rising}
+use Rattle.row_laws.specs.Orderly.Calm.{AreTogether}
+use Rattle.row_laws.proofs.Orderly.Formed.{among_right}
+use Rattle.row_laws.proofs.Orderly.Rounds.{next_among}
+use Rattle.calm_laws.specs.TablesCalm.Shapes.{CameIn, IsNamedIn}
 use Rattle.calm_laws.specs.Carrying.{IsMember, frame_of, Goes, IsAsked, held_request, open_body, opening_body, own_serial, AnswersOpen, CarriesOpen, Carries, IsHeld}
 use Rattle.calm_laws.specs.Rounds.{CarriesOn, IsInRound, IsOpen}
 use Rattle.calm_laws.proofs.Carriers.{of_kind, MayCarry, carrier_kind}

@@ -27,11 +27,11 @@ use Rattle.role_steps.specs.declared.synchronizing.SyncTable.{SyncTable}
 use Rattle.the_run.specs.Kept.{Among}
 use Rattle.the_run.proofs.Boots.{at_each}
 use Rattle.tree_laws.proofs.Names.{same_serial_eq, same_serial_own}
-use Rattle.calm_sent_laws.proofs.of_store_laws.Tabled.{latest_other}
-use Rattle.calm_sent_laws.proofs.of_sync_laws.Adding.{latest_same}
-use Rattle.orderly_laws.proofs.Formed.{among_left}
-use Rattle.calm_table_laws.specs.Shapes.{RowShape, TableShape}
-use Rattle.calm_table_laws.proofs.Shaping.{Placed, decision_placed}
+use Rattle.store_laws.proofs.Tabled.{latest_other}
+use Rattle.tree_laws.proofs.Syncs.Adding.{latest_same}
+use Rattle.row_laws.proofs.Orderly.Formed.{among_left}
+use Rattle.calm_laws.specs.TablesCalm.Shapes.{RowShape, TableShape}
+use Rattle.calm_laws.proofs.TablesCalm.Shaping.{Placed, decision_placed}
 use Rattle.calm_laws.specs.Carrying.{IsMember, frame_of, Goes, own_serial, opening_body, AnswersOpen}
 use Rattle.calm_laws.proofs.Lists.{every_among, row_key}
 use Rattle.calm_laws.proofs.CalmAnswerTurning.{Grows}

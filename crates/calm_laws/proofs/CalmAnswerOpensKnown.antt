@@ -56,15 +56,15 @@ use Rattle.tree_laws.proofs.Counting.{Opens}
 use Rattle.tree_laws.proofs.Looking.{looked_low}
 use Rattle.tree_laws.proofs.Names.{same_serial_eq}
 use Rattle.tree_laws.proofs.Serials.{one_open, unnamed}
-use Rattle.calm_sent_laws.proofs.of_store_laws.Numbers.{serial_key_eq}
-use Rattle.fit_laws.proofs.of_rest_laws.StoreStepResting.{store_rests}
-use Rattle.fit_laws.proofs.of_rest_laws.EpochTreeStarted.{looked_started, named_started}
-use Rattle.calm_sent_laws.specs.of_one_tree_laws.Rest.{Past}
-use Rattle.calm_table_laws.specs.Shapes.{CameIn, IsMaking, IsNamedIn, IsRequest, IsRequestOf, NamesRecord, NamesTold, RowShape, TableShape}
+use Rattle.store_laws.proofs.Numbers.{serial_key_eq}
+use Rattle.rest_laws.proofs.StoreStepResting.{store_rests}
+use Rattle.rest_laws.proofs.EpochTreeStarted.{looked_started, named_started}
+use Rattle.store_laws.specs.OneTree.Rest.{Past}
+use Rattle.calm_laws.specs.TablesCalm.Shapes.{CameIn, IsMaking, IsNamedIn, IsRequest, IsRequestOf, NamesRecord, NamesTold, RowShape, TableShape}
 use Rattle.calm_laws.specs.Carrying.{frame_of, held_request, open_body, own_serial}
 use Rattle.calm_laws.proofs.Lists.{every_among, row_key}
 use Rattle.calm_laws.proofs.UserParts.{asked_is, open_asked}
-use Rattle.calm_sent_laws.proofs.of_store_laws.AnswerUnasked.{opens_request}
+use Rattle.store_laws.proofs.AnswerUnasked.{opens_request}
 use Rattle.calm_laws.proofs.CalmAnswerOneCall.{LooksIn, IsCaller, look_in, one_caller, open_in}
 use Rattle.calm_laws.proofs.CalmAnswerLooksKnown.{caller_of, only_mends, packet_caller, request_is}
 use Rattle.calm_laws.proofs.CalmAnswerOpensUnended.{open_unreleased}

@@ -33,16 +33,16 @@ use Rattle.tree_laws.proofs.Descriptors.{IsUser}
 use Rattle.tree_laws.proofs.Fresh.{IsNamed}
 use Rattle.tree_laws.proofs.Names.{same_call_eq}
 use Rattle.tree_laws.proofs.Serials.{unnamed}
-use Rattle.fit_laws.proofs.of_order_laws.ProcessBegun.{comes_from, Comes}
-use Rattle.fit_laws.proofs.of_order_laws.ProcessGranting.{GrantIs, granted_is, released_named}
-use Rattle.fit_laws.proofs.of_order_laws.ProcessHad.{begun_user}
-use Rattle.fit_laws.proofs.of_order_laws.ProcessOperations.{accept_turn, IsTurn, take_turn}
-use Rattle.fit_laws.proofs.of_order_laws.ProcessTaken.{back_in}
-use Rattle.fit_laws.proofs.of_order_laws.ProcessUnreleased.{close_opens_none}
-use Rattle.calm_sent_laws.proofs.of_user_laws.OpenOnce.{AnsweredRecord, WasOpenAnswered, open_once}
-use Rattle.calm_sent_laws.proofs.of_store_laws.AnswerAnswering.{releaser_in}
-use Rattle.calm_sent_laws.proofs.of_store_laws.AnswerAskers.{close_had}
-use Rattle.calm_sent_laws.proofs.of_store_laws.AnswerUnasked.{opens_request}
+use Rattle.rest_laws.proofs.of_tree_laws.Orders.ProcessBegun.{comes_from, Comes}
+use Rattle.rest_laws.proofs.of_tree_laws.Orders.ProcessGranting.{GrantIs, granted_is, released_named}
+use Rattle.rest_laws.proofs.of_tree_laws.Orders.ProcessHad.{begun_user}
+use Rattle.rest_laws.proofs.of_tree_laws.Orders.ProcessOperations.{accept_turn, IsTurn, take_turn}
+use Rattle.rest_laws.proofs.of_tree_laws.Orders.ProcessTaken.{back_in}
+use Rattle.rest_laws.proofs.of_tree_laws.Orders.ProcessUnreleased.{close_opens_none}
+use Rattle.store_laws.proofs.Users.OpenOnce.{AnsweredRecord, WasOpenAnswered, open_once}
+use Rattle.store_laws.proofs.AnswerAnswering.{releaser_in}
+use Rattle.store_laws.proofs.AnswerAskers.{close_had}
+use Rattle.store_laws.proofs.AnswerUnasked.{opens_request}
 
 abbrev With : ℕ → Told → List Line → List Line
 With n x older = record { number = n; told = x } ∷ older

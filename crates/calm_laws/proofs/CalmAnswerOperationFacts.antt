@@ -19,12 +19,12 @@ use Rattle.tree_model.specs.declared.instance.Instance.{Instance as Open}
 use Rattle.tree_laws.specs.Packets.{OpsNow}
 use Rattle.tree_laws.specs.Stores.{InstanceFact, RunsAs, StageFact, WorksAs}
 use Rattle.tree_laws.proofs.Grants.{open_named}
-use Rattle.calm_sent_laws.proofs.of_store_laws.Tabled.{row_found}
-use Rattle.calm_sent_laws.specs.of_one_tree_laws.Places.{InsideFact}
-use Rattle.calm_sent_laws.specs.of_one_tree_laws.Rest.{Past}
-use Rattle.orderly_laws.specs.Calm.{AreTogether}
-use Rattle.fit_laws.specs.CalmAskingAsked.{IsDoable}
-use Rattle.fit_laws.proofs.CalmAskingDoing.{doable}
+use Rattle.store_laws.proofs.Tabled.{row_found}
+use Rattle.store_laws.specs.OneTree.Places.{InsideFact}
+use Rattle.store_laws.specs.OneTree.Rest.{Past}
+use Rattle.row_laws.specs.Orderly.Calm.{AreTogether}
+use Rattle.rest_laws.specs.Fits.CalmAskingAsked.{IsDoable}
+use Rattle.rest_laws.proofs.Fits.CalmAskingDoing.{doable}
 use Rattle.calm_laws.specs.Carrying.{IsMember, frame_of}
 use Rattle.calm_laws.specs.Rounds.{IsInRound, IsLawful, OperationsAreLawful}
 use Rattle.calm_laws.proofs.CloseAgreed.{past_of}

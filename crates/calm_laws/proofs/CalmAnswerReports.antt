@@ -39,20 +39,20 @@ use Rattle.role_steps.proofs.Rows.{row_same}
 use Rattle.the_run.specs.Kept.{Among}
 use Rattle.the_run.specs.Steps.{at_table_of, takes_inside}
 use Rattle.the_run.specs.Worlds.{World, place_at}
-use Rattle.epoch_laws.specs.Forming.{FormsNone}
+use Rattle.run_laws.specs.Epochs.Forming.{FormsNone}
 use Rattle.tree_laws.specs.Packets.{BodyFact, OpenFact, PacketFact}
 use Rattle.tree_laws.specs.Tables.{early_packet}
 use Rattle.tree_laws.specs.Users.{WaitingFact}
-use Rattle.fit_laws.proofs.of_rest_laws.StoreStepKnown.{known_call}
-use Rattle.calm_sent_laws.specs.of_one_tree_laws.Places.{InsideFact}
-use Rattle.calm_sent_laws.specs.of_one_tree_laws.Rest.{Past}
-use Rattle.calm_sent_laws.proofs.of_one_tree_laws.Parts.{tables_rise}
-use Rattle.calm_sent_laws.proofs.of_one_tree_laws.Rising.{Rising}
-use Rattle.orderly_laws.proofs.Formed.{among_right}
-use Rattle.orderly_laws.proofs.Rounds.{next_among}
-use Rattle.calm_table_laws.specs.of_make_laws.Made.{IsSender, NumberedSender}
-use Rattle.calm_table_laws.specs.Shapes.{CameIn, IsNamedIn, IsRequest, IsRequestOf, RowShape, TableShape}
-use Rattle.calm_table_laws.proofs.Shaping.{report_shape}
+use Rattle.rest_laws.proofs.StoreStepKnown.{known_call}
+use Rattle.store_laws.specs.OneTree.Places.{InsideFact}
+use Rattle.store_laws.specs.OneTree.Rest.{Past}
+use Rattle.store_laws.proofs.OneTree.Parts.{tables_rise}
+use Rattle.store_laws.proofs.OneTree.Rising.{Rising}
+use Rattle.row_laws.proofs.Orderly.Formed.{among_right}
+use Rattle.row_laws.proofs.Orderly.Rounds.{next_among}
+use Rattle.site_laws.specs.Makes.Made.{IsSender, NumberedSender}
+use Rattle.calm_laws.specs.TablesCalm.Shapes.{CameIn, IsNamedIn, IsRequest, IsRequestOf, RowShape, TableShape}
+use Rattle.calm_laws.proofs.TablesCalm.Shaping.{report_shape}
 use Rattle.calm_laws.specs.Carrying.{IsMember, frame_of, Goes, held_request, look_body, open_body, own_serial, Carries, IsHeld, HasReported}
 use Rattle.calm_laws.specs.Rounds.{AnswersAgain, CarriesOn, IsReport, KnowsLook, look_of}
 use Rattle.calm_laws.proofs.Carriers.{MayCarry, carrier_kind}

@@ -7,10 +7,10 @@ use Rattle.role_steps.specs.declared.rounds.InEpoch.{InEpoch}
 use Rattle.role_steps.specs.declared.synchronizing.SyncTable.{SyncTable}
 use Rattle.the_run.specs.Kept.{Among}
 use Rattle.the_run.specs.Worlds.{World, Running, place_at}
-use Rattle.orderly_laws.specs.Calm.{IsInside, AreTogether}
-use Rattle.orderly_laws.proofs.Places.{view_eq}
-use Rattle.calm_table_laws.specs.Shapes.{CameIn, IsNamedIn, ShapeIn, TableShape}
-use Rattle.calm_table_laws.proofs.ShapesRun.{Shaped, shaped_kept, first_shaped}
+use Rattle.row_laws.specs.Orderly.Calm.{IsInside, AreTogether}
+use Rattle.row_laws.proofs.Orderly.Places.{view_eq}
+use Rattle.calm_laws.specs.TablesCalm.Shapes.{CameIn, IsNamedIn, ShapeIn, TableShape}
+use Rattle.calm_laws.proofs.TablesCalm.ShapesRun.{Shaped, shaped_kept, first_shaped}
 use Rattle.calm_laws.specs.Carrying.{IsMember}
 use Rattle.calm_laws.specs.Rounds.{IsInRound}
 use Rattle.calm_laws.proofs.Lists.{every_among}

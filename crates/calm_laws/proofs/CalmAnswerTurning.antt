@@ -31,9 +31,9 @@ use Rattle.the_run.specs.Kept.{Among}
 use Rattle.the_run.specs.Steps.{at_table_of, is_opened_in}
 use Rattle.the_run.specs.Worlds.{Running}
 use Rattle.the_run.proofs.Boots.{at_each}
-use Rattle.epoch_laws.specs.Known.{Places}
-use Rattle.calm_sent_laws.proofs.of_one_tree_laws.Rising.{Rising}
-use Rattle.orderly_laws.proofs.Places.{view_eq}
+use Rattle.run_laws.specs.Epochs.Known.{Places}
+use Rattle.store_laws.proofs.OneTree.Rising.{Rising}
+use Rattle.row_laws.proofs.Orderly.Places.{view_eq}
 use Rattle.calm_laws.specs.Carrying.{IsMember, Goes, Holds, IsAsked, HasUnended, held_request, look_body, open_body, own_serial, CarriesOpen, CarriesClose, Carries, IsHeld, HasReported}
 use Rattle.calm_laws.proofs.Ends.{handles}
 use Rattle.calm_laws.proofs.Handing.{StillWaits, IsHandedOn}

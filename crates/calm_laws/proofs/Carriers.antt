@@ -14,7 +14,7 @@ use Rattle.role_steps.specs.declared.synchronizing.OpenRow.{OpenRow}
 use Rattle.role_steps.specs.declared.users.Asking.{Asking}
 use Rattle.role_steps.specs.declared.users.Asking.TheVariants as asking
 use Rattle.role_steps.specs.declared.users.WaitingCall.{WaitingCall}
-use Rattle.epoch_laws.specs.Known.{Places}
+use Rattle.run_laws.specs.Epochs.Known.{Places}
 use Rattle.calm_laws.specs.Carrying.{Goes, look_body, open_body, opening_body, own_serial, CarriesLook, CarriesOpen, CarriesOp, CarriesClose, Carries}
 
 -- the packet is of the kind of what goes

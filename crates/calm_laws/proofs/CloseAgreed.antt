@@ -26,17 +26,17 @@ use Rattle.tree_laws.specs.Packets.{PacketFact}
 use Rattle.tree_laws.specs.Past.{WasReleased}
 use Rattle.tree_laws.specs.Doing.{StoreHeld}
 use Rattle.tree_laws.specs.Stores.{InstanceFact, RunsAs, StageFact}
-use Rattle.calm_sent_laws.proofs.of_holding_laws.Released.{released_named, released_shut}
-use Rattle.calm_sent_laws.proofs.of_store_laws.Numbers.{serial_key_eq}
-use Rattle.calm_sent_laws.proofs.of_store_laws.Tabled.{latest_other, row_found}
-use Rattle.fit_laws.proofs.of_rest_laws.StoreStepResting.{store_rests}
-use Rattle.calm_sent_laws.specs.of_one_tree_laws.Places.{InsideFact, NumberedFact}
-use Rattle.calm_sent_laws.specs.of_one_tree_laws.Rest.{Past}
-use Rattle.epoch_laws.specs.Forming.{FormsNone}
-use Rattle.epoch_laws.specs.Known.{Places}
-use Rattle.orderly_laws.proofs.Places.{view_eq}
-use Rattle.orderly_laws.proofs.Rounds.{next_among}
-use Rattle.orderly_laws.specs.Calm.{AreTogether, IsInside}
+use Rattle.store_laws.proofs.Holdings.Released.{released_named, released_shut}
+use Rattle.store_laws.proofs.Numbers.{serial_key_eq}
+use Rattle.store_laws.proofs.Tabled.{latest_other, row_found}
+use Rattle.rest_laws.proofs.StoreStepResting.{store_rests}
+use Rattle.store_laws.specs.OneTree.Places.{InsideFact, NumberedFact}
+use Rattle.store_laws.specs.OneTree.Rest.{Past}
+use Rattle.run_laws.specs.Epochs.Forming.{FormsNone}
+use Rattle.run_laws.specs.Epochs.Known.{Places}
+use Rattle.row_laws.proofs.Orderly.Places.{view_eq}
+use Rattle.row_laws.proofs.Orderly.Rounds.{next_among}
+use Rattle.row_laws.specs.Orderly.Calm.{AreTogether, IsInside}
 use Rattle.calm_laws.specs.Carrying.{IsMember, frame_of, Goes, IsUnended, HasUnended, own_serial, CarriesClose, Carries}
 use Rattle.calm_laws.specs.Rounds.{CarriesOn, IsClosedOk}
 use Rattle.calm_laws.proofs.Carriers.{of_kind, MayCarry, carrier_kind}

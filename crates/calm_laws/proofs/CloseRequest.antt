@@ -29,12 +29,12 @@ use Rattle.the_run.specs.Worlds.{place_at}
 use Rattle.tree_laws.specs.Doing.{StoreHeld}
 use Rattle.tree_laws.specs.Past.{WasBegun}
 use Rattle.tree_laws.specs.Stores.{InstanceFact}
-use Rattle.calm_sent_laws.proofs.of_store_laws.Tabled.{latest_same, row_found}
-use Rattle.epoch_laws.specs.Forming.{FormsNone}
-use Rattle.epoch_laws.specs.Known.{Places}
-use Rattle.calm_table_laws.specs.of_lock_laws.Asked.{AskedBegun, IsBegun}
-use Rattle.orderly_laws.specs.Calm.{IsInside}
-use Rattle.orderly_laws.proofs.Places.{view_eq}
+use Rattle.store_laws.proofs.Tabled.{latest_same, row_found}
+use Rattle.run_laws.specs.Epochs.Forming.{FormsNone}
+use Rattle.run_laws.specs.Epochs.Known.{Places}
+use Rattle.site_laws.specs.Locks.Asked.{AskedBegun, IsBegun}
+use Rattle.row_laws.specs.Orderly.Calm.{IsInside}
+use Rattle.row_laws.proofs.Orderly.Places.{view_eq}
 use Rattle.calm_laws.specs.Carrying.{frame_of, Goes, IsUnended, HasUnended, own_serial, CarriesClose, Carries}
 use Rattle.calm_laws.specs.Rounds.{CarriesOn, IsClose}
 use Rattle.calm_laws.proofs.Begun.{asked_here, begun_packed, round_begun, sync_there}

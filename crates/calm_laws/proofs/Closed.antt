@@ -27,19 +27,19 @@ use Rattle.the_run.specs.Kept.{Among}
 use Rattle.the_run.specs.Steps.{at_table_of, at_table_with, is_opened_in, takes_inside}
 use Rattle.the_run.specs.Worlds.{World, place_at}
 use Rattle.tree_laws.specs.Tables.{RowFact}
-use Rattle.calm_sent_laws.proofs.of_store_laws.Numbers.{serial_key_eq}
-use Rattle.fit_laws.proofs.of_rest_laws.StoreStepResting.{store_rests}
-use Rattle.calm_sent_laws.specs.of_one_tree_laws.Places.{InsideFact}
-use Rattle.calm_sent_laws.proofs.of_one_tree_laws.Inside.{table_here}
-use Rattle.calm_sent_laws.proofs.of_one_tree_laws.Parts.{tables_rise}
-use Rattle.calm_sent_laws.proofs.of_one_tree_laws.Rising.{Rising, first_among}
-use Rattle.epoch_laws.specs.Forming.{FormsNone}
-use Rattle.epoch_laws.specs.Known.{Places}
-use Rattle.orderly_laws.specs.Calm.{AreTogether}
-use Rattle.orderly_laws.proofs.Formed.{among_right}
-use Rattle.orderly_laws.proofs.Places.{view_eq}
-use Rattle.orderly_laws.proofs.Rounds.{next_among}
-use Rattle.calm_sent_laws.specs.Standing.{IsGrantedStage}
+use Rattle.store_laws.proofs.Numbers.{serial_key_eq}
+use Rattle.rest_laws.proofs.StoreStepResting.{store_rests}
+use Rattle.store_laws.specs.OneTree.Places.{InsideFact}
+use Rattle.store_laws.proofs.OneTree.Inside.{table_here}
+use Rattle.store_laws.proofs.OneTree.Parts.{tables_rise}
+use Rattle.store_laws.proofs.OneTree.Rising.{Rising, first_among}
+use Rattle.run_laws.specs.Epochs.Forming.{FormsNone}
+use Rattle.run_laws.specs.Epochs.Known.{Places}
+use Rattle.row_laws.specs.Orderly.Calm.{AreTogether}
+use Rattle.row_laws.proofs.Orderly.Formed.{among_right}
+use Rattle.row_laws.proofs.Orderly.Places.{view_eq}
+use Rattle.row_laws.proofs.Orderly.Rounds.{next_among}
+use Rattle.calm_laws.specs.SentCalm.Standing.{IsGrantedStage}
 use Rattle.calm_laws.specs.Carrying.{frame_of, Goes, HasUnended, own_serial, CarriesClose, Carries}
 use Rattle.calm_laws.specs.Rounds.{CarriesOn, ClosesAreGranted, HasGranted, IsClosed, IsInRound}
 use Rattle.calm_laws.proofs.Carriers.{of_kind, MayCarry, carrier_kind}

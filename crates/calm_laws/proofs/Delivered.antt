@@ -17,16 +17,16 @@ use Rattle.the_run.specs.Steps.{is_dropped, tries_at, ends_event, whole, step}
 use Rattle.the_run.specs.Worlds.{World, Limit, Place, Running, Stopped, Numbered, place_at, links_of, told_onto, puts, arms, passed, stops_with, cut_told, runs_on, acts}
 use Rattle.the_run.proofs.Boots.{acts_cases}
 use Rattle.the_run.proofs.Events.{puts_same}
-use Rattle.epoch_laws.specs.Forming.{FormsNone}
-use Rattle.epoch_laws.specs.Known.{Good}
-use Rattle.epoch_laws.proofs.Run.{good_kept, first_good}
-use Rattle.calm_sent_laws.specs.of_one_tree_laws.Places.{WorldFact, InsideFact, SiteIn}
-use Rattle.orderly_laws.specs.Calm.{IsInside, AreTogether}
-use Rattle.orderly_laws.specs.Numbers.{NumbersAscend}
-use Rattle.orderly_laws.proofs.Formed.{among_left, among_right}
-use Rattle.orderly_laws.proofs.Numbers.{ascend_kept, first_ascends}
-use Rattle.orderly_laws.proofs.Places.{view_eq}
-use Rattle.orderly_laws.proofs.Rounds.{next_among, happened_cases}
+use Rattle.run_laws.specs.Epochs.Forming.{FormsNone}
+use Rattle.run_laws.specs.Epochs.Known.{Good}
+use Rattle.run_laws.proofs.Epochs.Run.{good_kept, first_good}
+use Rattle.store_laws.specs.OneTree.Places.{WorldFact, InsideFact, SiteIn}
+use Rattle.row_laws.specs.Orderly.Calm.{IsInside, AreTogether}
+use Rattle.row_laws.specs.Orderly.Numbers.{NumbersAscend}
+use Rattle.row_laws.proofs.Orderly.Formed.{among_left, among_right}
+use Rattle.row_laws.proofs.Orderly.Numbers.{ascend_kept, first_ascends}
+use Rattle.row_laws.proofs.Orderly.Places.{view_eq}
+use Rattle.row_laws.proofs.Orderly.Rounds.{next_among, happened_cases}
 use Rattle.calm_laws.specs.Carrying.{IsMember, frame_of, IsAllCarried}
 use Rattle.calm_laws.specs.Rounds.{Delivery}
 use Rattle.calm_laws.proofs.Ends.{After, whole_after, handles, step_is}

@@ -17,12 +17,12 @@ use Rattle.the_run.specs.Kept.{Among}
 use Rattle.the_run.specs.Runs.{arrives, next_packet}
 use Rattle.the_run.specs.Steps.{is_forming, is_framed, is_dropped, step}
 use Rattle.the_run.specs.Worlds.{World, Running, Numbered, place_at, links_of, passed, acts}
-use Rattle.epoch_laws.specs.Known.{Places}
-use Rattle.orderly_laws.specs.Calm.{IsInside, AreTogether}
-use Rattle.orderly_laws.specs.Numbers.{NumbersAscend}
-use Rattle.orderly_laws.proofs.Numbers.{ascend_kept, first_ascends}
-use Rattle.orderly_laws.proofs.Places.{view_eq}
-use Rattle.orderly_laws.proofs.Rounds.{next_among}
+use Rattle.run_laws.specs.Epochs.Known.{Places}
+use Rattle.row_laws.specs.Orderly.Calm.{IsInside, AreTogether}
+use Rattle.row_laws.specs.Orderly.Numbers.{NumbersAscend}
+use Rattle.row_laws.proofs.Orderly.Numbers.{ascend_kept, first_ascends}
+use Rattle.row_laws.proofs.Orderly.Places.{view_eq}
+use Rattle.row_laws.proofs.Orderly.Rounds.{next_among}
 use Rattle.calm_laws.specs.Carrying.{IsMember, frame_of, Goes, IsHeld, IsUnderWay, IsCarried, HasReported, Reports, AllCarried, IsAllCarried}
 use Rattle.calm_laws.specs.Rounds.{IsInRound, Delivery, CalmLeft, IsReport, IsOpen, IsOpenSs, IsOpened, IsOpenDone, IsOp, IsOpDone, IsClose, IsClosed, IsClosedOk, IsCloseDone, IsLook, IsLookSs, IsLookDone, IsOther}
 use Rattle.calm_laws.proofs.Ending.{Way, carrier_goes}

@@ -24,9 +24,9 @@ use Rattle.role_steps.specs.declared.users.Asking.TheVariants as asking
 use Rattle.role_steps.specs.declared.users.WaitingCall.{WaitingCall}
 use Rattle.the_run.specs.Kept.{Among}
 use Rattle.the_run.specs.Worlds.{Numbered, place_at}
-use Rattle.epoch_laws.specs.Known.{Places}
-use Rattle.orderly_laws.specs.Calm.{IsInside}
-use Rattle.orderly_laws.proofs.Places.{view_eq}
+use Rattle.run_laws.specs.Epochs.Known.{Places}
+use Rattle.row_laws.specs.Orderly.Calm.{IsInside}
+use Rattle.row_laws.proofs.Orderly.Places.{view_eq}
 use Rattle.calm_laws.specs.Carrying.{IsMember, Goes, Holds, look_body, open_body, opening_body, own_serial, CarriesLook, CarriesOpen, CarriesOp, CarriesClose, Carries, IsHeld, IsUnderWay, HasReported, Reports}
 use Rattle.calm_laws.specs.Calming.{StartsInTime, NobodyWaitsAtTheEnd}
 use Rattle.calm_laws.proofs.Lists.{no_element, all_pass, every_among, row_key}

@@ -14,8 +14,8 @@ use Rattle.role_steps.specs.declared.rounds.Round.{Round}
 use Rattle.role_steps.specs.declared.users.WaitingCall.{WaitingCall}
 use Rattle.the_run.specs.Kept.{Among}
 use Rattle.the_run.specs.Steps.{in_order, is_dropped, takes, takes_framed, takes_inside, tries_at, starts_mends_of, ends_event, whole, step}
-use Rattle.epoch_laws.specs.Forming.{FormsNone}
-use Rattle.orderly_laws.proofs.Formed.{among_left, among_right, order_has}
+use Rattle.run_laws.specs.Epochs.Forming.{FormsNone}
+use Rattle.row_laws.proofs.Orderly.Formed.{among_left, among_right, order_has}
 use Rattle.calm_laws.specs.Carrying.{frame_of}
 use Rattle.calm_laws.proofs.Calls.{CallsAsk, OnlyCalls, mends_calls, calls_wider}
 use Rattle.calm_laws.proofs.Keeping.{KeepsRoles, all_itself, roles_then}

@@ -10,11 +10,11 @@ use Rattle.the_run.specs.Worlds.{World, Limit, Place, Running, Stopped, Numbered
 use Rattle.the_run.specs.Runs.{arrives_at, arrives}
 use Rattle.the_run.proofs.Boots.{acts_cases, at_each}
 use Rattle.the_run.proofs.Events.{puts_other, puts_same}
-use Rattle.orderly_laws.specs.Numbers.{NumbersAscend}
-use Rattle.orderly_laws.proofs.Formed.{among_left, among_right}
-use Rattle.orderly_laws.proofs.Numbers.{one_of_number, stays_without}
-use Rattle.orderly_laws.proofs.Rounds.{happened_cases}
-use Rattle.orderly_laws.proofs.Turns.{among_numbered}
+use Rattle.row_laws.specs.Orderly.Numbers.{NumbersAscend}
+use Rattle.row_laws.proofs.Orderly.Formed.{among_left, among_right}
+use Rattle.row_laws.proofs.Orderly.Numbers.{one_of_number, stays_without}
+use Rattle.row_laws.proofs.Orderly.Rounds.{happened_cases}
+use Rattle.row_laws.proofs.Orderly.Turns.{among_numbered}
 
 -- a packet is under way
 pub record Under (under : List Numbered) (p : Packet) : Type 0 where

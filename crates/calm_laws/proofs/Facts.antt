@@ -12,17 +12,17 @@ use Rattle.role_steps.specs.Views.{Shown, Ticks, all_sites}
 use Rattle.lawful_trace.specs.Places.{line_at, lines_before}
 use Rattle.the_run.specs.Runs.{delivers, ticks_to, run_in}
 use Rattle.the_run.specs.Worlds.{World, Line}
-use Rattle.orderly_traces.specs.of_row_laws.Voids.{LinesFit}
-use Rattle.orderly_laws.specs.Calm.{delivered}
-use Rattle.orderly_laws.proofs.Rounds.{RoundKept, ticks_kept}
-use Rattle.calm_sent_laws.specs.of_one_tree_laws.Places.{WorldFact}
-use Rattle.calm_sent_laws.specs.of_one_tree_laws.Rest.{EachRest, IsRest}
-use Rattle.calm_sent_laws.specs.of_one_tree_laws.Roles.{RolesDo}
-use Rattle.calm_sent_laws.proofs.of_one_tree_laws.Run.{does, pass_holds, receives_holds, run_holds}
-use Rattle.calm_sent_laws.proofs.of_one_tree_laws.Staying.{stays}
-use Rattle.calm_sent_laws.proofs.of_one_tree_laws.Worlds.{Holds, says_holds}
-use Rattle.fit_laws.proofs.of_rest_laws.Resting.{run_low, run_rests}
-use Rattle.fit_laws.proofs.of_rest_laws.Roles.{roles_do}
+use Rattle.row_laws.specs.Voids.{LinesFit}
+use Rattle.row_laws.specs.Orderly.Calm.{delivered}
+use Rattle.row_laws.proofs.Orderly.Rounds.{RoundKept, ticks_kept}
+use Rattle.store_laws.specs.OneTree.Places.{WorldFact}
+use Rattle.store_laws.specs.OneTree.Rest.{EachRest, IsRest}
+use Rattle.store_laws.specs.OneTree.Roles.{RolesDo}
+use Rattle.store_laws.proofs.OneTree.Run.{does, pass_holds, receives_holds, run_holds}
+use Rattle.store_laws.proofs.OneTree.Staying.{stays}
+use Rattle.store_laws.proofs.OneTree.Worlds.{Holds, says_holds}
+use Rattle.rest_laws.proofs.Resting.{run_low, run_rests}
+use Rattle.rest_laws.proofs.Roles.{roles_do}
 use Rattle.calm_laws.specs.Rounds.{IsInRound}
 use Rattle.calm_laws.proofs.Limits.{line_there, take_length, take_fit}
 use Rattle.calm_laws.proofs.Moments.{GoesOn, goes_itself, goes_round_kept}

@@ -10,8 +10,8 @@ use Rattle.role_steps.specs.declared.users.WaitingCall.{WaitingCall}
 use Rattle.the_run.specs.Kept.{Among}
 use Rattle.the_run.specs.Worlds.{Running, Numbered}
 use Rattle.the_run.proofs.Boots.{at_each}
-use Rattle.epoch_laws.specs.Known.{Places}
-use Rattle.orderly_laws.proofs.Places.{view_eq}
+use Rattle.run_laws.specs.Epochs.Known.{Places}
+use Rattle.row_laws.proofs.Orderly.Places.{view_eq}
 use Rattle.calm_laws.specs.Carrying.{IsMember, Goes, Carries, IsHeld, IsUnderWay, IsCarried, HasReported, Reports, AllCarried}
 use Rattle.calm_laws.proofs.Events.{Under}
 

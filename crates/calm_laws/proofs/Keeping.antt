@@ -30,8 +30,8 @@ use Rattle.the_run.specs.Kept.{Among}
 use Rattle.the_run.specs.Steps.{is_opened_in}
 use Rattle.the_run.specs.Worlds.{Running}
 use Rattle.the_run.proofs.Boots.{at_each}
-use Rattle.epoch_laws.specs.Known.{Places}
-use Rattle.orderly_laws.proofs.Places.{view_eq}
+use Rattle.run_laws.specs.Epochs.Known.{Places}
+use Rattle.row_laws.proofs.Orderly.Places.{view_eq}
 use Rattle.calm_laws.specs.Carrying.{IsMember, Goes, Holds, IsAsked, HasUnended, look_body, open_body, own_serial, held_request, CarriesOpen, CarriesClose, ClosesIt, Carries, IsHeld, HasReported}
 use Rattle.calm_laws.proofs.Members.{sync_is}
 

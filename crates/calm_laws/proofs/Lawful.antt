@@ -29,7 +29,7 @@ use Rattle.role_steps.specs.declared.instances.Instance.{Instance}
 use Rattle.role_steps.specs.declared.rounds.InEpoch.{InEpoch}
 use Rattle.the_run.specs.Kept.{Among}
 use Rattle.the_run.specs.Worlds.{Line, World}
-use Rattle.calm_sent_laws.proofs.of_store_laws.Tabled.{latest_same}
+use Rattle.store_laws.proofs.Tabled.{latest_same}
 use Rattle.locus_ids.specs.declared.ids.Kind.{Kind}
 use Rattle.commit_graph.specs.declared.history.Version.{Version}
 use Rattle.tree_model.specs.declared.instance.Instance.{Instance as Open}
@@ -44,9 +44,9 @@ use Rattle.lawful_trace.specs.TreeRows.{granted_group}
 use Rattle.tree_laws.specs.Following.{IsFollowed, MayTell}
 use Rattle.tree_laws.specs.Past.{ActRecord, Printed, WasDone}
 use Rattle.tree_laws.specs.Printed.{entries}
-use Rattle.calm_sent_laws.proofs.of_store_laws.AnswerDone.{act_next, done_low}
+use Rattle.store_laws.proofs.AnswerDone.{act_next, done_low}
 use Rattle.calm_laws.proofs.Operation.{OperationsAreDone}
-use Rattle.calm_sent_laws.specs.of_one_tree_laws.Rest.{Past}
+use Rattle.store_laws.specs.OneTree.Rest.{Past}
 use Rattle.calm_laws.specs.Carrying.{frame_of}
 use Rattle.calm_laws.proofs.Sorts.{effect_sort, no_answers, op_of, result_sort}
 use Rattle.schedule_lines.specs.declared.line.ScheduleLine.{ScheduleLine}

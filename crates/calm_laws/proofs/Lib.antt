@@ -63,7 +63,12 @@ pub mod CalmAnswerEarlyTaken
 pub mod CalmAnswerReports
 pub mod CalmAnswerAnswered
 pub mod CalmAnswerOperationFacts
-pub use Rattle.fit_laws.proofs as of_fit_laws
-pub use Rattle.fit_laws.proofs.of_rest_laws as of_rest_laws
-pub use Rattle.orderly_laws.proofs as of_orderly_laws
-pub use Rattle.orderly_traces.proofs as of_orderly_traces
+pub mod SentCalm
+pub mod Pulls
+pub mod TablesCalm
+pub mod Convergence
+pub use Rattle.rest_laws.proofs as of_rest_laws
+pub use Rattle.row_laws.proofs as of_row_laws
+pub use Rattle.store_laws.proofs as of_store_laws
+pub use Rattle.store_laws.proofs.of_tree_laws as of_tree_laws
+pub use Rattle.site_laws.proofs as of_site_laws

@@ -16,9 +16,9 @@ use Rattle.the_run.specs.Steps.{step}
 use Rattle.the_run.specs.Worlds.{World, links_of, script_of, puts, arms, passed, stops_with, disk_of, acts}
 use Rattle.the_run.proofs.Events.{acts_keeps}
 use Rattle.the_run.proofs.Runs.{run_from_keeps}
-use Rattle.orderly_traces.specs.of_row_laws.Voids.{LinesFit}
-use Rattle.orderly_laws.proofs.Blocks.{happened_within}
-use Rattle.orderly_traces.proofs.Spans.{world, span, whole_run}
+use Rattle.row_laws.specs.Voids.{LinesFit}
+use Rattle.row_laws.proofs.Orderly.Blocks.{happened_within}
+use Rattle.row_laws.proofs.OrderlyRows.Spans.{world, span, whole_run}
 
 -- ---- limits ----
 

@@ -16,11 +16,11 @@ use Rattle.wire_messages.specs.declared.body.LookAnswer.TheVariants as looked
 use Rattle.role_steps.specs.Requests.{waiting_key, request_packets}
 use Rattle.role_steps.specs.Using.{answers_what, asks_take, content_answer, with_brought, looks_again, takes_look, on_look_done, on_look_done_of}
 use Rattle.tree_laws.specs.Stores.{Ascends}
-use Rattle.calm_sent_laws.specs.of_user_laws.Leaving.{AreApart}
+use Rattle.store_laws.specs.Users.Leaving.{AreApart}
 use Rattle.std.proofs.lemmas.Bool.Decides.{nat_tests}
 use Rattle.role_steps.proofs.of_plain_facts.Numbers.{apart, equal, equal_test}
 use Rattle.role_steps.proofs.of_plain_facts.Tests.{both_true}
-use Rattle.calm_sent_laws.specs.of_one_tree_laws.Places.{InsideFact}
+use Rattle.store_laws.specs.OneTree.Places.{InsideFact}
 use Rattle.role_steps.specs.Views.{Frame, Users, SiteView}
 use Rattle.role_steps.specs.declared.rounds.InEpoch.{InEpoch}
 use Rattle.role_steps.specs.declared.users.Asking.{Asking}
@@ -28,8 +28,8 @@ use Rattle.role_steps.specs.declared.users.Asking.TheVariants as asking
 use Rattle.role_steps.specs.declared.users.WaitingCall.{WaitingCall}
 use Rattle.the_run.specs.Kept.{Among}
 use Rattle.the_run.specs.Steps.{takes_inside}
-use Rattle.epoch_laws.specs.Forming.{FormsNone}
-use Rattle.epoch_laws.specs.Known.{Places}
+use Rattle.run_laws.specs.Epochs.Forming.{FormsNone}
+use Rattle.run_laws.specs.Epochs.Known.{Places}
 use Rattle.tree_laws.specs.Users.{own_call}
 use Rattle.calm_laws.specs.Carrying.{frame_of, look_body, CarriesLook, AnswersLook, Carries}
 use Rattle.calm_laws.specs.Rounds.{CarriesOn, IsLookDone}

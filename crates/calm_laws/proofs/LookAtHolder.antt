@@ -26,8 +26,8 @@ use Rattle.role_steps.specs.declared.users.WaitingCall.{WaitingCall}
 use Rattle.the_run.specs.Kept.{Among}
 use Rattle.the_run.specs.Steps.{takes_inside}
 use Rattle.the_run.specs.Worlds.{place_at}
-use Rattle.epoch_laws.specs.Forming.{FormsNone}
-use Rattle.epoch_laws.specs.Known.{Places}
+use Rattle.run_laws.specs.Epochs.Forming.{FormsNone}
+use Rattle.run_laws.specs.Epochs.Known.{Places}
 use Rattle.calm_laws.specs.Carrying.{IsMember, frame_of, Goes, look_body, IsServedByHolders, PassesLook, CarriesLook, Carries}
 use Rattle.calm_laws.specs.Rounds.{CarriesOn, IsLookSs}
 use Rattle.calm_laws.proofs.Ends.{handles}

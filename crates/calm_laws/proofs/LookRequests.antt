@@ -40,14 +40,14 @@ use Rattle.the_run.specs.Kept.{Among}
 use Rattle.the_run.specs.Steps.{at_table_of, takes_inside}
 use Rattle.the_run.specs.Worlds.{World, Running, place_at}
 use Rattle.the_run.proofs.InsideSync.{Found}
-use Rattle.calm_table_laws.proofs.of_pack_laws.Sets.{chosen}
-use Rattle.epoch_laws.specs.Forming.{FormsNone}
-use Rattle.epoch_laws.specs.Known.{Places}
-use Rattle.calm_sent_laws.specs.of_one_tree_laws.Places.{InsideFact}
-use Rattle.calm_sent_laws.proofs.of_one_tree_laws.Parts.{tables_rise}
-use Rattle.calm_sent_laws.proofs.of_one_tree_laws.Rising.{Rising, row_key}
-use Rattle.orderly_laws.specs.Calm.{AreTogether}
-use Rattle.orderly_laws.proofs.Formed.{among_left, among_right}
+use Rattle.site_laws.proofs.Packs.Sets.{chosen}
+use Rattle.run_laws.specs.Epochs.Forming.{FormsNone}
+use Rattle.run_laws.specs.Epochs.Known.{Places}
+use Rattle.store_laws.specs.OneTree.Places.{InsideFact}
+use Rattle.store_laws.proofs.OneTree.Parts.{tables_rise}
+use Rattle.store_laws.proofs.OneTree.Rising.{Rising, row_key}
+use Rattle.row_laws.specs.Orderly.Calm.{AreTogether}
+use Rattle.row_laws.proofs.Orderly.Formed.{among_left, among_right}
 use Rattle.role_steps.specs.Epochs.{frame_in}
 use Rattle.calm_laws.specs.Carrying.{IsMember, frame_of, Goes, held_request, look_body, IsServedByHolders, PassesLook, AnswersLook, CarriesLook, Carries, IsHeld}
 use Rattle.calm_laws.specs.Rounds.{IsInRound, CarriesOn, IsLook, look_of, KnowsLook, LooksAreKnown}

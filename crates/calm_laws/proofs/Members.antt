@@ -13,9 +13,9 @@ use Rattle.the_run.specs.Kept.{Among}
 use Rattle.the_run.specs.Runs.{can_come, next_packet_of, next_packet}
 use Rattle.the_run.specs.Worlds.{World, Limit, Numbered, boot_of, is_cut, is_up}
 use Rattle.the_run.proofs.Boots.{at_each}
-use Rattle.orderly_laws.specs.Calm.{IsInside, AreTogether}
-use Rattle.orderly_laws.specs.Settling.{boot_at}
-use Rattle.orderly_laws.proofs.Places.{is_up_linked}
+use Rattle.row_laws.specs.Orderly.Calm.{IsInside, AreTogether}
+use Rattle.row_laws.specs.Orderly.Settling.{boot_at}
+use Rattle.row_laws.proofs.Orderly.Places.{is_up_linked}
 use Rattle.calm_laws.specs.Carrying.{IsMember, Goes}
 use Rattle.calm_laws.specs.Calming.{ReachThemselves}
 use Rattle.calm_laws.proofs.Lists.{none_passes, first_passes}

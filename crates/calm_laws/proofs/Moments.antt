@@ -15,9 +15,9 @@ use Rattle.lawful_trace.specs.Calm.{IsMoment, tells_budget}
 use Rattle.the_run.specs.Runs.{arrives, next_packet, goes_round, budget_ends, ends_round, delivers}
 use Rattle.the_run.specs.Worlds.{World, Limit, Numbered, Line, told_onto, happened, puts, arms, passed, stops_with, acts}
 use Rattle.the_run.proofs.Events.{happened_keeps, acts_keeps, onto_front}
-use Rattle.orderly_traces.specs.of_row_laws.Shown.{shown, with_told, trace_of}
-use Rattle.orderly_laws.specs.Calm.{delivers_next, delivered}
-use Rattle.orderly_laws.proofs.Rounds.{RoundKept, happened_cases}
+use Rattle.row_laws.specs.Shown.{shown, with_told, trace_of}
+use Rattle.row_laws.specs.Orderly.Calm.{delivers_next, delivered}
+use Rattle.row_laws.proofs.Orderly.Rounds.{RoundKept, happened_cases}
 
 -- ---- what a round leaves ----
 

@@ -26,14 +26,14 @@ use Rattle.role_steps.specs.declared.users.WaitingCall.{WaitingCall}
 use Rattle.the_run.specs.Kept.{Among}
 use Rattle.the_run.specs.Steps.{takes_inside}
 use Rattle.the_run.specs.Worlds.{Line}
-use Rattle.epoch_laws.specs.Forming.{FormsNone}
-use Rattle.epoch_laws.specs.Known.{Places}
+use Rattle.run_laws.specs.Epochs.Forming.{FormsNone}
+use Rattle.run_laws.specs.Epochs.Known.{Places}
 use Rattle.tree_laws.specs.Calls.{is_request}
 use Rattle.tree_laws.specs.Packets.{serial_of}
 use Rattle.tree_laws.specs.Serials.{asked_now}
 use Rattle.tree_laws.specs.Following.{IsFollowed}
 use Rattle.tree_laws.specs.Users.{own_call, AskingIs, WaitingFact}
-use Rattle.calm_sent_laws.proofs.of_store_laws.AnswerAskers.{op_had, one_has}
+use Rattle.store_laws.proofs.AnswerAskers.{op_had, one_has}
 use Rattle.calm_laws.specs.Carrying.{frame_of, CarriesOp, AnswersOp, AnswersHeld, Carries}
 use Rattle.calm_laws.specs.Rounds.{CarriesOn, IsOpDone}
 use Rattle.calm_laws.proofs.AnswerRows.{HasTaken, AnswerHandler, answer_row, waiting_fact}

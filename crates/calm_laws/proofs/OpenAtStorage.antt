@@ -48,20 +48,20 @@ use Rattle.tree_laws.specs.Tables as tables
 use Rattle.tree_laws.proofs.CarriedLooks.{one_want}
 use Rattle.tree_laws.proofs.Making.{IsAskedAt, begun_asked, one_group}
 use Rattle.tree_laws.proofs.Serials.{one_open, unnamed}
-use Rattle.calm_sent_laws.proofs.of_holding_laws.Released.{released_named}
-use Rattle.calm_sent_laws.proofs.of_store_laws.Begun.{granted_named}
-use Rattle.calm_sent_laws.proofs.of_store_laws.Numbers.{serial_key_eq}
-use Rattle.calm_sent_laws.proofs.of_store_laws.Places.{open_is}
-use Rattle.calm_sent_laws.proofs.of_store_laws.Tabled.{row_found}
-use Rattle.fit_laws.proofs.of_rest_laws.StoreStepResting.{store_rests}
-use Rattle.fit_laws.proofs.of_rest_laws.TableShutting.{shut_file}
-use Rattle.calm_sent_laws.specs.of_one_tree_laws.Places.{InsideFact}
-use Rattle.calm_sent_laws.specs.of_one_tree_laws.Rest.{Past}
-use Rattle.calm_sent_laws.specs.of_one_tree_laws.Roles.{TableHere}
-use Rattle.calm_sent_laws.proofs.of_one_tree_laws.Inside.{table_here}
-use Rattle.calm_sent_laws.proofs.of_one_tree_laws.Rising.{first_among}
-use Rattle.epoch_laws.specs.Forming.{FormsNone}
-use Rattle.epoch_laws.specs.Known.{Places}
+use Rattle.store_laws.proofs.Holdings.Released.{released_named}
+use Rattle.store_laws.proofs.Begun.{granted_named}
+use Rattle.store_laws.proofs.Numbers.{serial_key_eq}
+use Rattle.store_laws.proofs.Places.{open_is}
+use Rattle.store_laws.proofs.Tabled.{row_found}
+use Rattle.rest_laws.proofs.StoreStepResting.{store_rests}
+use Rattle.rest_laws.proofs.TableShutting.{shut_file}
+use Rattle.store_laws.specs.OneTree.Places.{InsideFact}
+use Rattle.store_laws.specs.OneTree.Rest.{Past}
+use Rattle.store_laws.specs.OneTree.Roles.{TableHere}
+use Rattle.store_laws.proofs.OneTree.Inside.{table_here}
+use Rattle.store_laws.proofs.OneTree.Rising.{first_among}
+use Rattle.run_laws.specs.Epochs.Forming.{FormsNone}
+use Rattle.run_laws.specs.Epochs.Known.{Places}
 use Rattle.calm_laws.specs.Carrying.{IsMember, frame_of, Goes, IsAsked, own_serial, opening_body, open_body, CarriesOpen, Carries}
 use Rattle.calm_laws.specs.Rounds.{CarriesOn, IsOpenSs}
 use Rattle.calm_laws.proofs.Carriers.{of_kind, MayCarry, carrier_kind}

@@ -41,13 +41,13 @@ use Rattle.role_steps.specs.declared.users.WaitingCall.{WaitingCall}
 use Rattle.the_run.specs.Kept.{Among}
 use Rattle.the_run.specs.Steps.{at_store, from_user, group_of, takes_inside}
 use Rattle.the_run.specs.Worlds.{Line, place_at, World, Running}
-use Rattle.epoch_laws.specs.Forming.{FormsNone}
-use Rattle.epoch_laws.specs.Known.{Places}
-use Rattle.calm_sent_laws.proofs.of_store_laws.Tabled.{latest_same, row_found}
+use Rattle.run_laws.specs.Epochs.Forming.{FormsNone}
+use Rattle.run_laws.specs.Epochs.Known.{Places}
+use Rattle.store_laws.proofs.Tabled.{latest_same, row_found}
 use Rattle.tree_laws.specs.Packets.{OpFact, OpsNow, PacketFact, serial_of}
 use Rattle.tree_laws.specs.Past.{ActRecord, EndRecord, Printed, WasBegun, WasDone, WasNamed, WasReleased, WasReleasedWith}
-use Rattle.calm_sent_laws.specs.of_one_tree_laws.Places.{InsideFact}
-use Rattle.calm_sent_laws.specs.of_one_tree_laws.Rest.{Past}
+use Rattle.store_laws.specs.OneTree.Places.{InsideFact}
+use Rattle.store_laws.specs.OneTree.Rest.{Past}
 use Rattle.calm_laws.specs.Carrying.{frame_of, Goes, IsUnended, own_serial, AnswersHeld, AnswersOp, CarriesOp, Carries, IsMember}
 use Rattle.calm_laws.specs.Rounds.{CarriesOn, IsOp, IsInRound}
 use Rattle.role_steps.specs.Own.{Every}
@@ -74,17 +74,17 @@ use Rattle.tree_laws.proofs.Alone.{asking as asking_now}
 use Rattle.tree_laws.proofs.Awaiting.{IsHeldBy, all_have, held_named}
 use Rattle.tree_laws.proofs.Grants.{open_named}
 use Rattle.tree_laws.proofs.OneBoot.{boot_where_inside, one_boot}
-use Rattle.fit_laws.specs.of_order_laws.ProcessOperations.{OpsAre}
-use Rattle.fit_laws.proofs.of_order_laws.ProcessGranting.{GrantIs, granted_is, held_us}
-use Rattle.fit_laws.proofs.of_order_laws.ProcessOperationsRun.{operations_counted}
-use Rattle.fit_laws.proofs.of_order_laws.ProcessTaken.{back_in}
-use Rattle.fit_laws.proofs.of_order_laws.ProcessUnreleased.{unreleased}
-use Rattle.calm_sent_laws.proofs.of_store_laws.AnswerAskers.{Rests, close_had, one_has, op_had, rests_or_clear}
-use Rattle.calm_sent_laws.proofs.of_store_laws.AnswerDone.{act_next, done_low, done_named}
-use Rattle.calm_sent_laws.proofs.of_holding_laws.Released.{released_shut}
-use Rattle.calm_table_laws.specs.of_lock_laws.Asked.{AskedBegun}
-use Rattle.orderly_laws.specs.Calm.{IsInside, AreTogether}
-use Rattle.orderly_laws.proofs.Places.{view_eq}
+use Rattle.rest_laws.specs.of_tree_laws.Orders.ProcessOperations.{OpsAre}
+use Rattle.rest_laws.proofs.of_tree_laws.Orders.ProcessGranting.{GrantIs, granted_is, held_us}
+use Rattle.rest_laws.proofs.of_tree_laws.Orders.ProcessOperationsRun.{operations_counted}
+use Rattle.rest_laws.proofs.of_tree_laws.Orders.ProcessTaken.{back_in}
+use Rattle.rest_laws.proofs.of_tree_laws.Orders.ProcessUnreleased.{unreleased}
+use Rattle.store_laws.proofs.AnswerAskers.{Rests, close_had, one_has, op_had, rests_or_clear}
+use Rattle.store_laws.proofs.AnswerDone.{act_next, done_low, done_named}
+use Rattle.store_laws.proofs.Holdings.Released.{released_shut}
+use Rattle.site_laws.specs.Locks.Asked.{AskedBegun}
+use Rattle.row_laws.specs.Orderly.Calm.{IsInside, AreTogether}
+use Rattle.row_laws.proofs.Orderly.Places.{view_eq}
 use Rattle.calm_laws.proofs.Asked.{Uses, op_number, op_wanted, uses_op}
 use Rattle.calm_laws.proofs.Begun.{asked_here, round_begun}
 use Rattle.calm_laws.proofs.CloseAgreed.{member_low, past_of, same_instance}

@@ -31,15 +31,15 @@ use Rattle.role_steps.specs.declared.users.WaitingCall.{WaitingCall}
 use Rattle.the_run.specs.Kept.{Among}
 use Rattle.the_run.specs.Steps.{is_dropped, at_table_of, adopts_of, takes, takes_framed, takes_inside, tries_at, starts_mends_of, ends_event, whole, step}
 use Rattle.the_run.specs.Worlds.{World, place_at}
-use Rattle.epoch_laws.specs.Forming.{FormsNone}
-use Rattle.epoch_laws.specs.Known.{Good, ViewFact}
-use Rattle.epoch_laws.proofs.Handlers.{leaves_of_epoch}
-use Rattle.epoch_laws.proofs.Run.{good_kept, first_good}
-use Rattle.calm_sent_laws.specs.of_one_tree_laws.Places.{InsideFact}
-use Rattle.calm_sent_laws.proofs.of_one_tree_laws.Parts.{tables_rise}
-use Rattle.calm_sent_laws.proofs.of_one_tree_laws.Rising.{Rising, row_key, among_map, every_among}
-use Rattle.orderly_laws.specs.Calm.{IsInside}
-use Rattle.orderly_laws.proofs.Places.{view_eq}
+use Rattle.run_laws.specs.Epochs.Forming.{FormsNone}
+use Rattle.run_laws.specs.Epochs.Known.{Good, ViewFact}
+use Rattle.run_laws.proofs.Epochs.Handlers.{leaves_of_epoch}
+use Rattle.run_laws.proofs.Epochs.Run.{good_kept, first_good}
+use Rattle.store_laws.specs.OneTree.Places.{InsideFact}
+use Rattle.store_laws.proofs.OneTree.Parts.{tables_rise}
+use Rattle.store_laws.proofs.OneTree.Rising.{Rising, row_key, among_map, every_among}
+use Rattle.row_laws.specs.Orderly.Calm.{IsInside}
+use Rattle.row_laws.proofs.Orderly.Places.{view_eq}
 use Rattle.calm_laws.specs.Carrying.{frame_of}
 use Rattle.calm_laws.specs.Rounds.{CarriesOn, IsOther}
 use Rattle.calm_laws.proofs.AnswerRows.{inside_fact}

@@ -28,9 +28,9 @@ use Rattle.tree_laws.specs.Doing.{FrameFact}
 use Rattle.tree_laws.specs.Instances.{IsOpening}
 use Rattle.tree_laws.specs.Printed.{entries}
 use Rattle.tree_laws.specs.Users.{own_call, AskingIs, WaitingFact}
-use Rattle.fit_laws.proofs.of_order_laws.ProcessSynchronizing.{sync_same}
-use Rattle.orderly_laws.specs.Calm.{IsInside}
-use Rattle.orderly_laws.proofs.Places.{view_eq}
+use Rattle.rest_laws.proofs.of_tree_laws.Orders.ProcessSynchronizing.{sync_same}
+use Rattle.row_laws.specs.Orderly.Calm.{IsInside}
+use Rattle.row_laws.proofs.Orderly.Places.{view_eq}
 use Rattle.calm_laws.specs.Rounds.{GoesToMember, IsStoredAtMember}
 use Rattle.calm_laws.proofs.AnswerRows.{inside_fact, waiting_fact}
 use Rattle.calm_laws.proofs.Facts.{RoundFacts, round_facts}

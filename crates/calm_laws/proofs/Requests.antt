@@ -11,7 +11,7 @@ use Rattle.role_steps.specs.declared.users.Asking.{Asking}
 use Rattle.role_steps.specs.declared.users.Asking.TheVariants as asking
 use Rattle.role_steps.specs.declared.users.WaitingCall.{WaitingCall}
 use Rattle.the_run.specs.Kept.{Among}
-use Rattle.epoch_laws.specs.Known.{Places}
+use Rattle.run_laws.specs.Epochs.Known.{Places}
 use Rattle.calm_laws.specs.Carrying.{IsMember, frame_of, look_body, open_body, Carries}
 use Rattle.calm_laws.specs.Rounds.{GoesToMember}
 use Rattle.calm_laws.proofs.Members.{sync_is}

@@ -8,8 +8,8 @@ use Rattle.the_run.specs.Runs.{next_packet, ticks_to, run_in}
 use Rattle.the_run.specs.Worlds.{World, Numbered, first_world}
 use Rattle.the_run.proofs.Runs.{every_run}
 use Rattle.lawful_trace.specs.Places.{lines_before}
-use Rattle.orderly_laws.specs.Calm.{delivers_next, delivered}
-use Rattle.orderly_laws.proofs.Rounds.{RoundKept, arrives_kept, next_among, ticks_kept}
+use Rattle.row_laws.specs.Orderly.Calm.{delivers_next, delivered}
+use Rattle.row_laws.proofs.Orderly.Rounds.{RoundKept, arrives_kept, next_among, ticks_kept}
 use Rattle.calm_laws.specs.Rounds.{IsInRound}
 
 -- what each event keeps, each of a round does

@@ -19,14 +19,14 @@ use Rattle.the_run.specs.Runs.{arrives}
 use Rattle.the_run.specs.Steps.{is_dropped, tries_at, whole, step}
 use Rattle.the_run.specs.Worlds.{World, Place, Running, Stopped, Numbered, place_at, links_of, passed, acts}
 use Rattle.the_run.proofs.Boots.{at_each}
-use Rattle.epoch_laws.specs.Forming.{FormsNone}
-use Rattle.epoch_laws.specs.Known.{Places, Good}
-use Rattle.epoch_laws.proofs.Run.{good_kept, first_good}
-use Rattle.orderly_laws.specs.Calm.{IsInside, AreTogether}
-use Rattle.orderly_laws.specs.Numbers.{NumbersAscend}
-use Rattle.orderly_laws.proofs.Numbers.{ascend_kept, first_ascends}
-use Rattle.orderly_laws.proofs.Places.{view_eq}
-use Rattle.orderly_laws.proofs.Rounds.{next_among}
+use Rattle.run_laws.specs.Epochs.Forming.{FormsNone}
+use Rattle.run_laws.specs.Epochs.Known.{Places, Good}
+use Rattle.run_laws.proofs.Epochs.Run.{good_kept, first_good}
+use Rattle.row_laws.specs.Orderly.Calm.{IsInside, AreTogether}
+use Rattle.row_laws.specs.Orderly.Numbers.{NumbersAscend}
+use Rattle.row_laws.proofs.Orderly.Numbers.{ascend_kept, first_ascends}
+use Rattle.row_laws.proofs.Orderly.Places.{view_eq}
+use Rattle.row_laws.proofs.Orderly.Rounds.{next_among}
 use Rattle.calm_laws.specs.Carrying.{IsMember, frame_of, Goes, Carries, IsAllCarried}
 use Rattle.calm_laws.specs.Rounds.{IsInRound, RequestsGoToMembers, Delivery}
 use Rattle.calm_laws.proofs.Calls.{IsSent}

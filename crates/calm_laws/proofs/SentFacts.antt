@@ -41,21 +41,21 @@ use Rattle.tree_laws.specs.Past.{EndRecord, Printed, ShutsIt, WasBegun, WasGrant
 use Rattle.tree_laws.specs.Tables.{AskedFact, RowFact, StageFact}
 use Rattle.tree_laws.proofs.Names.{same_serial_eq, same_serial_own}
 use Rattle.tree_laws.proofs.Serials.{unnamed}
-use Rattle.calm_sent_laws.proofs.of_store_laws.Begun.{begun_one, granted_named}
-use Rattle.calm_sent_laws.proofs.of_store_laws.Numbers.{serial_key_eq}
-use Rattle.calm_sent_laws.proofs.of_store_laws.Places.{GrantedSo, granted_once, instance_granted}
-use Rattle.calm_sent_laws.proofs.of_sync_laws.Answering.{one_answer}
-use Rattle.fit_laws.proofs.of_rest_laws.StoreStepResting.{store_rests}
-use Rattle.calm_sent_laws.specs.of_one_tree_laws.Places.{InsideFact}
-use Rattle.calm_sent_laws.specs.of_one_tree_laws.Rest.{Past}
-use Rattle.calm_sent_laws.proofs.of_one_tree_laws.Inside.{table_here}
-use Rattle.calm_sent_laws.proofs.of_one_tree_laws.Parts.{synced_one, tables_rise}
-use Rattle.calm_sent_laws.proofs.of_one_tree_laws.Rising.{Rising, row_key, every_among}
-use Rattle.orderly_laws.specs.Calm.{AreTogether, IsInside}
-use Rattle.orderly_laws.proofs.Places.{view_eq}
-use Rattle.calm_sent_laws.specs.Standing.{AskedStands, BodyStands, ClosesThere, HasGrant, HasReport, IsGranted, IsGrantedStage, IsReported}
-use Rattle.calm_sent_laws.proofs.Run.{Both, both_kept, first_both, instances_stand_in, packets_stand_in, reports_stand_in}
-use Rattle.calm_sent_laws.proofs.Views.{rising_found}
+use Rattle.store_laws.proofs.Begun.{begun_one, granted_named}
+use Rattle.store_laws.proofs.Numbers.{serial_key_eq}
+use Rattle.store_laws.proofs.Places.{GrantedSo, granted_once, instance_granted}
+use Rattle.tree_laws.proofs.Syncs.Answering.{one_answer}
+use Rattle.rest_laws.proofs.StoreStepResting.{store_rests}
+use Rattle.store_laws.specs.OneTree.Places.{InsideFact}
+use Rattle.store_laws.specs.OneTree.Rest.{Past}
+use Rattle.store_laws.proofs.OneTree.Inside.{table_here}
+use Rattle.store_laws.proofs.OneTree.Parts.{synced_one, tables_rise}
+use Rattle.store_laws.proofs.OneTree.Rising.{Rising, row_key, every_among}
+use Rattle.row_laws.specs.Orderly.Calm.{AreTogether, IsInside}
+use Rattle.row_laws.proofs.Orderly.Places.{view_eq}
+use Rattle.calm_laws.specs.SentCalm.Standing.{AskedStands, BodyStands, ClosesThere, HasGrant, HasReport, IsGranted, IsGrantedStage, IsReported}
+use Rattle.calm_laws.proofs.SentCalm.Run.{Both, both_kept, first_both, instances_stand_in, packets_stand_in, reports_stand_in}
+use Rattle.calm_laws.proofs.SentCalm.Views.{rising_found}
 use Rattle.calm_laws.specs.Carrying.{IsMember, HasReported, frame_of, own_serial}
 use Rattle.calm_laws.specs.Rounds.{ClosesAreGranted, IsInRound, ReportsAreKnown}
 use Rattle.calm_laws.proofs.Begun.{Begun, begun_of, begun_low}

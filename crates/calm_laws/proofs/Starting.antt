@@ -42,7 +42,7 @@ use Rattle.std.specs.List.{list_any, list_all}
 use Rattle.std.proofs.lemmas.Nat.Bits.{bit_at-zero}
 use Rattle.std.proofs.Common.{◌-◌}
 use Rattle.role_steps.proofs.of_plain_facts.Tests.{true_false}
-use Rattle.calm_table_laws.proofs.of_lock_laws.GrantSites.{is_synced}
+use Rattle.site_laws.proofs.Locks.GrantSites.{is_synced}
 use Rattle.role_steps.specs.Reports.{on_report}
 
 -- ---- a table keeps what it waits for ----

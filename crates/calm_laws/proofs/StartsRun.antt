@@ -15,7 +15,7 @@ use Rattle.the_run.specs.Steps.{step}
 use Rattle.the_run.specs.Worlds.{World, Running, Stopped, links_of, place_at, script_of, happened, disk_of, puts, arms, passed, cut_told, stops_with, cause_of, acts, fresh, first_world}
 use Rattle.the_run.proofs.Boots.{at_each, acts_cases}
 use Rattle.the_run.proofs.Events.{happened_keeps, puts_other, puts_same}
-use Rattle.run_laws.proofs.of_law_walks.FirstWorld.{first_views}
+use Rattle.run_laws.proofs.Walks.FirstWorld.{first_views}
 use Rattle.calm_laws.specs.Calming.{GroupsStartInTime}
 use Rattle.calm_laws.specs.Rounds.{IsInRound}
 use Rattle.calm_laws.proofs.Rounds.{in_round}

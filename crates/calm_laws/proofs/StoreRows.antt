@@ -25,9 +25,9 @@ use Rattle.the_run.specs.Runs.{arrives}
 use Rattle.the_run.specs.Steps.{is_opened_in, at_store}
 use Rattle.the_run.specs.Worlds.{World, Running, Numbered, place_at}
 use Rattle.the_run.proofs.Boots.{at_each}
-use Rattle.epoch_laws.specs.Forming.{FormsNone}
-use Rattle.epoch_laws.specs.Known.{Places}
-use Rattle.orderly_laws.proofs.Places.{view_eq}
+use Rattle.run_laws.specs.Epochs.Forming.{FormsNone}
+use Rattle.run_laws.specs.Epochs.Known.{Places}
+use Rattle.row_laws.proofs.Orderly.Places.{view_eq}
 use Rattle.calm_laws.specs.Carrying.{IsMember, frame_of, Goes, Holds, IsAsked, IsUnended, HasUnended, held_request, look_body, open_body, own_serial, CarriesOpen, CarriesClose, Carries, IsHeld, HasReported, IsAllCarried}
 use Rattle.calm_laws.specs.Rounds.{RequestsGoToMembers, Delivery}
 use Rattle.calm_laws.proofs.Calls.{IsSent}

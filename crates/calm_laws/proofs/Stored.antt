@@ -13,16 +13,16 @@ use Rattle.role_steps.specs.declared.users.Asking.{Asking}
 use Rattle.role_steps.specs.declared.users.Asking.TheVariants as asking
 use Rattle.the_run.specs.Worlds.{World, place_at}
 use Rattle.tree_model.specs.Packs as tree
-use Rattle.fit_laws.proofs.of_rest_laws.EpochTreeStarting.{member_same}
+use Rattle.rest_laws.proofs.EpochTreeStarting.{member_same}
 use Rattle.tree_laws.specs.Doing.{FrameFact}
 use Rattle.tree_laws.specs.Past.{WasBegun}
 use Rattle.tree_laws.specs.Printed.{entries}
-use Rattle.calm_table_laws.specs.of_lock_laws.Asked.{AskedBegun, IsBegun}
-use Rattle.fit_laws.proofs.of_rest_laws.EpochTreeMembers.{Joined, joined_as}
-use Rattle.fit_laws.proofs.of_rest_laws.EpochTreeStarted.{begun_joined}
-use Rattle.calm_sent_laws.specs.of_one_tree_laws.Rest.{Past}
-use Rattle.orderly_laws.specs.Calm.{IsInside, AreTogether}
-use Rattle.orderly_laws.proofs.Places.{view_eq}
+use Rattle.site_laws.specs.Locks.Asked.{AskedBegun, IsBegun}
+use Rattle.rest_laws.proofs.EpochTreeMembers.{Joined, joined_as}
+use Rattle.rest_laws.proofs.EpochTreeStarted.{begun_joined}
+use Rattle.store_laws.specs.OneTree.Rest.{Past}
+use Rattle.row_laws.specs.Orderly.Calm.{IsInside, AreTogether}
+use Rattle.row_laws.proofs.Orderly.Places.{view_eq}
 use Rattle.calm_laws.specs.Carrying.{IsMember, own_serial}
 use Rattle.calm_laws.specs.Rounds.{IsInRound, IsStoredAtMember, StorageIsMember}
 use Rattle.calm_laws.proofs.AnswerRows.{inside_fact}

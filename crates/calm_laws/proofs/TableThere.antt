@@ -15,7 +15,7 @@ use Rattle.role_steps.specs.declared.rounds.InEpoch.{InEpoch}
 use Rattle.role_steps.specs.declared.synchronizing.SyncTable.{SyncTable}
 use Rattle.the_run.specs.Kept.{Among}
 use Rattle.the_run.specs.Worlds.{Line}
-use Rattle.calm_sent_laws.specs.of_one_tree_laws.Places.{InsideFact}
+use Rattle.store_laws.specs.OneTree.Places.{InsideFact}
 use Rattle.calm_laws.proofs.Members.{sync_is}
 
 -- ---- lists ----

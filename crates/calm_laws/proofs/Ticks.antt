@@ -20,15 +20,15 @@ use Rattle.the_run.specs.Steps.{in_order, adopts_in, repeats_inside, repeats_of,
 use Rattle.the_run.specs.Worlds.{World, Place, Running, Stopped, Numbered, place_at, links_of, acts, happens, happens_at}
 use Rattle.the_run.proofs.Boots.{at_each}
 use Rattle.the_run.proofs.Growing.{acts_touches}
-use Rattle.epoch_laws.specs.Forming.{TableFormless, FormlessSite}
-use Rattle.epoch_laws.specs.Known.{Good}
-use Rattle.epoch_laws.proofs.Run.{good_kept}
-use Rattle.epoch_laws.proofs.Forms.{adopts_of_formless}
-use Rattle.orderly_laws.specs.Calm.{IsInside}
-use Rattle.orderly_laws.proofs.Blocks.{happened_within}
-use Rattle.orderly_laws.proofs.Formed.{among_left, among_right, order_has}
-use Rattle.orderly_laws.proofs.Places.{view_eq}
-use Rattle.orderly_laws.proofs.Rounds.{RoundKept, ticks_kept}
+use Rattle.run_laws.specs.Epochs.Forming.{TableFormless, FormlessSite}
+use Rattle.run_laws.specs.Epochs.Known.{Good}
+use Rattle.run_laws.proofs.Epochs.Run.{good_kept}
+use Rattle.run_laws.proofs.Epochs.Forms.{adopts_of_formless}
+use Rattle.row_laws.specs.Orderly.Calm.{IsInside}
+use Rattle.row_laws.proofs.Orderly.Blocks.{happened_within}
+use Rattle.row_laws.proofs.Orderly.Formed.{among_left, among_right, order_has}
+use Rattle.row_laws.proofs.Orderly.Places.{view_eq}
+use Rattle.row_laws.proofs.Orderly.Rounds.{RoundKept, ticks_kept}
 use Rattle.role_steps.specs.Own.{Every}
 use Rattle.calm_laws.specs.Carrying.{IsMember, frame_of}
 use Rattle.calm_laws.proofs.Calls.{IsSent, OnlyCalls}

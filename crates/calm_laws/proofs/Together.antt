@@ -24,14 +24,14 @@ use Rattle.the_run.specs.Worlds.{World, Place, Running, Stopped, Line, CutCircui
 use Rattle.the_run.proofs.Growing.{run_grows}
 use Rattle.the_run.proofs.OneList.{one_list, epochs_joined}
 use Rattle.run_laws.specs.Standing.{Standing, standing}
-use Rattle.orderly_traces.specs.of_row_laws.Shown.{trace_of}
-use Rattle.orderly_traces.proofs.of_row_laws.AskedRun.{run_courses}
-use Rattle.orderly_traces.proofs.of_row_laws.Causes.{epoch_standing}
-use Rattle.orderly_traces.proofs.of_row_laws.SitesGoOn.{listed_before}
-use Rattle.orderly_laws.specs.Calm.{IsInside, AreTogether}
-use Rattle.orderly_traces.specs.Fits.{FitsCluster}
-use Rattle.orderly_traces.proofs.Circuits.{cut_is}
-use Rattle.orderly_traces.proofs.Reached.{running_boot}
+use Rattle.row_laws.specs.Shown.{trace_of}
+use Rattle.row_laws.proofs.AskedRun.{run_courses}
+use Rattle.row_laws.proofs.Causes.{epoch_standing}
+use Rattle.row_laws.proofs.SitesGoOn.{listed_before}
+use Rattle.row_laws.specs.Orderly.Calm.{IsInside, AreTogether}
+use Rattle.row_laws.specs.OrderlyRows.Fits.{FitsCluster}
+use Rattle.row_laws.proofs.OrderlyRows.Circuits.{cut_is}
+use Rattle.row_laws.proofs.OrderlyRows.Reached.{running_boot}
 use Rattle.calm_laws.specs.Carrying.{IsMember}
 use Rattle.calm_laws.proofs.Placed.{Stands}
 use Rattle.calm_laws.proofs.Twins.{Twin}

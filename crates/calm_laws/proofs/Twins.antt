@@ -11,9 +11,9 @@ use Rattle.tree_model.specs.Folds.{Trace}
 use Rattle.the_run.specs.Runs.{arrives, next_packet, goes_round, budget_ends, ends_round, delivers, ticks_to, settles, run_in}
 use Rattle.the_run.specs.Worlds.{World, Numbered, place_at, first_world}
 use Rattle.the_run.proofs.Growing.{run_splits}
-use Rattle.orderly_traces.specs.of_row_laws.Shown.{trace_of}
-use Rattle.orderly_laws.specs.Calm.{delivers_next, delivered}
-use Rattle.orderly_laws.proofs.Rounds.{happened_cases}
+use Rattle.row_laws.specs.Shown.{trace_of}
+use Rattle.row_laws.specs.Orderly.Calm.{delivers_next, delivered}
+use Rattle.row_laws.proofs.Orderly.Rounds.{happened_cases}
 
 -- ---- a round of so many deliveries ----
 

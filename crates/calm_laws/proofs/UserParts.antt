@@ -34,7 +34,7 @@ use Rattle.calm_laws.proofs.AnswerRows.{HasTaken, AnswerHandler}
 use Rattle.calm_laws.proofs.Calls.{CallsAsk, IsSent, goes_calls}
 use Rattle.calm_laws.proofs.Ends.{handles}
 use Rattle.calm_laws.proofs.Keeping.{KeepsRoles, all_itself}
-use Rattle.epoch_laws.specs.Known.{Places}
+use Rattle.run_laws.specs.Epochs.Known.{Places}
 
 -- ---- an outcome of the using site ----
 

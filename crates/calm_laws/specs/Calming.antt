@@ -9,7 +9,7 @@ use Rattle.role_steps.specs.declared.rounds.InEpoch.{InEpoch}
 use Rattle.role_steps.specs.declared.synchronizing.SyncTable.{SyncTable}
 use Rattle.the_run.specs.Runs.{next_packet}
 use Rattle.the_run.specs.Worlds.{World, Running, place_at, is_cut}
-use Rattle.orderly_laws.specs.Calm.{AreTogether}
+use Rattle.row_laws.specs.Orderly.Calm.{AreTogether}
 use Rattle.calm_laws.specs.Carrying.{IsMember, IsAllCarried}
 
 -- a group that hasn't started lacks the report of some member

@@ -43,7 +43,7 @@ use Rattle.role_steps.specs.declared.users.WaitingCall.{WaitingCall}
 use Rattle.the_run.specs.Kept.{Among}
 use Rattle.the_run.specs.Steps.{is_opened_in}
 use Rattle.the_run.specs.Worlds.{World, Running, Numbered, place_at}
-use Rattle.epoch_laws.specs.Known.{Places}
+use Rattle.run_laws.specs.Epochs.Known.{Places}
 
 -- ---- members ----
 

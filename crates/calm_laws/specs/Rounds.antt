@@ -17,10 +17,10 @@ use Rattle.the_run.specs.Runs.{arrives, next_packet, ticks_to, run_in}
 use Rattle.the_run.specs.Steps.{is_dropped, is_opened_in}
 use Rattle.the_run.specs.Worlds.{World, Running, Numbered, place_at}
 use Rattle.lawful_trace.specs.Places.{line_at, lines_before}
-use Rattle.orderly_traces.specs.of_row_laws.Voids.{LinesFit}
-use Rattle.fit_laws.specs.of_order_laws.Joining.{PacksAreOfSites}
-use Rattle.orderly_laws.specs.Calm.{AreTogether, delivered}
-use Rattle.calm_sent_laws.specs.Standing.{IsGrantedStage}
+use Rattle.row_laws.specs.Voids.{LinesFit}
+use Rattle.rest_laws.specs.of_tree_laws.Orders.Joining.{PacksAreOfSites}
+use Rattle.row_laws.specs.Orderly.Calm.{AreTogether, delivered}
+use Rattle.calm_laws.specs.SentCalm.Standing.{IsGrantedStage}
 use Rattle.calm_laws.specs.Carrying.{IsMember, HasReported, IsAllCarried, Goes, own_serial, frame_of, look_body, held_request, PassesLook, AnswersLook}
 use Rattle.calm_laws.specs.Calming.{ReachThemselves, NobodyWaits}
 use Rattle.locus_ids.specs.declared.ids.Serial.{Serial}
@@ -30,7 +30,7 @@ use Rattle.role_steps.specs.Tables.{first_that, row}
 use Rattle.role_steps.specs.declared.synchronizing.OpenRow.{OpenRow}
 use Rattle.role_steps.specs.declared.synchronizing.OpenStage.TheVariants as stage
 use Rattle.role_steps.specs.declared.synchronizing.SyncTable.{SyncTable}
-use Rattle.epoch_laws.specs.Known.{Places}
+use Rattle.run_laws.specs.Epochs.Known.{Places}
 use Rattle.locus_ids.specs.declared.ids.FileId.{FileId}
 use Rattle.trace_book.specs.declared.operation.What.{What}
 use Rattle.role_steps.specs.Adoption.{table_group}

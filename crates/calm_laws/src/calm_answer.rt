@@ -6,9 +6,9 @@ ghost use Rattle.role_steps.specs.declared.rounds.InEpoch.{InEpoch};
 ghost use Rattle.the_run.specs.Runs.{run};
 ghost use Rattle.the_run.specs.Worlds.{World};
 ghost use Rattle.lawful_trace.specs.Calm.{CalmRoundsAnswer};
-ghost use Rattle.orderly_traces.specs.of_row_laws.Shown.{trace_of};
-ghost use Rattle.orderly_laws.specs.Calm.{AreTogether};
-ghost use Rattle.orderly_traces.specs.Agreeing.{IsWithin};
+ghost use Rattle.row_laws.specs.Shown.{trace_of};
+ghost use Rattle.row_laws.specs.Orderly.Calm.{AreTogether};
+ghost use Rattle.row_laws.specs.OrderlyRows.Agreeing.{IsWithin};
 ghost use Rattle.calm_laws.specs.Carrying.{IsAllCarried};
 ghost use Rattle.calm_laws.specs.Rounds.{CalmRoundsLeaveNobody, CarriesOn, IsCalm, IsInRound, IsOpen, IsReport, LooksAreKnown, after};
 

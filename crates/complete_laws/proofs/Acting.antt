@@ -22,39 +22,39 @@ use Rattle.role_steps.specs.declared.synchronizing.SyncTable.{SyncTable}
 use Rattle.the_run.specs.Steps.{is_dropped, step, takes, takes_framed}
 use Rattle.the_run.specs.Worlds.{World, Line, Running, links_of, place_at}
 use Rattle.tree_model.specs.Files.{HeldVersion}
-use Rattle.packet_format_laws.proofs.of_make_laws.Happening.{taken_boot, taken_epoch}
-use Rattle.packet_format_laws.specs.of_pack_laws.Packed.{BodyPacked, PacketPacked, PullPacked}
-use Rattle.packet_format_laws.proofs.of_pack_laws.PacksRun.{sent_packed}
+use Rattle.packet_laws.proofs.of_site_laws.Makes.Happening.{taken_boot, taken_epoch}
+use Rattle.packet_laws.specs.of_site_laws.Packs.Packed.{BodyPacked, PacketPacked, PullPacked}
+use Rattle.packet_laws.proofs.of_site_laws.Packs.PacksRun.{sent_packed}
 use Rattle.tree_laws.specs.Doing.{IsReceived}
 use Rattle.tree_laws.specs.Packets.{BodyFact, PacketFact}
-use Rattle.packet_format_laws.specs.of_one_tree_laws.Places.{InsideFact, SiteFact, SiteIn}
-use Rattle.packet_format_laws.specs.of_one_tree_laws.Rest.{Past}
-use Rattle.packet_format_laws.proofs.of_one_tree_laws.Rising.{every_among}
-use Rattle.packet_format_laws.proofs.of_one_tree_laws.Steps.{to_boot}
-use Rattle.packet_format_laws.proofs.of_one_tree_laws.UserStepGroups.{packed_low}
+use Rattle.packet_laws.specs.of_store_laws.OneTree.Places.{InsideFact, SiteFact, SiteIn}
+use Rattle.packet_laws.specs.of_store_laws.OneTree.Rest.{Past}
+use Rattle.packet_laws.proofs.of_store_laws.OneTree.Rising.{every_among}
+use Rattle.packet_laws.proofs.of_store_laws.OneTree.Steps.{to_boot}
+use Rattle.packet_laws.proofs.of_store_laws.OneTree.UserStepGroups.{packed_low}
 use Rattle.site_node.specs.of_site_packs.Packs.{groups_at}
 use Rattle.site_node.specs.of_site_parts.Fitting.{CanTakeAtStore}
 use Rattle.site_node.specs.of_site_parts.Roles.{mending_by}
 use Rattle.site_node.specs.of_site_tables.Inodes.{AreInodes}
 use Rattle.site_node.specs.Fitting.{CanAct, CanAdopt, CanTakeIn, HasInodes, IsShort, acted}
 use Rattle.site_node.specs.Taking.{IsSpent, is_tried}
-use Rattle.packet_format_laws.specs.of_packet_fit_laws.Epochs.{NamesUpTo}
-use Rattle.calm_laws.specs.of_fit_laws.Pulling.{FitsPull}
-use Rattle.calm_laws.proofs.of_fit_laws.Tried.{IsTried}
-use Rattle.calm_laws.proofs.of_fit_laws.Opens.{body_opens}
-use Rattle.calm_laws.proofs.of_fit_laws.Storing.{store_fits}
-use Rattle.calm_laws.proofs.of_fit_laws.Tables.{site_tables}
-use Rattle.calm_laws.proofs.of_rest_laws.of_work_laws.Working.{trace_works}
-use Rattle.calm_laws.proofs.of_rest_laws.of_one_tree_laws.Staying.{rest_below}
+use Rattle.packet_laws.specs.Fitting.Epochs.{NamesUpTo}
+use Rattle.calm_laws.specs.of_rest_laws.Fits.Pulling.{FitsPull}
+use Rattle.calm_laws.proofs.of_rest_laws.Fits.Tried.{IsTried}
+use Rattle.calm_laws.proofs.of_rest_laws.Fits.Opens.{body_opens}
+use Rattle.calm_laws.proofs.of_rest_laws.Fits.Storing.{store_fits}
+use Rattle.calm_laws.proofs.of_rest_laws.Fits.Tables.{site_tables}
+use Rattle.calm_laws.proofs.of_store_laws.Works.Working.{trace_works}
+use Rattle.calm_laws.proofs.of_store_laws.OneTree.Staying.{rest_below}
 use Rattle.complete_laws.specs.FitCallJoining.{HasGroups}
 use Rattle.complete_laws.proofs.FitCallAdopting.{keeps}
 use Rattle.complete_laws.proofs.FitCallAgreeing.{kinds_now}
 use Rattle.complete_laws.proofs.FitCallJoining.{body_joins}
 use Rattle.complete_laws.proofs.FitCallTaking.{takes_at}
 use Rattle.complete_laws.specs.MomentMoments.{IsMoment, MayCome}
-use Rattle.packet_format_laws.proofs.of_one_tree_laws.Run.{arrives_fact}
-use Rattle.packet_format_laws.proofs.of_rest_laws.Roles.{roles_do}
-use Rattle.packet_format_laws.specs.of_one_tree_laws.Wants.{Arrives}
+use Rattle.packet_laws.proofs.of_store_laws.OneTree.Run.{arrives_fact}
+use Rattle.packet_laws.proofs.of_rest_laws.Roles.{roles_do}
+use Rattle.packet_laws.specs.of_store_laws.OneTree.Wants.{Arrives}
 use Rattle.complete_laws.proofs.MomentPulls.{site_pulls, tried_pulls}
 use Rattle.complete_laws.proofs.MomentTables.{OfInodes, adopts_keep, leaves_keep, passes_keep, starts_merge_keeps, starts_part_keeps, takes_inodes, tries_keep}
 

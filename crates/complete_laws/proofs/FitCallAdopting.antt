@@ -14,13 +14,13 @@ use Rattle.role_steps.specs.declared.rounds.InEpoch.{InEpoch}
 use Rattle.the_run.specs.Kept.{Among}
 use Rattle.the_run.specs.Runs.{run_in}
 use Rattle.the_run.specs.Worlds.{Running, place_at}
-use Rattle.packet_format_laws.specs.of_row_laws.Voids.{LinesFit}
-use Rattle.packet_format_laws.specs.of_order_laws.Joining.{PacksAreOfSites}
-use Rattle.packet_format_laws.proofs.of_one_tree_laws.Rising.{every_among}
+use Rattle.packet_laws.specs.of_row_laws.Voids.{LinesFit}
+use Rattle.packet_laws.specs.of_tree_laws.Orders.Joining.{PacksAreOfSites}
+use Rattle.packet_laws.proofs.of_store_laws.OneTree.Rising.{every_among}
 use Rattle.site_node.specs.Fitting.{CanKeep}
-use Rattle.calm_laws.specs.of_fit_laws.Pulling.{FitsPull}
-use Rattle.calm_laws.proofs.of_fit_laws.Pulling.{run_pulls}
-use Rattle.calm_laws.proofs.of_fit_laws.RoomSites.{ready_room}
+use Rattle.calm_laws.specs.of_rest_laws.Fits.Pulling.{FitsPull}
+use Rattle.calm_laws.proofs.of_rest_laws.Fits.Pulling.{run_pulls}
+use Rattle.calm_laws.proofs.of_rest_laws.Fits.RoomSites.{ready_room}
 use Rattle.complete_laws.specs.FitCallJoining.{HasGroups}
 
 pub room : (v : SiteView) (p : Pull) → is_ready v p ≡ true → length (wanted_pages p) ≤ pack_pages - total (copy_pages p.file.group) v.store.copies

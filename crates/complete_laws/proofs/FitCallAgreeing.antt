@@ -20,20 +20,20 @@ use Rattle.the_run.specs.Kept.{WasSent}
 use Rattle.the_run.specs.Runs.{run_in}
 use Rattle.the_run.specs.Steps.{from_user, group_of}
 use Rattle.the_run.specs.Worlds.{Line, Numbered, Running, place_at}
-use Rattle.packet_format_laws.specs.of_row_laws.Voids.{LinesFit}
+use Rattle.packet_laws.specs.of_row_laws.Voids.{LinesFit}
 use Rattle.tree_laws.specs.Doing.{IsReceived}
 use Rattle.tree_laws.specs.Following.{IsFollowed}
 use Rattle.tree_laws.specs.Packets.{PacketFact}
-use Rattle.packet_format_laws.specs.of_order_laws.Joining.{PacksAreOfSites}
-use Rattle.packet_format_laws.specs.of_one_tree_laws.Places.{InsideFact}
-use Rattle.packet_format_laws.specs.of_one_tree_laws.Rest.{Past}
-use Rattle.calm_laws.specs.of_fit_laws.EntryEntries.{EntriesName, IsEntered}
-use Rattle.calm_laws.proofs.of_fit_laws.EntryContents.{AllNamed, agree, joined_named}
-use Rattle.calm_laws.proofs.of_fit_laws.EntryMending.{AreNamed, mending_named}
-use Rattle.calm_laws.proofs.of_fit_laws.EntryNamed.{one_kind}
+use Rattle.packet_laws.specs.of_tree_laws.Orders.Joining.{PacksAreOfSites}
+use Rattle.packet_laws.specs.of_store_laws.OneTree.Places.{InsideFact}
+use Rattle.packet_laws.specs.of_store_laws.OneTree.Rest.{Past}
+use Rattle.calm_laws.specs.of_rest_laws.Fits.EntryEntries.{EntriesName, IsEntered}
+use Rattle.calm_laws.proofs.of_rest_laws.Fits.EntryContents.{AllNamed, agree, joined_named}
+use Rattle.calm_laws.proofs.of_rest_laws.Fits.EntryMending.{AreNamed, mending_named}
+use Rattle.calm_laws.proofs.of_rest_laws.Fits.EntryNamed.{one_kind}
 use Rattle.site_node.specs.of_site_parts.Fitting.{CanTakeAtStore}
-use Rattle.calm_laws.proofs.of_fit_laws.Running.{run_inside}
-use Rattle.calm_laws.proofs.of_fit_laws.Tables.{past_of_run}
+use Rattle.calm_laws.proofs.of_rest_laws.Fits.Running.{run_inside}
+use Rattle.calm_laws.proofs.of_rest_laws.Fits.Tables.{past_of_run}
 use Rattle.complete_laws.specs.FitCallJoining.{HasGroups, KindsAgree, KindsIf, KindsIfMend}
 use Rattle.complete_laws.proofs.FitCallJoining.{run_joins}
 

@@ -13,7 +13,7 @@ use Rattle.trace_book.specs.declared.operation.Outcome.{Outcome}
 use Rattle.wire_messages.specs.declared.body.Body.{Body}
 use Rattle.wire_messages.specs.declared.body.Body.TheVariants as body
 use Rattle.wire_messages.specs.declared.packet.Packet.{Packet}
-use Rattle.packet_format_laws.specs.of_operation_effects.Joinable.{AreJoinable}
+use Rattle.packet_laws.specs.of_operation_effects.Joinable.{AreJoinable}
 use Rattle.role_steps.specs.Epochs.{frame_in}
 use Rattle.role_steps.specs.Mends.{mending}
 use Rattle.role_steps.specs.OperationEffects.{Mending}
@@ -26,7 +26,7 @@ use Rattle.the_run.specs.Kept.{WasSent}
 use Rattle.the_run.specs.Runs.{run_in}
 use Rattle.the_run.specs.Steps.{from_user, group_of}
 use Rattle.the_run.specs.Worlds.{Line, Numbered, Running, place_at}
-use Rattle.packet_format_laws.specs.of_row_laws.Voids.{LinesFit}
+use Rattle.packet_laws.specs.of_row_laws.Voids.{LinesFit}
 use Rattle.tree_model.specs.Histories.{history}
 use Rattle.tree_model.specs.State.{kept_of}
 use Rattle.tree_model.specs.Tree.{tree_of}
@@ -34,25 +34,25 @@ use Rattle.tree_laws.specs.Packets.{BodyFact, OpFact}
 use Rattle.tree_laws.specs.Past.{WasDone}
 use Rattle.tree_laws.specs.Printed.{entries}
 use Rattle.tree_laws.specs.Stores.{InstanceFact, RunsAs, StageFact}
-use Rattle.packet_format_laws.specs.of_order_laws.Joining.{PacksAreOfSites}
-use Rattle.packet_format_laws.proofs.of_store_laws.AnswerDone.{done_named}
+use Rattle.packet_laws.specs.of_tree_laws.Orders.Joining.{PacksAreOfSites}
+use Rattle.packet_laws.proofs.of_store_laws.AnswerDone.{done_named}
 use Rattle.tree_laws.proofs.Grants.{open_named}
 use Rattle.locus_ids.specs.declared.ids.EpochId.{EpochId}
 use Rattle.locus_ids.specs.Sizes.{file_bytes_max, sites_max}
-use Rattle.packet_format_laws.specs.of_store_laws.Rests.{MendsAs}
-use Rattle.packet_format_laws.proofs.of_store_laws.Closes.{found_instance}
-use Rattle.packet_format_laws.specs.of_one_tree_laws.Places.{InsideFact}
-use Rattle.packet_format_laws.specs.of_one_tree_laws.Rest.{Past}
-use Rattle.packet_format_laws.proofs.of_one_tree_laws.Run.{sent_fact}
-use Rattle.packet_format_laws.proofs.of_rest_laws.MendStepWorking.{mends_as}
-use Rattle.packet_format_laws.proofs.of_rest_laws.StoreStepResting.{op_rests}
+use Rattle.packet_laws.specs.of_store_laws.Rests.{MendsAs}
+use Rattle.packet_laws.proofs.of_store_laws.Closes.{found_instance}
+use Rattle.packet_laws.specs.of_store_laws.OneTree.Places.{InsideFact}
+use Rattle.packet_laws.specs.of_store_laws.OneTree.Rest.{Past}
+use Rattle.packet_laws.proofs.of_store_laws.OneTree.Run.{sent_fact}
+use Rattle.packet_laws.proofs.of_rest_laws.MendStepWorking.{mends_as}
+use Rattle.packet_laws.proofs.of_rest_laws.StoreStepResting.{op_rests}
 use Rattle.site_node.specs.of_site_parts.Fitting.{CanTakeAtStore}
-use Rattle.calm_laws.proofs.of_fit_laws.Opens.{named_sited, run_opens}
-use Rattle.calm_laws.proofs.of_fit_laws.Running.{run_inside, run_storable}
-use Rattle.calm_laws.proofs.of_fit_laws.Tables.{past_of_run, run_tables, world_of}
-use Rattle.calm_laws.specs.of_fit_laws.of_rest_laws.of_work_laws.Working.{AreSized}
-use Rattle.calm_laws.proofs.of_rest_laws.of_work_laws.Working.{trace_works}
-use Rattle.calm_laws.proofs.of_rest_laws.of_one_tree_laws.Staying.{rest_below}
+use Rattle.calm_laws.proofs.of_rest_laws.Fits.Opens.{named_sited, run_opens}
+use Rattle.calm_laws.proofs.of_rest_laws.Fits.Running.{run_inside, run_storable}
+use Rattle.calm_laws.proofs.of_rest_laws.Fits.Tables.{past_of_run, run_tables, world_of}
+use Rattle.calm_laws.specs.of_store_laws.Works.Working.{AreSized}
+use Rattle.calm_laws.proofs.of_store_laws.Works.Working.{trace_works}
+use Rattle.calm_laws.proofs.of_store_laws.OneTree.Staying.{rest_below}
 use Rattle.complete_laws.specs.FitCallJoining.{HasGroups, KindsAgree, KindsIf, KindsIfMend}
 use Rattle.complete_laws.proofs.FitCallTaking.{JoinsBody, JoinsNext, takes_at}
 

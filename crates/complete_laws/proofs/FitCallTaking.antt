@@ -23,18 +23,18 @@ use Rattle.the_run.specs.Kept.{WasSent}
 use Rattle.the_run.specs.Runs.{run_in}
 use Rattle.the_run.specs.Steps.{from_user, group_of}
 use Rattle.the_run.specs.Worlds.{Numbered, Running, place_at}
-use Rattle.packet_format_laws.specs.of_row_laws.Voids.{LinesFit}
-use Rattle.packet_format_laws.specs.of_order_laws.Joining.{PacksAreOfSites}
-use Rattle.packet_format_laws.proofs.of_one_tree_laws.Rising.{every_among, row_key}
+use Rattle.packet_laws.specs.of_row_laws.Voids.{LinesFit}
+use Rattle.packet_laws.specs.of_tree_laws.Orders.Joining.{PacksAreOfSites}
+use Rattle.packet_laws.proofs.of_store_laws.OneTree.Rising.{every_among, row_key}
 use Rattle.site_node.specs.of_store_instances.Fitting.{CanClose, CanCommit, CanExecute, CanOperate}
 use Rattle.site_node.specs.of_storage_site.Fitting.{CanCloseAt, CanCloseOf, CanOperateAt, CanOperateOf}
 use Rattle.site_node.specs.of_site_parts.Fitting.{AreInodesOf, CanRest, CanTakeAtStore}
-use Rattle.calm_laws.specs.of_fit_laws.Inodes.{AreInodes}
-use Rattle.calm_laws.specs.of_fit_laws.Opens.{OpensForSite}
-use Rattle.calm_laws.specs.of_fit_laws.Storing.{AreStorable, MayStore, RunsStorable}
-use Rattle.calm_laws.proofs.of_fit_laws.Opens.{run_opens}
-use Rattle.calm_laws.proofs.of_fit_laws.Running.{run_storable}
-use Rattle.calm_laws.proofs.of_fit_laws.Tables.{run_tables}
+use Rattle.calm_laws.specs.of_rest_laws.Fits.Inodes.{AreInodes}
+use Rattle.calm_laws.specs.of_rest_laws.Fits.Opens.{OpensForSite}
+use Rattle.calm_laws.specs.of_rest_laws.Fits.Storing.{AreStorable, MayStore, RunsStorable}
+use Rattle.calm_laws.proofs.of_rest_laws.Fits.Opens.{run_opens}
+use Rattle.calm_laws.proofs.of_rest_laws.Fits.Running.{run_storable}
+use Rattle.calm_laws.proofs.of_rest_laws.Fits.Tables.{run_tables}
 use Rattle.complete_laws.specs.FitCallJoining.{HasGroups, JoinsIf, JoinsIfMend}
 
 -- where a mend is the next operation of an instance that runs, its contents can be joined

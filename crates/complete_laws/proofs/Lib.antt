@@ -11,5 +11,5 @@ pub mod MomentPulls
 pub mod Acting
 pub mod Sending
 pub mod Lines
-pub use Rattle.packet_format_laws.proofs.of_rest_laws as of_rest_laws
-pub use Rattle.packet_format_laws.proofs.of_row_laws as of_row_laws
+pub use Rattle.packet_laws.proofs.of_rest_laws as of_rest_laws
+pub use Rattle.packet_laws.proofs.of_row_laws as of_row_laws

@@ -9,9 +9,9 @@ use Rattle.the_run.specs.Disks.{Disk}
 use Rattle.the_run.specs.Laws.{boot_number, boot_on}
 use Rattle.the_run.specs.Runs.{run_in}
 use Rattle.the_run.specs.Worlds.{Stopped, place_at}
-use Rattle.packet_format_laws.specs.of_row_laws.Voids.{LinesFit}
-use Rattle.packet_format_laws.specs.of_order_laws.Joining.{PacksAreOfSites}
-use Rattle.packet_format_laws.proofs.of_packet_fit_laws.of_run_laws.Boots.{run_boots_low}
+use Rattle.packet_laws.specs.of_row_laws.Voids.{LinesFit}
+use Rattle.packet_laws.specs.of_tree_laws.Orders.Joining.{PacksAreOfSites}
+use Rattle.packet_laws.proofs.of_run_laws.Boots.{run_boots_low}
 use Rattle.complete_laws.specs.MomentMoments.{ComesInTime}
 use Rattle.complete_laws.proofs.MomentCourse.{each_both}
 use Rattle.complete_laws.proofs.MomentMoments.{run_events}

@@ -12,11 +12,11 @@ use Rattle.the_run.specs.Laws.{Grows}
 use Rattle.the_run.specs.Runs.{acts_line, arrives, delivers, ends_round, goes_round, next_packet, packet_at, run_in, settles, ticks_to}
 use Rattle.the_run.specs.Worlds.{World, Line, Numbered, first_world, happens, number_of}
 use Rattle.the_run.proofs.Growing.{run_grows, run_splits}
-use Rattle.packet_format_laws.specs.of_row_laws.ByLine.{IsLine, KeptIn}
-use Rattle.packet_format_laws.proofs.of_row_laws.ByLine.{line_here}
-use Rattle.calm_laws.proofs.of_orderly_laws.Rounds.{RoundKept, arrives_kept, next_among, ticks_kept}
+use Rattle.packet_laws.specs.of_row_laws.ByLine.{IsLine, KeptIn}
+use Rattle.packet_laws.proofs.of_row_laws.ByLine.{line_here}
+use Rattle.calm_laws.proofs.of_row_laws.Orderly.Rounds.{RoundKept, arrives_kept, next_among, ticks_kept}
 use Rattle.calm_laws.proofs.Moments.{GoesOn, goes_itself, goes_round_kept}
-use Rattle.packet_format_laws.proofs.of_one_tree_laws.Rising.{row_key}
+use Rattle.packet_laws.proofs.of_store_laws.OneTree.Rising.{row_key}
 use Rattle.complete_laws.specs.MomentEvents.{OfEvent, WherePacket, WhereTicks, WhereNext, WhereDelivered, EachEvent}
 use Rattle.complete_laws.specs.MomentMoments.{MayCome}
 

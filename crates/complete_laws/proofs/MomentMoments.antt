@@ -10,23 +10,23 @@ use Rattle.role_steps.specs.Views.{Event}
 use Rattle.the_run.specs.Runs.{run_in}
 use Rattle.the_run.specs.Worlds.{World, Running}
 use Rattle.the_run.proofs.Runs.{every_run}
-use Rattle.packet_format_laws.specs.of_vector_laws.Written.{InstancesAgree, past_of}
-use Rattle.packet_format_laws.proofs.of_pack_laws.InstanceAgree.{run_agrees}
-use Rattle.packet_format_laws.proofs.of_pack_laws.PacksRun.{All, all_kept, first_all}
-use Rattle.packet_format_laws.specs.of_row_laws.ByLine.{IsLine}
-use Rattle.packet_format_laws.specs.of_row_laws.Voids.{LinesFit}
-use Rattle.packet_format_laws.proofs.of_row_laws.ByLine.{every_line}
-use Rattle.packet_format_laws.specs.of_order_laws.Joining.{PacksAreOfSites}
-use Rattle.calm_laws.proofs.of_orderly_laws.Rounds.{RoundKept}
+use Rattle.packet_laws.specs.of_site_laws.Vectors.Written.{InstancesAgree, past_of}
+use Rattle.packet_laws.proofs.of_site_laws.Packs.InstanceAgree.{run_agrees}
+use Rattle.packet_laws.proofs.of_site_laws.Packs.PacksRun.{All, all_kept, first_all}
+use Rattle.packet_laws.specs.of_row_laws.ByLine.{IsLine}
+use Rattle.packet_laws.specs.of_row_laws.Voids.{LinesFit}
+use Rattle.packet_laws.proofs.of_row_laws.ByLine.{every_line}
+use Rattle.packet_laws.specs.of_tree_laws.Orders.Joining.{PacksAreOfSites}
+use Rattle.calm_laws.proofs.of_row_laws.Orderly.Rounds.{RoundKept}
 use Rattle.calm_laws.proofs.Rounds.{round_kept}
-use Rattle.packet_format_laws.specs.of_one_tree_laws.Places.{WorldFact}
-use Rattle.packet_format_laws.specs.of_one_tree_laws.Rest.{IsRest}
-use Rattle.packet_format_laws.specs.of_one_tree_laws.Roles.{RolesDo}
-use Rattle.packet_format_laws.proofs.of_one_tree_laws.Run.{first_holds}
-use Rattle.packet_format_laws.proofs.of_rest_laws.Roles.{roles_do}
-use Rattle.packet_format_laws.proofs.of_packet_fit_laws.Epochs.{Counted, counted_kept, epochs_low, first_counted, named_low}
-use Rattle.calm_laws.proofs.of_fit_laws.RoomRun.{Both, first_room, kept_room}
-use Rattle.calm_laws.proofs.of_fit_laws.Tables.{rest_of}
+use Rattle.packet_laws.specs.of_store_laws.OneTree.Places.{WorldFact}
+use Rattle.packet_laws.specs.of_store_laws.OneTree.Rest.{IsRest}
+use Rattle.packet_laws.specs.of_store_laws.OneTree.Roles.{RolesDo}
+use Rattle.packet_laws.proofs.of_store_laws.OneTree.Run.{first_holds}
+use Rattle.packet_laws.proofs.of_rest_laws.Roles.{roles_do}
+use Rattle.packet_laws.proofs.Fitting.Epochs.{Counted, counted_kept, epochs_low, first_counted, named_low}
+use Rattle.calm_laws.proofs.of_rest_laws.Fits.RoomRun.{Both, first_room, kept_room}
+use Rattle.calm_laws.proofs.of_rest_laws.Fits.Tables.{rest_of}
 use Rattle.complete_laws.specs.MomentEvents.{EachEvent}
 use Rattle.complete_laws.specs.MomentMoments.{ComesInTime, MayCome}
 use Rattle.complete_laws.proofs.MomentCourse.{IsBefore, each_event, last_line, round_both, round_of_line}

@@ -20,15 +20,15 @@ use Rattle.the_run.specs.Steps.{is_dropped, takes_framed, takes_inside}
 use Rattle.the_run.specs.Worlds.{Line}
 use Rattle.role_steps.proofs.Fitting.{over_any}
 use Rattle.the_run.proofs.InsideSync.{every_row}
-use Rattle.packet_format_laws.specs.of_pack_laws.Packed.{BodyPacked, PullPacked}
-use Rattle.packet_format_laws.specs.of_one_tree_laws.Places.{SiteFact, SiteIn}
-use Rattle.packet_format_laws.specs.of_one_tree_laws.Rest.{Past}
-use Rattle.packet_format_laws.specs.of_one_tree_laws.Roles.{RolesDo}
-use Rattle.packet_format_laws.specs.of_one_tree_laws.Wants.{Arrives}
-use Rattle.packet_format_laws.proofs.of_one_tree_laws.Rising.{every_among, row_key}
-use Rattle.calm_laws.specs.of_fit_laws.Pulling.{FitsPull}
-use Rattle.calm_laws.proofs.of_fit_laws.Pulling.{pulls_fit}
-use Rattle.calm_laws.proofs.of_fit_laws.Tried.{IsTried, tried_view}
+use Rattle.packet_laws.specs.of_site_laws.Packs.Packed.{BodyPacked, PullPacked}
+use Rattle.packet_laws.specs.of_store_laws.OneTree.Places.{SiteFact, SiteIn}
+use Rattle.packet_laws.specs.of_store_laws.OneTree.Rest.{Past}
+use Rattle.packet_laws.specs.of_store_laws.OneTree.Roles.{RolesDo}
+use Rattle.packet_laws.specs.of_store_laws.OneTree.Wants.{Arrives}
+use Rattle.packet_laws.proofs.of_store_laws.OneTree.Rising.{every_among, row_key}
+use Rattle.calm_laws.specs.of_rest_laws.Fits.Pulling.{FitsPull}
+use Rattle.calm_laws.proofs.of_rest_laws.Fits.Pulling.{pulls_fit}
+use Rattle.calm_laws.proofs.of_rest_laws.Fits.Tried.{IsTried, tried_view}
 
 module _ (P : Pull → Type 0) where
   begins : (f : Frame) (own : Option FileCopy) (p : Pull) (ps : List Pull) → P (pull_over own p) → Every P ps → Every P (begins_pull f own p ps).view

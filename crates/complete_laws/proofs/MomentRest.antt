@@ -8,9 +8,9 @@ use Rattle.schedule_lines.specs.declared.line.ScheduleLine.{ScheduleLine}
 use Rattle.schedule_lines.specs.declared.line.ScheduleLine.TheVariants.{Passed, Event as EventLine}
 use Rattle.tree_laws.proofs.of_lawful_trace.Extends.{line_kept}
 use Rattle.the_run.specs.Worlds.{Line}
-use Rattle.packet_format_laws.specs.of_vector_laws.Written.{InstancesAgree, WasBegun, WasGranted, past_of}
-use Rattle.packet_format_laws.specs.of_row_laws.Voids.{LinesFit}
-use Rattle.packet_format_laws.specs.of_one_tree_laws.Rest.{EachRest, IsRest}
+use Rattle.packet_laws.specs.of_site_laws.Vectors.Written.{InstancesAgree, WasBegun, WasGranted, past_of}
+use Rattle.packet_laws.specs.of_row_laws.Voids.{LinesFit}
+use Rattle.packet_laws.specs.of_store_laws.OneTree.Rest.{EachRest, IsRest}
 use Rattle.calm_laws.proofs.Limits.{line_there}
 
 rest_first : (c : Config) (new old : List Line) → EachRest c (new ++ old) → EachRest c old

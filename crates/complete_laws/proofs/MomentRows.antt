@@ -28,8 +28,8 @@ use Rattle.role_steps.specs.declared.synchronizing.OpenStage.TheVariants as stag
 use Rattle.role_steps.specs.declared.synchronizing.SyncTable.{SyncTable}
 use Rattle.role_steps.specs.declared.synchronizing.VersionRow.{VersionRow}
 use Rattle.the_run.proofs.InsideSync.{every_row}
-use Rattle.packet_format_laws.proofs.of_one_tree_laws.Rising.{every_among, row_key}
-use Rattle.calm_laws.specs.of_fit_laws.Inodes.{AreInodes, IsInodeNumber}
+use Rattle.packet_laws.proofs.of_store_laws.OneTree.Rising.{every_among, row_key}
+use Rattle.calm_laws.specs.of_rest_laws.Fits.Inodes.{AreInodes, IsInodeNumber}
 
 abbrev pub IsOfInode : FileRow → Type 0
 IsOfInode r = IsInodeNumber r.ino

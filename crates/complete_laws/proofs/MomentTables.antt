@@ -38,21 +38,21 @@ use Rattle.the_run.specs.Kept.{Among}
 use Rattle.the_run.specs.Steps.{adopts_in, adopts_of, at_table_of, is_dropped, is_opened_in, takes, takes_framed, takes_inside, tries_at}
 use Rattle.the_run.specs.Worlds.{Line}
 use Rattle.the_run.proofs.InsideSync.{every_row}
-use Rattle.packet_format_laws.specs.of_vector_laws.Written as written
-use Rattle.packet_format_laws.specs.of_vector_laws.Written.{InstancesAgree, past_of}
-use Rattle.packet_format_laws.proofs.of_make_laws.Happening.{taken_epoch}
+use Rattle.packet_laws.specs.of_site_laws.Vectors.Written as written
+use Rattle.packet_laws.specs.of_site_laws.Vectors.Written.{InstancesAgree, past_of}
+use Rattle.packet_laws.proofs.of_site_laws.Makes.Happening.{taken_epoch}
 use Rattle.tree_laws.specs.Doing.{FrameFact}
 use Rattle.tree_laws.specs.Instances.{IsStarted}
 use Rattle.tree_laws.specs.Packets.{BodyFact, ClosedFact, IsReporter, MadeFact, MaybeMade, PacketFact, ReportFact, ReportedNow, ReportsNow, file_in}
 use Rattle.tree_laws.specs.Past.{BeginsIt, GrantRecord, Printed, WasBegun, WasGranted}
 use Rattle.tree_laws.specs.Tables.{IsGrantedNow, RowFact, StageFact, TableFact}
-use Rattle.packet_format_laws.proofs.of_rest_laws.EpochTreeMembers.{reporter_counts}
-use Rattle.packet_format_laws.specs.of_one_tree_laws.Places.{InsideFact, SiteFact, SiteIn}
-use Rattle.packet_format_laws.specs.of_one_tree_laws.Rest.{Past}
-use Rattle.packet_format_laws.proofs.of_one_tree_laws.Rising.{every_among, row_key}
-use Rattle.calm_laws.specs.of_fit_laws.Inodes.{AreInodes, IsInodeNumber}
-use Rattle.calm_laws.proofs.of_fit_laws.Numbers.{stands_inode}
-use Rattle.calm_laws.proofs.of_fit_laws.Tables.{site_tables}
+use Rattle.packet_laws.proofs.of_rest_laws.EpochTreeMembers.{reporter_counts}
+use Rattle.packet_laws.specs.of_store_laws.OneTree.Places.{InsideFact, SiteFact, SiteIn}
+use Rattle.packet_laws.specs.of_store_laws.OneTree.Rest.{Past}
+use Rattle.packet_laws.proofs.of_store_laws.OneTree.Rising.{every_among, row_key}
+use Rattle.calm_laws.specs.of_rest_laws.Fits.Inodes.{AreInodes, IsInodeNumber}
+use Rattle.calm_laws.proofs.of_rest_laws.Fits.Numbers.{stands_inode}
+use Rattle.calm_laws.proofs.of_rest_laws.Fits.Tables.{site_tables}
 use Rattle.complete_laws.proofs.MomentRows.{Rows, close_rows, have_rows, on_look_files, on_open_files, on_opened_files, report_rows, rows_in, rows_out, same_rows}
 
 abbrev pub OfInodes : SiteView → Type 0

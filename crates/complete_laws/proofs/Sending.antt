@@ -11,14 +11,14 @@ use Rattle.role_steps.specs.Views.{Calls, Event, GivesUp, Merges, Parts, Receive
 use Rattle.the_run.specs.Runs.{is_busy, run_in}
 use Rattle.the_run.specs.Worlds.{Place, World, Running, place_at}
 use Rattle.calm_laws.specs.of_run_laws.Naming.{MayCome as MayComeIn}
-use Rattle.packet_format_laws.specs.of_row_laws.ByLine.{IsLine}
-use Rattle.packet_format_laws.specs.of_row_laws.Voids.{LinesFit}
-use Rattle.packet_format_laws.specs.of_order_laws.Joining.{PacksAreOfSites}
-use Rattle.packet_format_laws.specs.of_one_tree_laws.Roles.{EventFact}
-use Rattle.packet_format_laws.proofs.of_one_tree_laws.Run.{arrives_fact}
-use Rattle.packet_format_laws.specs.of_one_tree_laws.Wants.{Arrives}
-use Rattle.packet_format_laws.proofs.of_rest_laws.Roles.{roles_do}
-use Rattle.packet_format_laws.proofs.Run.{PacketsStand, kept_stand, packets_fit_now, run_stands}
+use Rattle.packet_laws.specs.of_row_laws.ByLine.{IsLine}
+use Rattle.packet_laws.specs.of_row_laws.Voids.{LinesFit}
+use Rattle.packet_laws.specs.of_tree_laws.Orders.Joining.{PacksAreOfSites}
+use Rattle.packet_laws.specs.of_store_laws.OneTree.Roles.{EventFact}
+use Rattle.packet_laws.proofs.of_store_laws.OneTree.Run.{arrives_fact}
+use Rattle.packet_laws.specs.of_store_laws.OneTree.Wants.{Arrives}
+use Rattle.packet_laws.proofs.of_rest_laws.Roles.{roles_do}
+use Rattle.packet_laws.proofs.Formats.Run.{PacketsStand, kept_stand, packets_fit_now, run_stands}
 use Rattle.site_node.specs.of_packet_order.Counts.{FitsIfCounted}
 use Rattle.complete_laws.specs.MomentEvents.{EachEvent}
 use Rattle.complete_laws.specs.MomentMoments.{ComesInTime, MayCome}

@@ -6,7 +6,7 @@ use Rattle.trace_book.specs.declared.operation.Op.{Op}
 use Rattle.trace_book.specs.declared.operation.Op.TheVariants as op
 use Rattle.wire_messages.specs.declared.body.Body.{Body}
 use Rattle.wire_messages.specs.declared.body.Body.TheVariants as body
-use Rattle.packet_format_laws.specs.of_operation_effects.Joinable.{AreJoinable}
+use Rattle.packet_laws.specs.of_operation_effects.Joinable.{AreJoinable}
 use Rattle.dir_format.specs.Contents.{entries_of}
 use Rattle.dir_reconcile.specs.Joins.{AgreeOnKinds}
 use Rattle.role_steps.specs.Mends.{mending}
@@ -14,7 +14,7 @@ use Rattle.role_steps.specs.OperationEffects.{Mending, joined_contents}
 use Rattle.role_steps.specs.Storage.{instance_of}
 use Rattle.role_steps.specs.Views.{SiteView}
 use Rattle.the_run.specs.Steps.{from_user, group_of}
-use Rattle.packet_format_laws.specs.of_pack_laws.Packs.{HasPack}
+use Rattle.packet_laws.specs.of_site_laws.Packs.Packs.{HasPack}
 use Rattle.site_node.specs.of_site_packs.Packs.{has_group}
 
 -- the site has the packs that the cluster gives it

@@ -7,12 +7,12 @@ use Rattle.role_steps.specs.Views.{SiteView, Event, Calls, Receives}
 use Rattle.the_run.specs.Kept.{WasSent}
 use Rattle.the_run.specs.Runs.{is_busy}
 use Rattle.the_run.specs.Worlds.{World, Numbered, Running, place_at}
-use Rattle.packet_format_laws.specs.of_vector_laws.Written.{InstancesAgree, past_of}
-use Rattle.packet_format_laws.specs.of_pack_laws.Packed.{WorldPacked}
-use Rattle.packet_format_laws.specs.of_one_tree_laws.Places.{WorldFact}
-use Rattle.packet_format_laws.specs.of_one_tree_laws.Rest.{Past}
-use Rattle.packet_format_laws.specs.of_packet_fit_laws.Epochs.{NumberedIsUpTo}
-use Rattle.calm_laws.specs.of_fit_laws.Room.{RoomFits}
+use Rattle.packet_laws.specs.of_site_laws.Vectors.Written.{InstancesAgree, past_of}
+use Rattle.packet_laws.specs.of_site_laws.Packs.Packed.{WorldPacked}
+use Rattle.packet_laws.specs.of_store_laws.OneTree.Places.{WorldFact}
+use Rattle.packet_laws.specs.of_store_laws.OneTree.Rest.{Past}
+use Rattle.packet_laws.specs.Fitting.Epochs.{NumberedIsUpTo}
+use Rattle.calm_laws.specs.of_rest_laws.Fits.Room.{RoomFits}
 
 -- All that was told came as it may, each site and each packet is so by the trace, an instance is of the file on which it was granted, files
 -- lie in packs, the packs of running sites have room, and no epoch has a great number.

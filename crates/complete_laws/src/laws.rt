@@ -7,8 +7,8 @@ ghost use Rattle.schedule_lines.specs.declared.line.Line.{Line};
 ghost use Rattle.schedule_lines.specs.declared.line.ScheduleLine.{ScheduleLine};
 ghost use Rattle.schedule_lines.specs.declared.line.ScheduleLine.TheVariants.{Event as EventLine};
 ghost use Rattle.the_run.specs.Runs.{run_in};
-ghost use Rattle.packet_format_laws.specs.of_row_laws.Voids.{LinesFit};
-ghost use Rattle.packet_format_laws.specs.of_order_laws.Joining.{PacksAreOfSites};
+ghost use Rattle.packet_laws.specs.of_row_laws.Voids.{LinesFit};
+ghost use Rattle.packet_laws.specs.of_tree_laws.Orders.Joining.{PacksAreOfSites};
 ghost use Rattle.complete_laws.specs.Lines.{CanDo};
 
 /// After every schedule, whatever line comes next: each event in its course, whether or not it passes a limit, finds what it needs so that

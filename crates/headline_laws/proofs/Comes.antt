@@ -21,11 +21,11 @@ use Rattle.row_laws.proofs.ArmsKept.{run_armed_for}
 use Rattle.row_laws.proofs.AskedRun.{run_placed, run_asked}
 use Rattle.row_laws.proofs.Fitting.{schedule_fits}
 use Rattle.row_laws.proofs.Voids.{run_voids}
-use Rattle.prompt_laws.specs.of_whole_run_laws.of_call_row_laws.Lines.{VoidCall, IsVoidCall}
-use Rattle.prompt_laws.proofs.of_whole_run_laws.of_call_row_laws.CallTales.{run_void_calls}
+use Rattle.row_laws.specs.CallRows.Lines.{VoidCall, IsVoidCall}
+use Rattle.row_laws.proofs.CallRows.CallTales.{run_void_calls}
 use Rattle.tree_laws.specs.Following.{RowsAreLawful}
-use Rattle.prompt_laws.specs.of_whole_run_laws.of_rest_laws.MendStepCounting.{CountedRecord, IsCountedRow}
-use Rattle.prompt_laws.proofs.of_whole_run_laws.CutRun.{schedule_counted}
+use Rattle.rest_laws.specs.MendStepCounting.{CountedRecord, IsCountedRow}
+use Rattle.headline_laws.proofs.WholeRuns.CutRun.{schedule_counted}
 
 stop_line : (c : Config) (lines : List ScheduleLine) (n : ℕ) (before : Trace) (site : ℕ) (why : StopCause) → StopAsked lines n before site why → ArmedStop c lines n before site why → IsCounted c lines n before site why → StopLine c lines n before site why
 stop_line c lines n before site cause.Asked a k r = a

@@ -6,44 +6,44 @@ use Rattle.schedule_lines.specs.declared.line.ScheduleLine.{ScheduleLine}
 use Rattle.the_run.specs.Runs.{run}
 use Rattle.lawful_trace.specs.Lawful.{IsLawful}
 use Rattle.row_laws.specs.Shown.{trace_of}
-use Rattle.prompt_laws.proofs.of_whole_run_laws.of_call_row_laws.TreeSum.{tree_lawful}
-use Rattle.prompt_laws.proofs.of_whole_run_laws.of_orderly_traces.Forms.{blocks_form}
-use Rattle.prompt_laws.proofs.of_whole_run_laws.of_orderly_traces.OwnLeaves.{leaves_are_own}
+use Rattle.row_laws.proofs.CallRows.TreeSum.{tree_lawful}
+use Rattle.row_laws.proofs.OrderlyRows.Forms.{blocks_form}
+use Rattle.row_laws.proofs.OrderlyRows.OwnLeaves.{leaves_are_own}
 use Rattle.tree_laws.specs.Following.{RowsAreLawful}
-use Rattle.prompt_laws.proofs.of_whole_run_laws.of_rest_laws.Caching.{schedule_pages}
-use Rattle.prompt_laws.proofs.of_whole_run_laws.of_rest_laws.MendStepMeeting.{rows_meet}
-use Rattle.prompt_laws.proofs.of_whole_run_laws.of_rest_laws.Run.{schedule_rows}
-use Rattle.prompt_laws.proofs.of_whole_run_laws.of_rest_laws.Shown.{shown_entries}
-use Rattle.prompt_laws.proofs.of_whole_run_laws.CutRun.{schedule_counted}
+use Rattle.rest_laws.proofs.Caching.{schedule_pages}
+use Rattle.rest_laws.proofs.MendStepMeeting.{rows_meet}
+use Rattle.rest_laws.proofs.Run.{schedule_rows}
+use Rattle.rest_laws.proofs.Shown.{shown_entries}
+use Rattle.headline_laws.proofs.WholeRuns.CutRun.{schedule_counted}
 use Rattle.row_laws.proofs.ArmsKept.{run_keeps_calls}
-use Rattle.promise_laws.proofs.of_convergence_laws.of_calm_laws.Calm.{round_carries}
-use Rattle.promise_laws.proofs.of_convergence_laws.of_calm_laws.CalmAnswerAnswered.{calm_left, rounds_answer}
-use Rattle.promise_laws.proofs.of_convergence_laws.DirectoriesRescued.{rescued, rescued_in_three}
-use Rattle.promise_laws.proofs.of_convergence_laws.TraceConverging.{converging}
-use Rattle.promise_laws.proofs.of_convergence_laws.TraceFlagged.{none_flagged}
-use Rattle.promise_laws.proofs.of_convergence_laws.TraceRescued.{undisturbed_by_trace, rescue_by_trace}
-use Rattle.prompt_laws.proofs.of_whole_run_laws.Rounds.{large_rounds}
+use Rattle.calm_laws.proofs.Calm.{round_carries}
+use Rattle.calm_laws.proofs.CalmAnswerAnswered.{calm_left, rounds_answer}
+use Rattle.calm_laws.proofs.Convergence.DirectoriesRescued.{rescued, rescued_in_three}
+use Rattle.calm_laws.proofs.Convergence.TraceConverging.{converging}
+use Rattle.calm_laws.proofs.Convergence.TraceFlagged.{none_flagged}
+use Rattle.calm_laws.proofs.Convergence.TraceRescued.{undisturbed_by_trace, rescue_by_trace}
+use Rattle.headline_laws.proofs.WholeRuns.Rounds.{large_rounds}
 use Rattle.headline_laws.specs.TheRun.{TheRun}
 use Rattle.headline_laws.specs.Rows.{RowsHold}
 use Rattle.headline_laws.specs.Replies.{RepliesHold}
 use Rattle.headline_laws.specs.Commits.{CommitsHold}
 use Rattle.promises.specs.Progress.{Progress}
 use Rattle.promises.specs.Convergence.{Convergence}
-use Rattle.promise_laws.proofs.Aborting.{aborts_drop}
-use Rattle.promise_laws.proofs.AcknowledgedRuns.{acknowledged_new}
-use Rattle.promise_laws.proofs.BudgetsPassed.{budgets_passed}
-use Rattle.promise_laws.proofs.CommitsAsked.{commits_asked}
-use Rattle.promise_laws.proofs.Delivered.{calm_rounds_deliver}
-use Rattle.promise_laws.proofs.MomentsHold.{after_events}
-use Rattle.promise_laws.proofs.OneTrace.{trace_is_one}
-use Rattle.promise_laws.proofs.Steadying.{steady_rounds, together_is_told}
-use Rattle.promise_laws.proofs.VersionsNow.{versions_throughout}
-use Rattle.promise_laws.proofs.VoidLines.{voids_change_nothing}
-use Rattle.prompt_laws.proofs.Lines.{run_stands}
-use Rattle.prompt_laws.proofs.RunDue.{replies_next}
-use Rattle.prompt_laws.proofs.RunPlaces.{records_stand}
-use Rattle.prompt_laws.proofs.RunSpeaks.{records_speak}
-use Rattle.prompt_laws.proofs.RunReplies.{replies_given, replies_direct}
+use Rattle.headline_laws.proofs.Promises.Aborting.{aborts_drop}
+use Rattle.headline_laws.proofs.Promises.AcknowledgedRuns.{acknowledged_new}
+use Rattle.headline_laws.proofs.Promises.BudgetsPassed.{budgets_passed}
+use Rattle.headline_laws.proofs.Promises.CommitsAsked.{commits_asked}
+use Rattle.headline_laws.proofs.Promises.Delivered.{calm_rounds_deliver}
+use Rattle.headline_laws.proofs.Promises.MomentsHold.{after_events}
+use Rattle.headline_laws.proofs.Promises.OneTrace.{trace_is_one}
+use Rattle.headline_laws.proofs.Promises.Steadying.{steady_rounds, together_is_told}
+use Rattle.headline_laws.proofs.Promises.VersionsNow.{versions_throughout}
+use Rattle.headline_laws.proofs.Promises.VoidLines.{voids_change_nothing}
+use Rattle.headline_laws.proofs.Prompting.Lines.{run_stands}
+use Rattle.headline_laws.proofs.Prompting.RunDue.{replies_next}
+use Rattle.headline_laws.proofs.Prompting.RunPlaces.{records_stand}
+use Rattle.headline_laws.proofs.Prompting.RunSpeaks.{records_speak}
+use Rattle.headline_laws.proofs.Prompting.RunReplies.{replies_given, replies_direct}
 use Rattle.headline_laws.proofs.Comes.{run_comes}
 
 shown_rows : (lines : List ScheduleLine) → AreInOrder lines → RowsAreLawful (config_of lines) (trace_of (run lines))

@@ -3,9 +3,9 @@ use Rattle.std.specs.Prelude.{List}
 use Rattle.schedule_lines.specs.Cluster.{config_of}
 use Rattle.schedule_lines.specs.declared.line.ScheduleLine.{ScheduleLine}
 use Rattle.tree_model.specs.Folds.{Trace}
-use Rattle.promise_laws.specs.Acknowledged.{NewOnceAcknowledged}
-use Rattle.promise_laws.specs.Committing.{AbortsDropUncommitted, CommitsAreAsked}
-use Rattle.promise_laws.specs.Moments.{VersionsHoldThroughout}
+use Rattle.headline_laws.specs.Promises.Acknowledged.{NewOnceAcknowledged}
+use Rattle.headline_laws.specs.Promises.Committing.{AbortsDropUncommitted, CommitsAreAsked}
+use Rattle.headline_laws.specs.Promises.Moments.{VersionsHoldThroughout}
 
 pub record CommitsHold (lines : List ScheduleLine) (trace : Trace) : Type 0 where
   -- a version is committed only in a step of a call that commits

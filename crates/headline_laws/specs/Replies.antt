@@ -4,10 +4,10 @@ use Rattle.schedule_lines.specs.Cluster.{config_of}
 use Rattle.schedule_lines.specs.declared.line.ScheduleLine.{ScheduleLine}
 use Rattle.tree_model.specs.Folds.{Trace}
 use Rattle.row_laws.specs.Shown.{EachRecord}
-use Rattle.prompt_laws.specs.Alone.{StandsAlone}
-use Rattle.prompt_laws.specs.Directly.{IsDirectRow}
-use Rattle.prompt_laws.specs.Due.{RepliesComeNext}
-use Rattle.prompt_laws.specs.Given.{IsGivenRow}
+use Rattle.headline_laws.specs.Prompting.Alone.{StandsAlone}
+use Rattle.headline_laws.specs.Prompting.Directly.{IsDirectRow}
+use Rattle.headline_laws.specs.Prompting.Due.{RepliesComeNext}
+use Rattle.headline_laws.specs.Prompting.Given.{IsGivenRow}
 
 pub record RepliesHold (lines : List ScheduleLine) (trace : Trace) : Type 0 where
   -- each reply is the very one that the script of its call gives

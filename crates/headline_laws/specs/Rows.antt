@@ -6,8 +6,8 @@ use Rattle.tree_model.specs.Folds.{Trace}
 use Rattle.lawful_trace.specs.Disks.{keeps_calls}
 use Rattle.lawful_trace.specs.Lawful.{EachComes}
 use Rattle.row_laws.specs.Shown.{EachRecord}
-use Rattle.prompt_laws.specs.Places.{StandsWhereItMay}
-use Rattle.prompt_laws.specs.Speaks.{SpeaksOfWhatIs}
+use Rattle.headline_laws.specs.Prompting.Places.{StandsWhereItMay}
+use Rattle.headline_laws.specs.Prompting.Speaks.{SpeaksOfWhatIs}
 
 pub record RowsHold (lines : List ScheduleLine) (trace : Trace) : Type 0 where
   -- each record comes as the one tree of its epoch's members has it, each reply too, and is asked for by its line, which is one of these;

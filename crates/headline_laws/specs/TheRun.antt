@@ -4,13 +4,13 @@ use Rattle.std.specs.Prelude.{◌≡◌, List, None}
 use Rattle.schedule_lines.specs.Cluster.{config_of}
 use Rattle.schedule_lines.specs.declared.line.ScheduleLine.{ScheduleLine}
 use Rattle.the_run.specs.Runs.{run}
-use Rattle.promise_laws.specs.Budgets.{BudgetsWerePassed}
-use Rattle.promise_laws.specs.Delivering.{CalmRoundsDeliverAll}
-use Rattle.promise_laws.specs.Moments.{HoldsAfterEvents}
-use Rattle.promise_laws.specs.OneTrace.{TraceIsOne}
-use Rattle.promise_laws.specs.Steady.{SteadyRoundsAreCalm, TogetherIsTold}
-use Rattle.promise_laws.specs.Voiding.{VoidLinesChangeNothing}
-use Rattle.prompt_laws.specs.of_whole_run_laws.of_rest_laws.Caching.{CachedPagesAreRight}
+use Rattle.headline_laws.specs.Promises.Budgets.{BudgetsWerePassed}
+use Rattle.headline_laws.specs.Promises.Delivering.{CalmRoundsDeliverAll}
+use Rattle.headline_laws.specs.Promises.Moments.{HoldsAfterEvents}
+use Rattle.headline_laws.specs.Promises.OneTrace.{TraceIsOne}
+use Rattle.headline_laws.specs.Promises.Steady.{SteadyRoundsAreCalm, TogetherIsTold}
+use Rattle.headline_laws.specs.Promises.Voiding.{VoidLinesChangeNothing}
+use Rattle.rest_laws.specs.Caching.{CachedPagesAreRight}
 use Rattle.row_laws.specs.Shown.{trace_of}
 use Rattle.tree_model.specs.Folds.{Trace}
 use Rattle.headline_laws.specs.Carried.{CalmRoundsCarry}

@@ -12,18 +12,18 @@ use Rattle.the_run.specs.Runs.{run}
 use Rattle.the_run.specs.Worlds.{Limit}
 use Rattle.the_run.specs.Worlds as world
 use Rattle.the_run.specs.Commands.{reply_line, counts_text, counts_onto, no_counts, load_lines, load_text}
-use Rattle.audited_runs.specs.of_headline_promise_laws.of_row_laws.Shown.{trace_of}
-use Rattle.audited_runs.proofs.of_headline_promise_laws.of_promise_laws.OneTrace.{trace_is_one}
-use Rattle.audited_runs.proofs.of_headline_promise_laws.of_headline_laws.Whole.{rows_hold, replies_hold, commits_hold, run_lawful, progress, convergence}
-use Rattle.audited_runs.proofs.of_headline_promise_laws.AskedFor.{run_asked_for}
-use Rattle.audited_runs.proofs.of_headline_promise_laws.CommitsWhenAsked.{run_commits_when_asked}
-use Rattle.audited_runs.proofs.of_headline_promise_laws.FairRuns.{run_refusals}
-use Rattle.audited_runs.proofs.of_headline_promise_laws.Headlines.{run_keeps_headline}
-use Rattle.audited_runs.proofs.of_headline_promise_laws.Promptly.{run_comes_promptly}
-use Rattle.audited_runs.proofs.of_headline_promise_laws.Stopping.{run_stops}
+use Rattle.headline_laws.specs.of_row_laws.Shown.{trace_of}
+use Rattle.audited_runs.proofs.of_headline_laws.Promises.OneTrace.{trace_is_one}
+use Rattle.audited_runs.proofs.of_headline_laws.Whole.{rows_hold, replies_hold, commits_hold, run_lawful, progress, convergence}
+use Rattle.audited_runs.proofs.of_headline_laws.HeadlinePromises.AskedFor.{run_asked_for}
+use Rattle.audited_runs.proofs.of_headline_laws.HeadlinePromises.CommitsWhenAsked.{run_commits_when_asked}
+use Rattle.audited_runs.proofs.of_headline_laws.HeadlinePromises.FairRuns.{run_refusals}
+use Rattle.audited_runs.proofs.of_headline_laws.HeadlinePromises.Headlines.{run_keeps_headline}
+use Rattle.audited_runs.proofs.of_headline_laws.HeadlinePromises.Promptly.{run_comes_promptly}
+use Rattle.audited_runs.proofs.of_headline_laws.HeadlinePromises.Stopping.{run_stops}
 use Rattle.audited_runs.specs.Answered.{IsAuditedWell}
-use Rattle.box_laws.proofs.Law.{runs_hold}
-use Rattle.one_version_laws.proofs.Law.{run_reads}
+use Rattle.headline_laws.proofs.Boxes.Law.{runs_hold}
+use Rattle.headline_laws.proofs.OneVersion.Law.{run_reads}
 use Rattle.generated_load.specs.Draws.{draws_of}
 use Rattle.input_order_laws.proofs.Loads.{generated_in_order}
 use Rattle.command_words.specs.Words.{IsCommand}

@@ -1,23 +1,23 @@
 -- What is promised of the lines and of the trace of which a command writes: all of it of one trace.
 use Rattle.std.specs.Prelude.{◌≡◌, true, List, reverse}
 use Rattle.schedule_lines.specs.declared.line.ScheduleLine.{ScheduleLine}
-use Rattle.audited_runs.specs.of_headline_promise_laws.of_headline_laws.Commits.{CommitsHold}
-use Rattle.audited_runs.specs.of_headline_promise_laws.of_headline_laws.Replies.{RepliesHold}
-use Rattle.audited_runs.specs.of_headline_promise_laws.of_headline_laws.Rows.{RowsHold}
-use Rattle.audited_runs.specs.of_headline_promise_laws.of_promises.Beside.{comes_promptly, commits_when_asked, refusals_change_nothing}
-use Rattle.audited_runs.specs.of_headline_promise_laws.of_promises.Headline.{Headline}
-use Rattle.audited_runs.specs.of_headline_promise_laws.of_promises.Past.{nothing_yet}
-use Rattle.audited_runs.specs.of_headline_promise_laws.of_promises.Traces.{each}
-use Rattle.audited_runs.specs.of_headline_promise_laws.of_promises.Lines.{IsAskedFor}
-use Rattle.audited_runs.specs.of_headline_promise_laws.of_promises.Stops.{Stops}
+use Rattle.audited_runs.specs.of_headline_laws.Commits.{CommitsHold}
+use Rattle.audited_runs.specs.of_headline_laws.Replies.{RepliesHold}
+use Rattle.audited_runs.specs.of_headline_laws.Rows.{RowsHold}
+use Rattle.headline_laws.specs.of_promises.Beside.{comes_promptly, commits_when_asked, refusals_change_nothing}
+use Rattle.headline_laws.specs.of_promises.Headline.{Headline}
+use Rattle.headline_laws.specs.of_promises.Past.{nothing_yet}
+use Rattle.headline_laws.specs.of_promises.Traces.{each}
+use Rattle.headline_laws.specs.of_promises.Lines.{IsAskedFor}
+use Rattle.headline_laws.specs.of_promises.Stops.{Stops}
 use Rattle.schedule_lines.specs.Cluster.{config_of}
-use Rattle.audited_runs.specs.of_headline_promise_laws.of_headline_laws.TheRun.{IsOfRun}
-use Rattle.audited_runs.specs.of_headline_promise_laws.of_lawful_trace.Lawful.{IsLawful}
-use Rattle.audited_runs.specs.of_headline_promise_laws.of_promises.Convergence.{Convergence}
-use Rattle.audited_runs.specs.of_headline_promise_laws.of_promises.Progress.{Progress}
-use Rattle.audited_runs.specs.of_headline_promise_laws.of_tree_model.Folds.{Trace}
+use Rattle.audited_runs.specs.of_headline_laws.TheRun.{IsOfRun}
+use Rattle.headline_laws.specs.of_lawful_trace.Lawful.{IsLawful}
+use Rattle.headline_laws.specs.of_promises.Convergence.{Convergence}
+use Rattle.headline_laws.specs.of_promises.Progress.{Progress}
+use Rattle.headline_laws.specs.of_tree_model.Folds.{Trace}
 use Rattle.audited_runs.specs.Answered.{IsAuditedWell}
-use Rattle.box_laws.specs.Boxes.{Boxed}
+use Rattle.headline_laws.specs.Boxes.Boxes.{Boxed}
 use Rattle.steady_laws.specs.OneVersion.{ReadsOneVersion}
 
 -- however the command ends

@@ -4,7 +4,7 @@ use Rattle.std.specs.Io.KnownBytes.{Appends}
 use Rattle.schedule_lines.specs.declared.line.ScheduleLine.{ScheduleLine}
 use Rattle.trace_book.specs.declared.entry.Entry.{Entry}
 use Rattle.the_run.specs.Commands.{reply_line, counts_text, counts_onto, no_counts, load_lines}
-use Rattle.audited_runs.specs.of_headline_promise_laws.of_tree_model.Folds.{Trace, told}
+use Rattle.headline_laws.specs.of_tree_model.Folds.{Trace, told}
 use Rattle.generated_load.specs.Draws.{draws_of}
 use Rattle.command_words.specs.Words.{IsCommand}
 use Rattle.command_words.specs.declared.command.Command.{Command}

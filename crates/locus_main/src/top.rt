@@ -4,7 +4,7 @@ ghost use Rattle.the_run.specs.Runs.{run as run_of};
 ghost use Rattle.the_run.specs.Commands.{load_lines, load_text};
 ghost use Rattle.generated_load.specs.Draws.{draws_of};
 ghost use Rattle.command_words.specs.Words.{IsCommand};
-ghost use Rattle.audited_runs.specs.of_headline_promise_laws.of_headline_laws.TheRun.{TheRun};
+ghost use Rattle.audited_runs.specs.of_headline_laws.TheRun.{TheRun};
 ghost use Rattle.locus_main.specs.Audits.{AuditPromises};
 ghost use Rattle.input_run.specs.Codes.{ends_written};
 ghost use Rattle.input_run.specs.Inputs.Input.{Schedule, Calls};

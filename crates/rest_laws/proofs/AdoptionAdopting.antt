@@ -28,18 +28,18 @@ use Rattle.tree_laws.specs.Stores.{PullFact, Ascends}
 use Rattle.tree_laws.specs.Tables.{TableFact}
 use Rattle.tree_laws.proofs.Boots.{every_pair}
 use Rattle.tree_laws.proofs.Later.{every_among}
-use Rattle.one_tree_laws.proofs.of_store_laws.Adopting.{adopted_sent, store_adopted, pulled_content}
-use Rattle.one_tree_laws.proofs.of_store_laws.PulledPages.{pages_among}
-use Rattle.one_tree_laws.specs.of_store_laws.Pulling.{AdoptsFile}
-use Rattle.one_tree_laws.specs.of_sync_laws.Staying.{TouchesTable}
-use Rattle.one_tree_laws.proofs.of_sync_laws.Staying.{table_stays}
-use Rattle.one_tree_laws.specs.Places.{InsideFact, UsersOf, synced_groups}
-use Rattle.one_tree_laws.specs.Rest.{more}
-use Rattle.one_tree_laws.proofs.Frames.{pulls_beside, users_frame}
-use Rattle.one_tree_laws.proofs.Framing.{frame_stays}
-use Rattle.one_tree_laws.proofs.Parts.{tables_rise}
-use Rattle.one_tree_laws.proofs.Rising.{Rising, among_map, every_replaced, keys_same, row_key}
-use Rattle.one_tree_laws.proofs.WantsAdopted.{ascends_left}
+use Rattle.store_laws.proofs.Adopting.{adopted_sent, store_adopted, pulled_content}
+use Rattle.store_laws.proofs.PulledPages.{pages_among}
+use Rattle.store_laws.specs.Pulling.{AdoptsFile}
+use Rattle.store_laws.specs.of_tree_laws.Syncs.Staying.{TouchesTable}
+use Rattle.store_laws.proofs.of_tree_laws.Syncs.Staying.{table_stays}
+use Rattle.store_laws.specs.OneTree.Places.{InsideFact, UsersOf, synced_groups}
+use Rattle.store_laws.specs.OneTree.Rest.{more}
+use Rattle.store_laws.proofs.OneTree.Frames.{pulls_beside, users_frame}
+use Rattle.store_laws.proofs.OneTree.Framing.{frame_stays}
+use Rattle.store_laws.proofs.OneTree.Parts.{tables_rise}
+use Rattle.store_laws.proofs.OneTree.Rising.{Rising, among_map, every_replaced, keys_same, row_key}
+use Rattle.store_laws.proofs.OneTree.WantsAdopted.{ascends_left}
 use Rattle.rest_laws.proofs.AdoptionWants.{IsTaken, comes, complete, may, stay, stores, tells, wants}
 
 -- what isn't found is nowhere

@@ -10,13 +10,13 @@ use Rattle.the_run.specs.Worlds.{Line}
 use Rattle.the_run.proofs.InsideSync.{every_without}
 use Rattle.tree_laws.specs.Doing.{Fine, IsAdopted, PullsFact, WriteFact}
 use Rattle.tree_laws.specs.Stores.{PullFact}
-use Rattle.one_tree_laws.specs.Places.{InsideFact}
-use Rattle.one_tree_laws.specs.Rest.{AllRest, Past}
-use Rattle.one_tree_laws.specs.Roles.{Ready}
+use Rattle.store_laws.specs.OneTree.Places.{InsideFact}
+use Rattle.store_laws.specs.OneTree.Rest.{AllRest, Past}
+use Rattle.store_laws.specs.OneTree.Roles.{Ready}
 use Rattle.rest_laws.proofs.AdoptionAdopting.{adopted_fine}
 use Rattle.rest_laws.proofs.AdoptionNoting.{noted_own}
 use Rattle.rest_laws.proofs.AdoptionWants.{IsTaken}
-use Rattle.one_tree_laws.proofs.WantsAdopted.{ascends_left}
+use Rattle.store_laws.proofs.OneTree.WantsAdopted.{ascends_left}
 
 -- what is done of a pull that is ready, where it is above what the site has, and where it isn't
 abbrev by_above : Frame → Pull → List Pull → SiteView → Bool → Outcome SiteView

@@ -41,7 +41,7 @@ use Rattle.tree_laws.proofs.Fresh.{IsNamed, calls_are_low, next_is_new, numbered
 use Rattle.tree_laws.proofs.Having.{Untaken, has_stays, named_or_untaken}
 use Rattle.tree_laws.proofs.Names.{same_call_eq, same_call_own, same_serial_eq, same_serial_own}
 use Rattle.tree_laws.proofs.Scripts.{named_stays}
-use Rattle.one_tree_laws.proofs.of_store_laws.Begun.{granted_in}
+use Rattle.store_laws.proofs.Begun.{granted_in}
 
 abbrev With : ℕ → Told → List Line → List Line
 With n x older = record { number = n; told = x } ∷ older

@@ -40,19 +40,19 @@ use Rattle.tree_laws.proofs.Awaiting.{all_have}
 use Rattle.tree_laws.proofs.Mending.{mends_at_sync}
 use Rattle.tree_laws.proofs.Scripts.{named_stays}
 use Rattle.tree_laws.proofs.Waiting.{IsIt, accepted, asking_waits}
-use Rattle.one_tree_laws.proofs.of_order_laws.ProcessOpen.{OpenAs, granted_open}
-use Rattle.one_tree_laws.proofs.of_holding_laws.Released.{released_shut}
-use Rattle.one_tree_laws.proofs.of_holding_laws.MendMends.{mend_opened}
-use Rattle.one_tree_laws.proofs.of_holding_laws.RoomOpenGranted.{GrantedSo, open_granted}
+use Rattle.store_laws.proofs.of_tree_laws.Orders.ProcessOpen.{OpenAs, granted_open}
+use Rattle.store_laws.proofs.Holdings.Released.{released_shut}
+use Rattle.store_laws.proofs.Holdings.MendMends.{mend_opened}
+use Rattle.store_laws.proofs.Holdings.RoomOpenGranted.{GrantedSo, open_granted}
 use Rattle.rest_laws.proofs.MendStepPlaces.{mend_place}
-use Rattle.one_tree_laws.proofs.of_store_laws.ScriptEnding.{GivesNone}
-use Rattle.one_tree_laws.proofs.of_store_laws.ScriptEndingCalls.{NotOpen, has_by, wants_end}
-use Rattle.one_tree_laws.proofs.of_store_laws.ScriptFitted.{Began, began, fit_same, log_fits, script_sound}
-use Rattle.one_tree_laws.proofs.of_store_laws.ScriptFitting.{IsSound}
-use Rattle.one_tree_laws.proofs.of_store_laws.ScriptHad.{by_same, has_log}
-use Rattle.one_tree_laws.proofs.of_store_laws.ScriptNaming.{script_by}
-use Rattle.one_tree_laws.proofs.of_store_laws.ScriptSoundCalls.{HasFree, WalksWords}
-use Rattle.one_tree_laws.proofs.of_store_laws.Begun.{granted_in}
+use Rattle.store_laws.proofs.ScriptEnding.{GivesNone}
+use Rattle.store_laws.proofs.ScriptEndingCalls.{NotOpen, has_by, wants_end}
+use Rattle.store_laws.proofs.ScriptFitted.{Began, began, fit_same, log_fits, script_sound}
+use Rattle.store_laws.proofs.ScriptFitting.{IsSound}
+use Rattle.store_laws.proofs.ScriptHad.{by_same, has_log}
+use Rattle.store_laws.proofs.ScriptNaming.{script_by}
+use Rattle.store_laws.proofs.ScriptSoundCalls.{HasFree, WalksWords}
+use Rattle.store_laws.proofs.Begun.{granted_in}
 use Rattle.rest_laws.specs.AdoptionMending.{MendWaits}
 use Rattle.rest_laws.proofs.AdoptionHaving.{HasOrWaits, granted_had}
 

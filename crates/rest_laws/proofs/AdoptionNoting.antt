@@ -40,26 +40,26 @@ use Rattle.tree_laws.proofs.Boots.{every_both, every_pair}
 use Rattle.tree_laws.proofs.Rows.{followed_rows}
 use Rattle.tree_laws.proofs.Versions.{versions_stay}
 use Rattle.tree_laws.proofs.Waiting.{found_among}
-use Rattle.one_tree_laws.proofs.of_order_laws.Standing.{same_stamp_eq}
-use Rattle.one_tree_laws.proofs.of_holding_laws.Ancestors.{ancestor_through, ancestors_one}
-use Rattle.one_tree_laws.proofs.of_holding_laws.Begun.{open_in_group}
-use Rattle.one_tree_laws.proofs.of_holding_laws.Below.{commits_new}
-use Rattle.one_tree_laws.proofs.of_holding_laws.Made.{held_stand, rows_made}
-use Rattle.one_tree_laws.specs.of_holding_laws.Order.{IsWellMade}
-use Rattle.one_tree_laws.proofs.of_store_laws.Adopting.{has_adopted}
-use Rattle.one_tree_laws.proofs.of_store_laws.Commits.{file_own}
-use Rattle.one_tree_laws.proofs.of_store_laws.Tabled.{row_found, row_other, row_same}
-use Rattle.one_tree_laws.proofs.of_sync_laws.Ahead.{ahead_stays}
-use Rattle.one_tree_laws.proofs.of_sync_laws.Files.{file_row_stays}
-use Rattle.one_tree_laws.proofs.of_sync_laws.Held.{Moves, held_moves}
-use Rattle.one_tree_laws.proofs.of_sync_laws.Staying.{table_with}
-use Rattle.one_tree_laws.proofs.of_sync_laws.Orderly.{holder_orderly}
-use Rattle.one_tree_laws.proofs.of_sync_laws.Rows.{every_among, row_every, row_key_is}
-use Rattle.one_tree_laws.specs.Rest.{more}
-use Rattle.one_tree_laws.proofs.Composing.{past_more}
-use Rattle.one_tree_laws.proofs.Staying.{rest_below}
-use Rattle.one_tree_laws.proofs.ToldVectorOnly.{stamp_only}
-use Rattle.one_tree_laws.proofs.ToldVectorTelling.{vectors_tell_newer}
+use Rattle.store_laws.proofs.of_tree_laws.Orders.Standing.{same_stamp_eq}
+use Rattle.store_laws.proofs.Holdings.Ancestors.{ancestor_through, ancestors_one}
+use Rattle.store_laws.proofs.Holdings.Begun.{open_in_group}
+use Rattle.store_laws.proofs.Holdings.Below.{commits_new}
+use Rattle.store_laws.proofs.Holdings.Made.{held_stand, rows_made}
+use Rattle.store_laws.specs.Holdings.Order.{IsWellMade}
+use Rattle.store_laws.proofs.Adopting.{has_adopted}
+use Rattle.store_laws.proofs.Commits.{file_own}
+use Rattle.store_laws.proofs.Tabled.{row_found, row_other, row_same}
+use Rattle.store_laws.proofs.of_tree_laws.Syncs.Ahead.{ahead_stays}
+use Rattle.store_laws.proofs.of_tree_laws.Syncs.Files.{file_row_stays}
+use Rattle.store_laws.proofs.of_tree_laws.Syncs.Held.{Moves, held_moves}
+use Rattle.store_laws.proofs.of_tree_laws.Syncs.Staying.{table_with}
+use Rattle.store_laws.proofs.of_tree_laws.Syncs.Orderly.{holder_orderly}
+use Rattle.store_laws.proofs.of_tree_laws.Syncs.Rows.{every_among, row_every, row_key_is}
+use Rattle.store_laws.specs.OneTree.Rest.{more}
+use Rattle.store_laws.proofs.OneTree.Composing.{past_more}
+use Rattle.store_laws.proofs.OneTree.Staying.{rest_below}
+use Rattle.store_laws.proofs.OneTree.ToldVectorOnly.{stamp_only}
+use Rattle.store_laws.proofs.OneTree.ToldVectorTelling.{vectors_tell_newer}
 use Rattle.rest_laws.proofs.StoreStepResting.{store_rests}
 use Rattle.rest_laws.proofs.AdoptionRows.{among_other, any_passes, each_member, filtered_passes, rising_row, version_there}
 use Rattle.rest_laws.proofs.AdoptionShut.{shut_here}

@@ -24,14 +24,14 @@ use Rattle.tree_laws.specs.Following.{IsFollowed, MayTell}
 use Rattle.tree_laws.specs.Past.{GrantRecord, Printed, WasGranted, WasReleased}
 use Rattle.tree_laws.specs.Printed.{entries, onto_entries}
 use Rattle.tree_laws.proofs.Rows.{followed_rows}
-use Rattle.one_tree_laws.specs.of_order_laws.Joining.{PacksAreOfSites}
-use Rattle.one_tree_laws.specs.of_order_laws.Keeping.{PassesBy}
-use Rattle.one_tree_laws.proofs.of_order_laws.Alone.{first_none, unrefused}
-use Rattle.one_tree_laws.proofs.of_order_laws.Keeping.{IsNew, kept_by}
-use Rattle.one_tree_laws.proofs.of_order_laws.ProcessOpen.{OpenAs, granted_open}
-use Rattle.one_tree_laws.proofs.of_holding_laws.Begun.{open_in_group}
-use Rattle.one_tree_laws.proofs.of_holding_laws.Kept.{open_keeps}
-use Rattle.one_tree_laws.proofs.of_holding_laws.Made.{CommitsAreNew}
+use Rattle.store_laws.specs.of_tree_laws.Orders.Joining.{PacksAreOfSites}
+use Rattle.store_laws.specs.of_tree_laws.Orders.Keeping.{PassesBy}
+use Rattle.store_laws.proofs.of_tree_laws.Orders.Alone.{first_none, unrefused}
+use Rattle.store_laws.proofs.of_tree_laws.Orders.Keeping.{IsNew, kept_by}
+use Rattle.store_laws.proofs.of_tree_laws.Orders.ProcessOpen.{OpenAs, granted_open}
+use Rattle.store_laws.proofs.Holdings.Begun.{open_in_group}
+use Rattle.store_laws.proofs.Holdings.Kept.{open_keeps}
+use Rattle.store_laws.proofs.Holdings.Made.{CommitsAreNew}
 
 abbrev With : ℕ → Told → List Line → List Line
 With n x older = record { number = n; told = x } ∷ older

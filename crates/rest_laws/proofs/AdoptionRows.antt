@@ -17,8 +17,8 @@ use Rattle.the_run.specs.Kept.{Among}
 use Rattle.tree_model.specs.State.{has_stamp}
 use Rattle.tree_laws.specs.Stores.{Ascends}
 use Rattle.tree_laws.specs.Tables.{AreRising, row_stamp}
-use Rattle.one_tree_laws.proofs.of_order_laws.Standing.{same_stamp_eq}
-use Rattle.one_tree_laws.proofs.of_store_laws.Tabled.{ascends_row}
+use Rattle.store_laws.proofs.of_tree_laws.Orders.Standing.{same_stamp_eq}
+use Rattle.store_laws.proofs.Tabled.{ascends_row}
 
 -- another row is there still
 pub among_other : {A : Type 0} (key : A → ℕ) (x y : A) (xs : List A) → (key y ≡ key x → ⊥) → Among y xs → Among y (with_row key x xs)

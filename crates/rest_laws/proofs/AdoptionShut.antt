@@ -35,20 +35,20 @@ use Rattle.tree_laws.specs.Printed.{entries}
 use Rattle.tree_laws.specs.Stores.{PullFact}
 use Rattle.tree_laws.proofs.Names.{same_serial_own}
 use Rattle.tree_laws.proofs.Rows.{followed_rows}
-use Rattle.one_tree_laws.specs.of_holding_laws.Held.{IsBelowKept, StandsOnHeld}
-use Rattle.one_tree_laws.proofs.of_holding_laws.Ancestors.{ancestor_through, ancestors_one}
-use Rattle.one_tree_laws.proofs.of_holding_laws.Below.{commits_new}
-use Rattle.one_tree_laws.proofs.of_holding_laws.Distinct.{NamesApart, open_now, rows_names_apart}
-use Rattle.one_tree_laws.proofs.of_holding_laws.Holding.{below_kept, stands_on_held}
-use Rattle.one_tree_laws.proofs.of_holding_laws.Made.{CommitsAreNew, held_stand, rows_made}
-use Rattle.one_tree_laws.proofs.of_holding_laws.Released.{released_shut}
-use Rattle.one_tree_laws.proofs.of_holding_laws.Rising.{known_stands, member_stands}
-use Rattle.one_tree_laws.proofs.of_holding_laws.RoomOpenGranted.{GrantedSo, open_granted}
-use Rattle.one_tree_laws.proofs.of_holding_laws.OneVersionAbove.{BelowLast, IsAbove, open_above}
-use Rattle.one_tree_laws.proofs.of_store_laws.Commits.{file_own}
-use Rattle.one_tree_laws.specs.Places.{InsideFact}
-use Rattle.one_tree_laws.specs.Rest.{Past}
-use Rattle.one_tree_laws.proofs.Staying.{rest_below}
+use Rattle.store_laws.specs.Holdings.Held.{IsBelowKept, StandsOnHeld}
+use Rattle.store_laws.proofs.Holdings.Ancestors.{ancestor_through, ancestors_one}
+use Rattle.store_laws.proofs.Holdings.Below.{commits_new}
+use Rattle.store_laws.proofs.Holdings.Distinct.{NamesApart, open_now, rows_names_apart}
+use Rattle.store_laws.proofs.Holdings.Holding.{below_kept, stands_on_held}
+use Rattle.store_laws.proofs.Holdings.Made.{CommitsAreNew, held_stand, rows_made}
+use Rattle.store_laws.proofs.Holdings.Released.{released_shut}
+use Rattle.store_laws.proofs.Holdings.Rising.{known_stands, member_stands}
+use Rattle.store_laws.proofs.Holdings.RoomOpenGranted.{GrantedSo, open_granted}
+use Rattle.store_laws.proofs.Holdings.OneVersionAbove.{BelowLast, IsAbove, open_above}
+use Rattle.store_laws.proofs.Commits.{file_own}
+use Rattle.store_laws.specs.OneTree.Places.{InsideFact}
+use Rattle.store_laws.specs.OneTree.Rest.{Past}
+use Rattle.store_laws.proofs.OneTree.Staying.{rest_below}
 use Rattle.rest_laws.proofs.StoreStepResting.{store_rests}
 use Rattle.rest_laws.specs.AdoptionMending.{MendWaits}
 use Rattle.rest_laws.proofs.MendStepRows.{HasRow, any_among, has_row}

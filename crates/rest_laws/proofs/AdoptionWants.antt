@@ -14,13 +14,13 @@ use Rattle.tree_laws.specs.Following.{MayTell}
 use Rattle.tree_laws.specs.Frames.{AllStay}
 use Rattle.tree_laws.specs.Instances.{Stands}
 use Rattle.tree_laws.specs.Stores.{PullFact}
-use Rattle.one_tree_laws.proofs.of_order_laws.Standing.{same_file_eq}
-use Rattle.one_tree_laws.specs.of_store_laws.Rests.{AdoptRests, StoreRests}
-use Rattle.one_tree_laws.proofs.of_store_laws.Adopting.{may_adopt}
-use Rattle.one_tree_laws.specs.Places.{InsideFact}
-use Rattle.one_tree_laws.specs.Rest.{Comes, Past, RestTold, more}
-use Rattle.one_tree_laws.proofs.Staying.{stays}
-use Rattle.one_tree_laws.proofs.ToldVectorTelling.{vectors_tell_newer}
+use Rattle.store_laws.proofs.of_tree_laws.Orders.Standing.{same_file_eq}
+use Rattle.store_laws.specs.Rests.{AdoptRests, StoreRests}
+use Rattle.store_laws.proofs.Adopting.{may_adopt}
+use Rattle.store_laws.specs.OneTree.Places.{InsideFact}
+use Rattle.store_laws.specs.OneTree.Rest.{Comes, Past, RestTold, more}
+use Rattle.store_laws.proofs.OneTree.Staying.{stays}
+use Rattle.store_laws.proofs.OneTree.ToldVectorTelling.{vectors_tell_newer}
 use Rattle.rest_laws.proofs.StoreStepResting.{store_rests}
 use Rattle.rest_laws.proofs.AdoptionShut.{shut_here}
 

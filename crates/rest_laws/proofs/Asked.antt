@@ -9,21 +9,21 @@ use Rattle.tree_laws.proofs.Waiting.{found_among}
 use Rattle.tree_laws.specs.Printed.{entries}
 use Rattle.tree_laws.specs.Packets.{serial_of}
 use Rattle.tree_laws.specs.Serials.{serial_asked}
-use Rattle.one_tree_laws.specs.of_user_laws.Rests.{ActRests, CloseRests, LookRests, OpenRests, ReadRests, ReplyRests, RequestRests}
-use Rattle.one_tree_laws.proofs.of_store_laws.ScriptOpened.{opened_as}
-use Rattle.one_tree_laws.proofs.of_store_laws.ScriptReading.{read_again, reopened_granted}
-use Rattle.one_tree_laws.proofs.of_store_laws.ScriptReplies.{gives_unchanged, strays_never}
-use Rattle.one_tree_laws.proofs.of_store_laws.ScriptSaid.{open_numbered, resolution_said}
-use Rattle.one_tree_laws.proofs.of_store_laws.ScriptWholes.{whole_served, wholes_brought}
-use Rattle.one_tree_laws.proofs.of_store_laws.Serving.{looked_stands}
-use Rattle.one_tree_laws.proofs.of_store_laws.AnswerAnswering.{act_waits, close_waits}
-use Rattle.one_tree_laws.proofs.of_store_laws.AnswerMending.{mend_waits}
-use Rattle.one_tree_laws.proofs.of_store_laws.AnswerOwning.{owner_numbered}
-use Rattle.one_tree_laws.proofs.of_store_laws.AnswerUnasked.{opens_unasked}
-use Rattle.one_tree_laws.proofs.RemoveRemovers.{sees_target}
-use Rattle.one_tree_laws.specs.UserStepRests.{UserRests}
-use Rattle.one_tree_laws.specs.Rest.{Past}
-use Rattle.one_tree_laws.proofs.Staying.{rest_below}
+use Rattle.store_laws.specs.Users.Rests.{ActRests, CloseRests, LookRests, OpenRests, ReadRests, ReplyRests, RequestRests}
+use Rattle.store_laws.proofs.ScriptOpened.{opened_as}
+use Rattle.store_laws.proofs.ScriptReading.{read_again, reopened_granted}
+use Rattle.store_laws.proofs.ScriptReplies.{gives_unchanged, strays_never}
+use Rattle.store_laws.proofs.ScriptSaid.{open_numbered, resolution_said}
+use Rattle.store_laws.proofs.ScriptWholes.{whole_served, wholes_brought}
+use Rattle.store_laws.proofs.Serving.{looked_stands}
+use Rattle.store_laws.proofs.AnswerAnswering.{act_waits, close_waits}
+use Rattle.store_laws.proofs.AnswerMending.{mend_waits}
+use Rattle.store_laws.proofs.AnswerOwning.{owner_numbered}
+use Rattle.store_laws.proofs.AnswerUnasked.{opens_unasked}
+use Rattle.store_laws.proofs.OneTree.RemoveRemovers.{sees_target}
+use Rattle.store_laws.specs.OneTree.UserStepRests.{UserRests}
+use Rattle.store_laws.specs.OneTree.Rest.{Past}
+use Rattle.store_laws.proofs.OneTree.Staying.{rest_below}
 use Rattle.rest_laws.specs.Asking.{OpensAreSaid}
 use Rattle.rest_laws.proofs.ReadBytes.{gave_bytes}
 use Rattle.rest_laws.proofs.StoreStepReading.{reads_kept}

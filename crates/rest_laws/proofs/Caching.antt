@@ -8,14 +8,14 @@ use Rattle.role_steps.specs.Views.{SiteView}
 use Rattle.role_steps.specs.declared.rounds.InEpoch.{InEpoch}
 use Rattle.the_run.specs.Runs.{run, run_in}
 use Rattle.the_run.specs.Worlds.{Line, Running}
-use Rattle.tree_laws.specs.of_cache_laws.Right.{AreRight}
+use Rattle.tree_laws.specs.Caches.Right.{AreRight}
 use Rattle.tree_laws.specs.Users.{contents_in}
-use Rattle.one_tree_laws.specs.of_row_laws.Voids.{LinesFit}
-use Rattle.one_tree_laws.specs.of_order_laws.Joining.{PacksAreOfSites}
-use Rattle.one_tree_laws.specs.Places.{SiteFact, SiteIn}
-use Rattle.one_tree_laws.proofs.of_row_laws.Fitting.{schedule_fits}
-use Rattle.one_tree_laws.proofs.Run.{run_holds}
-use Rattle.one_tree_laws.proofs.Staying.{stays}
+use Rattle.store_laws.specs.of_row_laws.Voids.{LinesFit}
+use Rattle.store_laws.specs.of_tree_laws.Orders.Joining.{PacksAreOfSites}
+use Rattle.store_laws.specs.OneTree.Places.{SiteFact, SiteIn}
+use Rattle.store_laws.proofs.of_row_laws.Fitting.{schedule_fits}
+use Rattle.store_laws.proofs.OneTree.Run.{run_holds}
+use Rattle.store_laws.proofs.OneTree.Staying.{stays}
 use Rattle.rest_laws.specs.Caching.{CachedPagesAreRight}
 use Rattle.rest_laws.proofs.Packs.{schedule_packs}
 use Rattle.rest_laws.proofs.Resting.{run_low, run_rests}

@@ -20,7 +20,7 @@ use Rattle.tree_model.specs.Lists.{put_first}
 use Rattle.tree_model.specs.Packs.{has_pack}
 use Rattle.tree_model.specs.State.{TreeState, copy_of, is_copy_of, is_granted_here, is_make, with_copy}
 use Rattle.tree_model.specs.Tree.{acted, copy_now, entered, grant_of, granted, joined, left, next, released, tree_of, with_root, without_make}
-use Rattle.one_tree_laws.proofs.of_order_laws.Lists.{all_more, all_put}
+use Rattle.store_laws.proofs.of_tree_laws.Orders.Lists.{all_more, all_put}
 
 abbrev Other : HeldCopy → HeldCopy → Type 0
 Other x y = is_copy_of x.site x.ino y ≡ false

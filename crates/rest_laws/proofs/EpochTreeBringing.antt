@@ -30,11 +30,11 @@ use Rattle.tree_laws.specs.Printed.{entries}
 use Rattle.tree_laws.proofs.Kinship.{started_stays}
 use Rattle.tree_laws.proofs.Names.{same_epoch_eq}
 use Rattle.tree_laws.proofs.Rows.{followed_rows}
-use Rattle.one_tree_laws.proofs.of_order_laws.Alone.{tree_named}
-use Rattle.one_tree_laws.proofs.of_order_laws.Started.{open_started}
-use Rattle.one_tree_laws.proofs.of_holding_laws.Copies.{copies_are, copy_entered}
-use Rattle.one_tree_laws.proofs.of_holding_laws.Reports.{nothing_written}
-use Rattle.one_tree_laws.proofs.of_holding_laws.OneVersionAscending.{all_brought}
+use Rattle.store_laws.proofs.of_tree_laws.Orders.Alone.{tree_named}
+use Rattle.store_laws.proofs.of_tree_laws.Orders.Started.{open_started}
+use Rattle.store_laws.proofs.Holdings.Copies.{copies_are, copy_entered}
+use Rattle.store_laws.proofs.Holdings.Reports.{nothing_written}
+use Rattle.store_laws.proofs.Holdings.OneVersionAscending.{all_brought}
 use Rattle.rest_laws.proofs.EpochTreeApart.{copies_once, once_found, once_rooted}
 
 -- some site holds it

@@ -20,8 +20,8 @@ use Rattle.tree_laws.specs.Packets.{BodyFact, IsReporter, ReportFact, ReportsNow
 use Rattle.tree_laws.specs.Printed.{entries}
 use Rattle.tree_laws.specs.Tables.{FilesFact, HoldsJust, ReportedFiles, TableFact}
 use Rattle.tree_laws.proofs.Boots.{every_both}
-use Rattle.one_tree_laws.specs.Rest.{AllRest}
-use Rattle.one_tree_laws.specs.Roles.{Came, Ready, TableHere}
+use Rattle.store_laws.specs.OneTree.Rest.{AllRest}
+use Rattle.store_laws.specs.OneTree.Roles.{Came, Ready, TableHere}
 use Rattle.rest_laws.specs.EpochTreeCounting.{IsNotedRight}
 use Rattle.rest_laws.specs.EpochTreeStarting.{BroughtFiles}
 use Rattle.rest_laws.specs.EpochTreeWaiting.{RequestsDo}

@@ -10,7 +10,7 @@ use Rattle.role_steps.specs.Views.{Frame}
 use Rattle.role_steps.specs.declared.synchronizing.SyncTable.{SyncTable}
 use Rattle.the_run.specs.Worlds.{Line}
 use Rattle.tree_laws.specs.Packets.{ReportedNow}
-use Rattle.one_tree_laws.specs.Rest.{Past}
+use Rattle.store_laws.specs.OneTree.Rest.{Past}
 use Rattle.tree_laws.specs.Tables.{FilesFact, ReportedFiles, TableFact}
 use Rattle.rest_laws.specs.EpochTreeCounting.{IsNotedRight, RowsSo}
 use Rattle.rest_laws.proofs.EpochTreeCounting.{report_rows}

@@ -23,12 +23,12 @@ use Rattle.tree_laws.specs.Printed.{entries}
 use Rattle.tree_laws.specs.Stores.{Ascends}
 use Rattle.tree_laws.specs.Tables.{AreRising, FileFact, HasHolder, HoldingFact, IsOrderly, VersionFact}
 use Rattle.tree_laws.proofs.Boots.{every_both, every_filter}
-use Rattle.one_tree_laws.proofs.of_holding_laws.Ancestors.{ancestor_own}
-use Rattle.one_tree_laws.proofs.of_store_laws.Tabled.{ascends_row, row_found}
-use Rattle.one_tree_laws.proofs.of_call_row_laws.Rising.{key_case, put_keeps, put_there}
-use Rattle.one_tree_laws.proofs.of_sync_laws.Orderly.{holder_orderly, version_orderly, version_there}
-use Rattle.one_tree_laws.specs.Rest.{Past}
-use Rattle.one_tree_laws.proofs.ToldVectorOnly.{only_version}
+use Rattle.store_laws.proofs.Holdings.Ancestors.{ancestor_own}
+use Rattle.store_laws.proofs.Tabled.{ascends_row, row_found}
+use Rattle.store_laws.proofs.of_row_laws.CallRows.Rising.{key_case, put_keeps, put_there}
+use Rattle.store_laws.proofs.of_tree_laws.Syncs.Orderly.{holder_orderly, version_orderly, version_there}
+use Rattle.store_laws.specs.OneTree.Rest.{Past}
+use Rattle.store_laws.proofs.OneTree.ToldVectorOnly.{only_version}
 use Rattle.rest_laws.specs.EpochTreeCounting.{IsNotedRight, RowsSo}
 
 -- ---- rows in order ----

@@ -46,14 +46,14 @@ use Rattle.tree_laws.specs.Tables.{TableFact, Turn, last_turn}
 use Rattle.tree_laws.specs.Users.{UserInstanceFact, WaitingFact}
 use Rattle.tree_laws.proofs.Names.{same_epoch_own}
 use Rattle.tree_laws.proofs.Rows.{followed_rows}
-use Rattle.one_tree_laws.proofs.of_order_laws.Joining.{no_pack_comes}
-use Rattle.one_tree_laws.specs.of_user_laws.Leaving.{AreApart as CallsApart}
-use Rattle.one_tree_laws.proofs.of_sync_laws.Members.{table_boot}
-use Rattle.one_tree_laws.specs.Places.{InsideFact, OutsideFact, SiteFact, SiteFine, UsersOf}
-use Rattle.one_tree_laws.specs.Rest.{AllRest, Past, RestTold, more}
-use Rattle.one_tree_laws.specs.Roles.{EpochsDo}
-use Rattle.one_tree_laws.proofs.Composing.{past_more}
-use Rattle.one_tree_laws.proofs.Frames.{copies_frame}
+use Rattle.store_laws.proofs.of_tree_laws.Orders.Joining.{no_pack_comes}
+use Rattle.store_laws.specs.Users.Leaving.{AreApart as CallsApart}
+use Rattle.store_laws.proofs.of_tree_laws.Syncs.Members.{table_boot}
+use Rattle.store_laws.specs.OneTree.Places.{InsideFact, OutsideFact, SiteFact, SiteFine, UsersOf}
+use Rattle.store_laws.specs.OneTree.Rest.{AllRest, Past, RestTold, more}
+use Rattle.store_laws.specs.OneTree.Roles.{EpochsDo}
+use Rattle.store_laws.proofs.OneTree.Composing.{past_more}
+use Rattle.store_laws.proofs.OneTree.Frames.{copies_frame}
 use Rattle.rest_laws.proofs.EpochTreeReports.{reports_sent}
 use Rattle.rest_laws.proofs.EpochTreeStarted.{begun_joined, looked_started, lost_started, named_started, unstarted_openers}
 

@@ -33,17 +33,17 @@ use Rattle.tree_laws.specs.Tables.{FileFact, FilesFact, HasReported, HasVersion,
 use Rattle.tree_laws.proofs.Boots.{every_both}
 use Rattle.tree_laws.proofs.Owing.{InGroup, found_every, in_group}
 use Rattle.tree_laws.proofs.Rows.{followed_rows}
-use Rattle.one_tree_laws.proofs.of_order_laws.Started.{open_started}
-use Rattle.one_tree_laws.specs.of_holding_laws.Held.{SitesHold}
-use Rattle.one_tree_laws.proofs.of_holding_laws.Below.{packs_hold}
-use Rattle.one_tree_laws.proofs.of_holding_laws.Holding.{known_or_ahead, sites_hold}
-use Rattle.one_tree_laws.proofs.of_holding_laws.OneVersionAscending.{known_ascends}
-use Rattle.one_tree_laws.proofs.of_store_laws.Tabled.{row_among}
-use Rattle.one_tree_laws.proofs.of_sync_laws.Rows.{every_among, row_every, row_key_is}
-use Rattle.one_tree_laws.specs.Rest.{Past}
-use Rattle.one_tree_laws.proofs.Staying.{rest_below}
-use Rattle.one_tree_laws.proofs.ToldVectorOnly.{row_stands, stands_low}
-use Rattle.one_tree_laws.proofs.ToldVectorTelling.{vectors_tell_newer}
+use Rattle.store_laws.proofs.of_tree_laws.Orders.Started.{open_started}
+use Rattle.store_laws.specs.Holdings.Held.{SitesHold}
+use Rattle.store_laws.proofs.Holdings.Below.{packs_hold}
+use Rattle.store_laws.proofs.Holdings.Holding.{known_or_ahead, sites_hold}
+use Rattle.store_laws.proofs.Holdings.OneVersionAscending.{known_ascends}
+use Rattle.store_laws.proofs.Tabled.{row_among}
+use Rattle.store_laws.proofs.of_tree_laws.Syncs.Rows.{every_among, row_every, row_key_is}
+use Rattle.store_laws.specs.OneTree.Rest.{Past}
+use Rattle.store_laws.proofs.OneTree.Staying.{rest_below}
+use Rattle.store_laws.proofs.OneTree.ToldVectorOnly.{row_stands, stands_low}
+use Rattle.store_laws.proofs.OneTree.ToldVectorTelling.{vectors_tell_newer}
 use Rattle.rest_laws.specs.EpochTreeStarting.{BroughtFiles}
 use Rattle.rest_laws.proofs.EpochTreeBringing.{IsHeld, known_held}
 use Rattle.rest_laws.proofs.EpochTreeBrought.{stamps_row}

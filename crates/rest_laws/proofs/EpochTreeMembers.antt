@@ -25,7 +25,7 @@ use Rattle.tree_model.specs.Epochs.{has_joined, members_of}
 use Rattle.tree_model.specs.Folds.{Trace}
 use Rattle.tree_model.specs.Packs.{has_pack}
 use Rattle.tree_model.specs.Packs as tree
-use Rattle.one_tree_laws.specs.of_vector_laws.HistoryCommits.{IsSite}
+use Rattle.store_laws.specs.of_site_laws.Vectors.HistoryCommits.{IsSite}
 use Rattle.tree_laws.specs.Doing.{FrameFact}
 use Rattle.tree_laws.specs.Following.{IsFollowed, MayTell}
 use Rattle.tree_laws.specs.Packets.{IsReporter}
@@ -33,8 +33,8 @@ use Rattle.tree_laws.specs.Printed.{entries, onto_entries}
 use Rattle.tree_laws.specs.Tables.{HasReported}
 use Rattle.tree_laws.proofs.Names.{same_epoch_eq}
 use Rattle.tree_laws.proofs.Rows.{followed_rows}
-use Rattle.one_tree_laws.proofs.of_order_laws.Joining.{boot_low, is_place}
-use Rattle.one_tree_laws.specs.Rest.{EachRest, Past, RangeTold}
+use Rattle.store_laws.proofs.of_tree_laws.Orders.Joining.{boot_low, is_place}
+use Rattle.store_laws.specs.OneTree.Rest.{EachRest, Past, RangeTold}
 use Rattle.rest_laws.proofs.EpochTreeStarting.{member_same}
 
 -- ---- who has joined ----

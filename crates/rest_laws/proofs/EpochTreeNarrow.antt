@@ -13,8 +13,8 @@ use Rattle.role_steps.specs.Views.{Told, Shown}
 use Rattle.the_run.specs.Worlds.{Line}
 use Rattle.tree_model.specs.Histories.{format_version, format_versions, history}
 use Rattle.tree_laws.specs.Printed.{entries, onto_entries}
-use Rattle.one_tree_laws.proofs.of_order_laws.Standing.{same_file_eq}
-use Rattle.one_tree_laws.specs.Rest.{EachRest, RangeRecord, RangeTold}
+use Rattle.store_laws.proofs.of_tree_laws.Orders.Standing.{same_file_eq}
+use Rattle.store_laws.specs.OneTree.Rest.{EachRest, RangeRecord, RangeTold}
 
 module _ (c : Config) (f : FileId) (stamp : Stamp) where
   formats : (k : ℕ) (packs : List Sites) → is_in (format_versions k packs) f stamp ≡ true → f.ino < inode_span

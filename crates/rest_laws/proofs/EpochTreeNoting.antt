@@ -28,7 +28,7 @@ use Rattle.tree_laws.specs.Packets.{ReportedNow, ReportsNow, file_in}
 use Rattle.tree_laws.specs.Printed.{entries}
 use Rattle.tree_laws.specs.Tables.{HasReported, HoldsJust, IsNoted, ReportedFiles}
 use Rattle.tree_laws.proofs.Boots.{every_both}
-use Rattle.one_tree_laws.proofs.of_sync_laws.Rows.{every_among, row_every, row_key_is}
+use Rattle.store_laws.proofs.of_tree_laws.Syncs.Rows.{every_among, row_every, row_key_is}
 use Rattle.rest_laws.proofs.EpochTreeCounted.{report_is}
 
 -- ---- who has reported ----

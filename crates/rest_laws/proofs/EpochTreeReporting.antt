@@ -13,8 +13,8 @@ use Rattle.role_steps.specs.declared.synchronizing.SyncTable.{SyncTable}
 use Rattle.the_run.specs.Worlds.{Line}
 use Rattle.tree_laws.specs.Doing.{TableFine}
 use Rattle.tree_laws.specs.Tables.{WaitsIn}
-use Rattle.one_tree_laws.specs.Rest.{AllRest}
-use Rattle.one_tree_laws.specs.Roles.{Ready, TableHere}
+use Rattle.store_laws.specs.OneTree.Rest.{AllRest}
+use Rattle.store_laws.specs.OneTree.Roles.{Ready, TableHere}
 use Rattle.rest_laws.specs.EpochTreeReporting.{MayCount}
 use Rattle.rest_laws.specs.EpochTreeWaiting.{RequestsDo}
 use Rattle.rest_laws.proofs.EpochTreeStarting.{starts_fine}

@@ -28,17 +28,17 @@ use Rattle.tree_laws.specs.Packets.{PacketFact, ReportedNow, ReportsNow, file_in
 use Rattle.tree_laws.specs.Printed.{entries}
 use Rattle.tree_laws.specs.Stores.{Ascends, CopiesAreHeld, copy_for}
 use Rattle.tree_laws.proofs.Rows.{followed_rows}
-use Rattle.one_tree_laws.specs.of_holding_laws.Below.{LawsBelow}
-use Rattle.one_tree_laws.specs.of_holding_laws.Held.{SitesHold}
-use Rattle.one_tree_laws.proofs.of_holding_laws.Below.{packs_hold}
-use Rattle.one_tree_laws.proofs.of_holding_laws.Copies.{epoch_joined}
-use Rattle.one_tree_laws.proofs.of_holding_laws.Holding.{sites_hold}
-use Rattle.one_tree_laws.proofs.of_holding_laws.Made.{held_stand}
-use Rattle.one_tree_laws.proofs.of_holding_laws.RoomStoreCopies.{copies_narrow}
-use Rattle.one_tree_laws.proofs.of_store_laws.Tabled.{row_among}
-use Rattle.one_tree_laws.specs.Rest.{Past}
-use Rattle.one_tree_laws.proofs.Repeats.{every_flat}
-use Rattle.one_tree_laws.proofs.Staying.{rest_below}
+use Rattle.store_laws.specs.Holdings.Below.{LawsBelow}
+use Rattle.store_laws.specs.Holdings.Held.{SitesHold}
+use Rattle.store_laws.proofs.Holdings.Below.{packs_hold}
+use Rattle.store_laws.proofs.Holdings.Copies.{epoch_joined}
+use Rattle.store_laws.proofs.Holdings.Holding.{sites_hold}
+use Rattle.store_laws.proofs.Holdings.Made.{held_stand}
+use Rattle.store_laws.proofs.Holdings.RoomStoreCopies.{copies_narrow}
+use Rattle.store_laws.proofs.Tabled.{row_among}
+use Rattle.store_laws.specs.OneTree.Rest.{Past}
+use Rattle.store_laws.proofs.OneTree.Repeats.{every_flat}
+use Rattle.store_laws.proofs.OneTree.Staying.{rest_below}
 use Rattle.rest_laws.proofs.EpochTreeNarrow.{stands_narrow}
 
 -- ---- each copy is found under its key ----

@@ -17,8 +17,8 @@ use Rattle.the_run.specs.Kept.{Among}
 use Rattle.tree_model.specs.State.{has_stamp, is_brought_below, stamps_of}
 use Rattle.tree_laws.specs.Stores.{Ascends as KeysAscend}
 use Rattle.tree_laws.specs.Tables.{AreRising}
-use Rattle.one_tree_laws.proofs.of_order_laws.Standing.{same_stamp_eq}
-use Rattle.one_tree_laws.proofs.of_holding_laws.OneVersionAscending.{Ascends}
+use Rattle.store_laws.proofs.of_tree_laws.Orders.Standing.{same_stamp_eq}
+use Rattle.store_laws.proofs.Holdings.OneVersionAscending.{Ascends}
 
 -- ---- elements of lists ----
 

@@ -33,9 +33,9 @@ use Rattle.tree_laws.specs.Printed.{entries}
 use Rattle.tree_laws.specs.Tables.{Turn, is_look_of, last_turn, turn_record, turn_told, named_instance, tree_openers}
 use Rattle.tree_laws.proofs.Kinship.{started_stays}
 use Rattle.tree_laws.proofs.Names.{same_epoch_eq}
-use Rattle.one_tree_laws.proofs.of_order_laws.Standing.{same_file_eq}
-use Rattle.one_tree_laws.proofs.of_order_laws.Started.{rows_started}
-use Rattle.one_tree_laws.proofs.of_holding_laws.Copies.{epoch_joined, joined_more}
+use Rattle.store_laws.proofs.of_tree_laws.Orders.Standing.{same_file_eq}
+use Rattle.store_laws.proofs.of_tree_laws.Orders.Started.{rows_started}
+use Rattle.store_laws.proofs.Holdings.Copies.{epoch_joined, joined_more}
 
 module _ (c : Config) (e : EpochId) (g : ℕ) where
   started_at : (older : List Line) (at : EpochId) (k : ℕ) → at ≡ e → k ≡ g → (tree_of c at k (entries older)).started ≡ true → IsStarted c older e g

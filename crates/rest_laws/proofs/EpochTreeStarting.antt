@@ -41,17 +41,17 @@ use Rattle.tree_laws.proofs.Boots.{every_both}
 use Rattle.tree_laws.proofs.Carried.{packet_stays}
 use Rattle.tree_laws.proofs.Names.{same_epoch_own}
 use Rattle.tree_laws.proofs.Versions.{versions_stay}
-use Rattle.one_tree_laws.proofs.of_order_laws.Alone.{tree_named}
-use Rattle.one_tree_laws.proofs.of_holding_laws.Copies.{epoch_joined}
-use Rattle.one_tree_laws.proofs.of_order_laws.ProcessSynchronizing.{sync_same}
-use Rattle.one_tree_laws.proofs.of_sync_laws.Ahead.{ahead_stays}
-use Rattle.one_tree_laws.proofs.of_sync_laws.Files.{file_row_stays}
-use Rattle.one_tree_laws.proofs.of_sync_laws.Notices.{repeats_fine}
-use Rattle.one_tree_laws.proofs.of_sync_laws.OpensStay.{names_stay, open_row_stays}
-use Rattle.one_tree_laws.proofs.of_sync_laws.Trees.{same_if}
-use Rattle.one_tree_laws.specs.Rest.{AllRest, Comes, RestTold, more}
-use Rattle.one_tree_laws.specs.Roles.{Ready, TableHere}
-use Rattle.one_tree_laws.proofs.Staying.{stays}
+use Rattle.store_laws.proofs.of_tree_laws.Orders.Alone.{tree_named}
+use Rattle.store_laws.proofs.Holdings.Copies.{epoch_joined}
+use Rattle.store_laws.proofs.of_tree_laws.Orders.ProcessSynchronizing.{sync_same}
+use Rattle.store_laws.proofs.of_tree_laws.Syncs.Ahead.{ahead_stays}
+use Rattle.store_laws.proofs.of_tree_laws.Syncs.Files.{file_row_stays}
+use Rattle.store_laws.proofs.of_tree_laws.Syncs.Notices.{repeats_fine}
+use Rattle.store_laws.proofs.of_tree_laws.Syncs.OpensStay.{names_stay, open_row_stays}
+use Rattle.store_laws.proofs.of_tree_laws.Syncs.Trees.{same_if}
+use Rattle.store_laws.specs.OneTree.Rest.{AllRest, Comes, RestTold, more}
+use Rattle.store_laws.specs.OneTree.Roles.{Ready, TableHere}
+use Rattle.store_laws.proofs.OneTree.Staying.{stays}
 use Rattle.rest_laws.specs.EpochTreeStarting.{BroughtFiles}
 use Rattle.rest_laws.specs.EpochTreeWaiting.{RequestsDo}
 use Rattle.rest_laws.proofs.EpochTreeBrought.{all_same, stamps_row}

@@ -11,12 +11,12 @@ use Rattle.tree_laws.specs.Doing.{IsOfTable, IsOfSite, NoWrite, TableFine, Table
 use Rattle.tree_laws.specs.Instances.{IsStarted}
 use Rattle.tree_laws.specs.Packets.{PacketFact}
 use Rattle.tree_laws.proofs.Kinship.{started_stays}
-use Rattle.one_tree_laws.specs.Rest.{AllRest, Past, more}
-use Rattle.one_tree_laws.specs.Roles.{Ready}
-use Rattle.one_tree_laws.proofs.Composing.{onto_append, packets_onto, past_onto, rest_first, rest_last, told_append}
-use Rattle.one_tree_laws.proofs.Framing.{every_at, frame_over}
-use Rattle.one_tree_laws.proofs.Sorts.{table_site}
-use Rattle.one_tree_laws.proofs.Staying.{stays}
+use Rattle.store_laws.specs.OneTree.Rest.{AllRest, Past, more}
+use Rattle.store_laws.specs.OneTree.Roles.{Ready}
+use Rattle.store_laws.proofs.OneTree.Composing.{onto_append, packets_onto, past_onto, rest_first, rest_last, told_append}
+use Rattle.store_laws.proofs.OneTree.Framing.{every_at, frame_over}
+use Rattle.store_laws.proofs.OneTree.Sorts.{table_site}
+use Rattle.store_laws.proofs.OneTree.Staying.{stays}
 
 unwritten : (a b : Option DiskWrite) → WrittenFact NoWrite a → WrittenFact NoWrite b → WrittenFact NoWrite (first_written a b)
 unwritten None b h k = k

@@ -16,10 +16,10 @@ use Rattle.tree_laws.specs.Doing.{TableFine}
 use Rattle.tree_laws.specs.Instances.{IsStarted}
 use Rattle.tree_laws.specs.Packets.{PacketFact}
 use Rattle.tree_laws.specs.Tables.{IsRequestIn, WaitsIn, early_packet}
-use Rattle.one_tree_laws.specs.Rest.{AllRest}
-use Rattle.one_tree_laws.specs.Roles.{Came, Ready, TableHere}
-use Rattle.one_tree_laws.proofs.Composing.{packet_onto, rest_first, rest_last}
-use Rattle.one_tree_laws.proofs.Staying.{stays}
+use Rattle.store_laws.specs.OneTree.Rest.{AllRest}
+use Rattle.store_laws.specs.OneTree.Roles.{Came, Ready, TableHere}
+use Rattle.store_laws.proofs.OneTree.Composing.{packet_onto, rest_first, rest_last}
+use Rattle.store_laws.proofs.OneTree.Staying.{stays}
 use Rattle.rest_laws.specs.EpochTreeWaiting.{RequestsDo}
 use Rattle.rest_laws.proofs.EpochTreeThen.{ready_onto, started_onto, table_then}
 

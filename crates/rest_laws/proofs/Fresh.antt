@@ -13,12 +13,12 @@ use Rattle.trace_book.specs.declared.record.Record.{Record}
 use Rattle.trace_book.specs.declared.record.Record.TheVariants as says
 use Rattle.role_steps.specs.Views.{Told, Shown}
 use Rattle.the_run.specs.Worlds.{Line}
-use Rattle.one_tree_laws.specs.of_vector_laws.Written.{IsNumbered, NumberedTold, past_of}
-use Rattle.one_tree_laws.specs.of_vector_laws.HistoryCommits.{StampsAreOnce, commits_of, real_parents}
+use Rattle.store_laws.specs.of_site_laws.Vectors.Written.{IsNumbered, NumberedTold, past_of}
+use Rattle.store_laws.specs.of_site_laws.Vectors.HistoryCommits.{StampsAreOnce, commits_of, real_parents}
 use Rattle.tree_model.specs.Histories.{history}
 use Rattle.tree_laws.specs.Frames.{IsFresh}
 use Rattle.tree_laws.specs.Printed.{entries}
-use Rattle.one_tree_laws.proofs.of_holding_laws.Below.{in_commits}
+use Rattle.store_laws.proofs.Holdings.Below.{in_commits}
 
 numbered_some : (older : List Told) (f : FileId) (s : ℕ) (stamp : Stamp) (parents : List Stamp) → IsNumbered older f s stamp parents → stamp.n ≡ 0 → ⊥
 numbered_some older f s stamp parents k e = never (part k.base (s - 1)) (sym e ∙ (k.number ∙ part-raised_same k.base (s - 1)))

@@ -80,16 +80,10 @@ pub mod Asked
 pub mod Roles
 pub mod Run
 pub mod Caching
-pub use Rattle.one_tree_laws.proofs as of_one_tree_laws
-pub use Rattle.one_tree_laws.proofs.of_call_row_laws as of_call_row_laws
-pub use Rattle.one_tree_laws.proofs.of_holding_laws as of_holding_laws
-pub use Rattle.one_tree_laws.proofs.of_make_laws as of_make_laws
-pub use Rattle.one_tree_laws.proofs.of_pack_laws as of_pack_laws
-pub use Rattle.one_tree_laws.proofs.of_row_laws as of_row_laws
-pub use Rattle.one_tree_laws.proofs.of_run_laws as of_run_laws
-pub use Rattle.one_tree_laws.proofs.of_store_laws as of_store_laws
-pub use Rattle.one_tree_laws.proofs.of_vector_laws as of_vector_laws
+pub mod CopiesKept
+pub mod Fits
+pub use Rattle.store_laws.proofs as of_store_laws
+pub use Rattle.store_laws.proofs.of_row_laws as of_row_laws
+pub use Rattle.store_laws.proofs.of_site_laws as of_site_laws
+pub use Rattle.store_laws.proofs.of_run_laws as of_run_laws
 pub use Rattle.tree_laws.proofs as of_tree_laws
-pub use Rattle.one_tree_laws.proofs.of_work_laws as of_work_laws
-pub use Rattle.one_tree_laws.proofs.of_kept_laws as of_kept_laws
-pub use Rattle.one_tree_laws.proofs.of_order_laws as of_order_laws

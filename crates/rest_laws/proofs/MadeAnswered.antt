@@ -58,25 +58,25 @@ use Rattle.tree_laws.proofs.Kinship.{tree_epoch_is, tree_group_is}
 use Rattle.tree_laws.proofs.Names.{same_epoch_own, true_or_false}
 use Rattle.tree_laws.proofs.Serials.{unnamed}
 use Rattle.tree_laws.proofs.Versions.{versions_stay}
-use Rattle.one_tree_laws.proofs.of_order_laws.Knowing.{tree_config}
-use Rattle.one_tree_laws.proofs.of_order_laws.Standing.{same_file_eq}
-use Rattle.one_tree_laws.specs.of_holding_laws.OneVersionNumbers.{IsFreeNumber}
-use Rattle.one_tree_laws.proofs.of_holding_laws.OneVersionMakes.{free_number}
-use Rattle.one_tree_laws.specs.of_sync_laws.Making.{MakesAreSaid}
-use Rattle.one_tree_laws.specs.of_sync_laws.Serving.{Serving}
-use Rattle.one_tree_laws.specs.of_sync_laws.Staying.{FilesStay}
-use Rattle.one_tree_laws.proofs.of_sync_laws.Adding.{openers_added, put_table}
-use Rattle.one_tree_laws.proofs.of_sync_laws.Again.{again}
-use Rattle.one_tree_laws.proofs.of_sync_laws.Answering.{openers_replaced}
-use Rattle.one_tree_laws.proofs.of_sync_laws.Looks.{group_served}
-use Rattle.one_tree_laws.proofs.of_sync_laws.Merging.{tree_members}
-use Rattle.one_tree_laws.proofs.of_sync_laws.Openings.{here, its, opening_asked}
-use Rattle.one_tree_laws.proofs.of_sync_laws.OpensStay.{open_row_stays}
-use Rattle.one_tree_laws.proofs.of_sync_laws.TreeCalls.{call_in_is, granted_was_named, released_was_named}
-use Rattle.one_tree_laws.proofs.of_sync_laws.Trees.{same_if}
-use Rattle.one_tree_laws.proofs.of_store_laws.Said.{asked_as_said}
-use Rattle.one_tree_laws.proofs.of_store_laws.Tabled.{every_latest}
-use Rattle.one_tree_laws.specs.Rest.{Past}
+use Rattle.store_laws.proofs.of_tree_laws.Orders.Knowing.{tree_config}
+use Rattle.store_laws.proofs.of_tree_laws.Orders.Standing.{same_file_eq}
+use Rattle.store_laws.specs.Holdings.OneVersionNumbers.{IsFreeNumber}
+use Rattle.store_laws.proofs.Holdings.OneVersionMakes.{free_number}
+use Rattle.store_laws.specs.of_tree_laws.Syncs.Making.{MakesAreSaid}
+use Rattle.store_laws.specs.of_tree_laws.Syncs.Serving.{Serving}
+use Rattle.store_laws.specs.of_tree_laws.Syncs.Staying.{FilesStay}
+use Rattle.store_laws.proofs.of_tree_laws.Syncs.Adding.{openers_added, put_table}
+use Rattle.store_laws.proofs.of_tree_laws.Syncs.Again.{again}
+use Rattle.store_laws.proofs.of_tree_laws.Syncs.Answering.{openers_replaced}
+use Rattle.store_laws.proofs.of_tree_laws.Syncs.Looks.{group_served}
+use Rattle.store_laws.proofs.of_tree_laws.Syncs.Merging.{tree_members}
+use Rattle.store_laws.proofs.of_tree_laws.Syncs.Openings.{here, its, opening_asked}
+use Rattle.store_laws.proofs.of_tree_laws.Syncs.OpensStay.{open_row_stays}
+use Rattle.store_laws.proofs.of_tree_laws.Syncs.TreeCalls.{call_in_is, granted_was_named, released_was_named}
+use Rattle.store_laws.proofs.of_tree_laws.Syncs.Trees.{same_if}
+use Rattle.store_laws.proofs.Said.{asked_as_said}
+use Rattle.store_laws.proofs.Tabled.{every_latest}
+use Rattle.store_laws.specs.OneTree.Rest.{Past}
 use Rattle.rest_laws.proofs.EpochTreeStarted.{begun_joined}
 use Rattle.rest_laws.proofs.MadePlacing.{alone_replaced, untaken_openers}
 

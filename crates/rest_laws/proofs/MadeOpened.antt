@@ -26,13 +26,13 @@ use Rattle.tree_laws.specs.Instances.{IsFull}
 use Rattle.tree_laws.specs.Packets.{BodyFact, MakesNow, OpenedFact, RefusedFull}
 use Rattle.tree_laws.specs.Past.{WasBegun, WasRefused}
 use Rattle.tree_laws.specs.Tables.{RowFact}
-use Rattle.one_tree_laws.specs.of_sync_laws.Opening.{IsFileMode}
-use Rattle.one_tree_laws.specs.of_sync_laws.Serving.{Serving}
-use Rattle.one_tree_laws.proofs.of_sync_laws.Answering.{answered_fine, refused_named}
-use Rattle.one_tree_laws.proofs.of_sync_laws.Looks.{sends_fine}
-use Rattle.one_tree_laws.proofs.of_sync_laws.Rows.{row_every, row_key_is}
-use Rattle.one_tree_laws.specs.Rest.{AllRest, Past}
-use Rattle.one_tree_laws.specs.Roles.{Came, Ready, TableHere}
+use Rattle.store_laws.specs.of_tree_laws.Syncs.Opening.{IsFileMode}
+use Rattle.store_laws.specs.of_tree_laws.Syncs.Serving.{Serving}
+use Rattle.store_laws.proofs.of_tree_laws.Syncs.Answering.{answered_fine, refused_named}
+use Rattle.store_laws.proofs.of_tree_laws.Syncs.Looks.{sends_fine}
+use Rattle.store_laws.proofs.of_tree_laws.Syncs.Rows.{row_every, row_key_is}
+use Rattle.store_laws.specs.OneTree.Rest.{AllRest, Past}
+use Rattle.store_laws.specs.OneTree.Roles.{Came, Ready, TableHere}
 use Rattle.rest_laws.specs.MadeResting.{MadeRests}
 use Rattle.rest_laws.proofs.MadeAnswered.{granted_fine, refused_fine, unnamed_yet}
 use Rattle.rest_laws.proofs.MadePlacing.{HasName, IsAt, begun_at, begun_site, named_site, same_make}

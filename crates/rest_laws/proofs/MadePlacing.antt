@@ -38,7 +38,7 @@ use Rattle.tree_laws.proofs.Making.{IsAskedAt, begun_asked, make_set, one_group,
 use Rattle.tree_laws.proofs.Rows.{followed_rows}
 use Rattle.tree_laws.proofs.Scripts.{named_stays}
 use Rattle.tree_laws.proofs.Serials.{one_open, unnamed}
-use Rattle.one_tree_laws.proofs.of_order_laws.Alone.{IsTakenIn, rows_apart}
+use Rattle.store_laws.proofs.of_tree_laws.Orders.Alone.{IsTakenIn, rows_apart}
 
 -- ---- one make ----
 

@@ -9,12 +9,12 @@ use Rattle.the_run.specs.Worlds.{Line, told_onto}
 use Rattle.tree_laws.specs.Doing.{IsOfSite, IsOfUsers, PullsFact, StoreHeld}
 use Rattle.tree_laws.specs.Tables.{TableFact}
 use Rattle.tree_laws.proofs.Boots.{every_both}
-use Rattle.one_tree_laws.specs.Places.{AllAt, InsideFact}
-use Rattle.one_tree_laws.specs.Rest.{AllRest, Comes, Past, more}
-use Rattle.one_tree_laws.specs.Roles.{CallsFine}
-use Rattle.one_tree_laws.proofs.Frames.{pulls_frame, store_frame, table_frame}
-use Rattle.one_tree_laws.proofs.Framing.{every_at, frame_over, stay_over}
-use Rattle.one_tree_laws.proofs.Sorts.{users_adopted, users_site, users_store, users_table}
+use Rattle.store_laws.specs.OneTree.Places.{AllAt, InsideFact}
+use Rattle.store_laws.specs.OneTree.Rest.{AllRest, Comes, Past, more}
+use Rattle.store_laws.specs.OneTree.Roles.{CallsFine}
+use Rattle.store_laws.proofs.OneTree.Frames.{pulls_frame, store_frame, table_frame}
+use Rattle.store_laws.proofs.OneTree.Framing.{every_at, frame_over, stay_over}
+use Rattle.store_laws.proofs.OneTree.Sorts.{users_adopted, users_site, users_store, users_table}
 
 tables_stay : (c : Config) (n : ℕ) (f : Frame) (x : Told) (older : List Line) → Comes c older x → IsOfUsers f.me x → (ts : List SyncTable) → Every (TableFact c older f) ts → Every (TableFact c (more n x older) f) ts
 tables_stay c n f x older comes own ts facts = every_both (TableFact c older f) (TableFact c (more n x older) f) ts (λ t fact. table_frame c n x older f t comes (λ s. users_table f.me f t.group x own s) (λ a. users_adopted f.me f.me x own a) fact) facts

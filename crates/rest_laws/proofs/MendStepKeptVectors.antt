@@ -28,7 +28,7 @@ use Rattle.tree_model.specs.Tree.{tree_of, kept_in}
 use Rattle.tree_laws.specs.Printed.{entries}
 use Rattle.tree_laws.specs.Tables.{AreRising, FileFact, StartedFiles, TableFact, VersionFact, row_stamp}
 use Rattle.tree_laws.proofs.Kinship.{tree_group_is}
-use Rattle.one_tree_laws.proofs.of_holding_laws.OneVersionAscending.{Ascends, known_ascends}
+use Rattle.store_laws.proofs.Holdings.OneVersionAscending.{Ascends, known_ascends}
 use Rattle.rest_laws.proofs.MendStepLists.{Climbs, climbs_filter, filter_again, is_at, one_at, parted, stamps_back, stamps_filter, stamps_none, stamps_others}
 
 -- ---- a table's versions of one list ----

@@ -9,7 +9,7 @@ use Rattle.commit_graph.specs.Versions.{same_stamp}
 use Rattle.role_steps.specs.Own.{Every}
 use Rattle.the_run.specs.Kept.{Among}
 use Rattle.tree_model.specs.State.{has_stamp, stamps_of}
-use Rattle.one_tree_laws.proofs.of_order_laws.Standing.{same_stamp_eq}
+use Rattle.store_laws.proofs.of_tree_laws.Orders.Standing.{same_stamp_eq}
 
 abbrev pub is_at : ℕ → Brought → Bool
 is_at k b = b.ino == k

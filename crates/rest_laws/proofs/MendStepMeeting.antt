@@ -10,8 +10,8 @@ use Rattle.trace_book.specs.declared.record.Record.TheVariants as says
 use Rattle.tree_model.specs.Folds.{Trace}
 use Rattle.lawful_trace.specs.CallRows.{CallRow}
 use Rattle.lawful_trace.specs.Lawful.{MayCome}
-use Rattle.one_tree_laws.specs.of_row_laws.Shown.{EachRecord}
-use Rattle.one_tree_laws.specs.of_call_row_laws.Tree.{AcceptTree, IsTreeRow, TreeRecord}
+use Rattle.store_laws.specs.of_row_laws.Shown.{EachRecord}
+use Rattle.store_laws.specs.of_row_laws.CallRows.Tree.{AcceptTree, IsTreeRow, TreeRecord}
 use Rattle.tree_laws.specs.Following.{RowsAreLawful}
 use Rattle.rest_laws.specs.MendStepCounting.{CountedRecord, IsCountedRow}
 

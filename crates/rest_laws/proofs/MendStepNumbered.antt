@@ -34,11 +34,11 @@ use Rattle.tree_model.specs.Tree.{acted, candidates, grant_of, joined, left, nex
 use Rattle.lawful_trace.specs.Lawful.{MayCome}
 use Rattle.lawful_trace.specs.TreeRows.{is_writing}
 use Rattle.tree_laws.specs.Following.{RowsAreLawful}
-use Rattle.one_tree_laws.proofs.of_order_laws.Alone.{first_none}
-use Rattle.one_tree_laws.proofs.of_order_laws.Knowing.{versions_stand}
-use Rattle.one_tree_laws.proofs.of_order_laws.Lists.{all_changed, all_filtered, all_more, all_without}
-use Rattle.one_tree_laws.proofs.of_order_laws.Standing.{At, same_file_eq}
-use Rattle.one_tree_laws.proofs.of_sync_laws.Refusing.{unrefused}
+use Rattle.store_laws.proofs.of_tree_laws.Orders.Alone.{first_none}
+use Rattle.store_laws.proofs.of_tree_laws.Orders.Knowing.{versions_stand}
+use Rattle.store_laws.proofs.of_tree_laws.Orders.Lists.{all_changed, all_filtered, all_more, all_without}
+use Rattle.store_laws.proofs.of_tree_laws.Orders.Standing.{At, same_file_eq}
+use Rattle.store_laws.proofs.of_tree_laws.Syncs.Refusing.{unrefused}
 use Rattle.rest_laws.proofs.MendStepLists.{has_filtered, own_stamp}
 
 abbrev IsNumbered : Instance → Type 0

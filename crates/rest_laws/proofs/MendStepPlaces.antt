@@ -30,8 +30,8 @@ use Rattle.tree_laws.specs.Printed.{entries}
 use Rattle.tree_laws.proofs.Fresh.{IsListed, call_listed}
 use Rattle.tree_laws.proofs.Kinship.{tree_group_is}
 use Rattle.tree_laws.proofs.Mending.{members_stay}
-use Rattle.one_tree_laws.proofs.of_order_laws.Knowing.{tree_config}
-use Rattle.one_tree_laws.proofs.of_sync_laws.Merging.{tree_members}
+use Rattle.store_laws.proofs.of_tree_laws.Orders.Knowing.{tree_config}
+use Rattle.store_laws.proofs.of_tree_laws.Syncs.Merging.{tree_members}
 
 -- ---- where a mend is granted ----
 

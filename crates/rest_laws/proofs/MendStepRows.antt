@@ -17,9 +17,9 @@ use Rattle.tree_laws.specs.Printed.{entries}
 use Rattle.tree_laws.specs.Users.{InsideUsers, WaitingFact}
 use Rattle.tree_laws.proofs.Names.{same_call_own}
 use Rattle.tree_laws.proofs.Waiting.{accepted}
-use Rattle.one_tree_laws.proofs.of_holding_laws.Holding.{some_found}
-use Rattle.one_tree_laws.proofs.of_sync_laws.Rows.{every_among}
-use Rattle.one_tree_laws.specs.of_user_laws.Turning.{it}
+use Rattle.store_laws.proofs.Holdings.Holding.{some_found}
+use Rattle.store_laws.proofs.of_tree_laws.Syncs.Rows.{every_among}
+use Rattle.store_laws.specs.Users.Turning.{it}
 
 -- one that passes among them
 pub any_among : {A : Type 0} (p : A → Bool) (xs : List A) (x : A) → Among x xs → p x ≡ true → list_any p xs ≡ true

@@ -29,17 +29,17 @@ use Rattle.tree_laws.specs.Doing.{Fine, IsOfUsers, NoWrite, WrittenFact}
 use Rattle.tree_laws.specs.Packets.{PacketFact}
 use Rattle.tree_laws.specs.Printed.{entries, onto_entries}
 use Rattle.tree_laws.specs.Users.{WaitingFact}
-use Rattle.one_tree_laws.specs.of_user_laws.Turning.{it}
-use Rattle.one_tree_laws.proofs.of_user_laws.Accepting.{call_fine}
-use Rattle.one_tree_laws.proofs.of_user_laws.Tabled.{every_among}
-use Rattle.one_tree_laws.specs.Places.{InsideFact}
-use Rattle.one_tree_laws.specs.Rest.{AllRest, EachRest, Past, RangeCall, RestTold}
-use Rattle.one_tree_laws.specs.Roles.{CallsFine, Ready}
-use Rattle.one_tree_laws.proofs.Composing.{onto_append, packets_onto, past_onto, rest_first, rest_last, told_append}
-use Rattle.one_tree_laws.proofs.Staying.{stays}
-use Rattle.one_tree_laws.specs.UserStepRests.{UserRests}
-use Rattle.one_tree_laws.proofs.UserStepGroups.{synced_low}
-use Rattle.one_tree_laws.proofs.UserStepResting.{calls_fine, staying}
+use Rattle.store_laws.specs.Users.Turning.{it}
+use Rattle.store_laws.proofs.Users.Accepting.{call_fine}
+use Rattle.store_laws.proofs.Users.Tabled.{every_among}
+use Rattle.store_laws.specs.OneTree.Places.{InsideFact}
+use Rattle.store_laws.specs.OneTree.Rest.{AllRest, EachRest, Past, RangeCall, RestTold}
+use Rattle.store_laws.specs.OneTree.Roles.{CallsFine, Ready}
+use Rattle.store_laws.proofs.OneTree.Composing.{onto_append, packets_onto, past_onto, rest_first, rest_last, told_append}
+use Rattle.store_laws.proofs.OneTree.Staying.{stays}
+use Rattle.store_laws.specs.OneTree.UserStepRests.{UserRests}
+use Rattle.store_laws.proofs.OneTree.UserStepGroups.{synced_low}
+use Rattle.store_laws.proofs.OneTree.UserStepResting.{calls_fine, staying}
 use Rattle.rest_laws.proofs.MendStepBeside.{users_beside}
 use Rattle.rest_laws.proofs.MendStepRows.{any_among}
 use Rattle.rest_laws.proofs.MendStepWanted.{may_mend_it, synced}

@@ -56,17 +56,17 @@ use Rattle.tree_laws.specs.Stores.{copy_for}
 use Rattle.tree_laws.specs.Tables.{FileFact, FilesFact, StartedFiles, TableFact, named_instance, named_row, row_stamp}
 use Rattle.tree_laws.proofs.Rows.{followed_rows}
 use Rattle.tree_laws.proofs.Waiting.{found_among}
-use Rattle.one_tree_laws.proofs.of_order_laws.Standing.{same_stamp_eq}
-use Rattle.one_tree_laws.proofs.of_order_laws.ProcessSynchronizing.{sync_same}
-use Rattle.one_tree_laws.proofs.of_holding_laws.Below.{packs_hold}
-use Rattle.one_tree_laws.proofs.of_holding_laws.Holding.{sites_hold, some_found}
-use Rattle.one_tree_laws.proofs.of_sync_laws.Notices.{rows_found}
-use Rattle.one_tree_laws.proofs.of_sync_laws.Rows.{every_among}
-use Rattle.one_tree_laws.proofs.of_user_laws.Tabled.{first_found}
-use Rattle.one_tree_laws.specs.Places.{InsideFact}
-use Rattle.one_tree_laws.specs.Rest.{Past}
-use Rattle.one_tree_laws.proofs.Parts.{synced_one}
-use Rattle.one_tree_laws.proofs.Staying.{rest_below}
+use Rattle.store_laws.proofs.of_tree_laws.Orders.Standing.{same_stamp_eq}
+use Rattle.store_laws.proofs.of_tree_laws.Orders.ProcessSynchronizing.{sync_same}
+use Rattle.store_laws.proofs.Holdings.Below.{packs_hold}
+use Rattle.store_laws.proofs.Holdings.Holding.{sites_hold, some_found}
+use Rattle.store_laws.proofs.of_tree_laws.Syncs.Notices.{rows_found}
+use Rattle.store_laws.proofs.of_tree_laws.Syncs.Rows.{every_among}
+use Rattle.store_laws.proofs.Users.Tabled.{first_found}
+use Rattle.store_laws.specs.OneTree.Places.{InsideFact}
+use Rattle.store_laws.specs.OneTree.Rest.{Past}
+use Rattle.store_laws.proofs.OneTree.Parts.{synced_one}
+use Rattle.store_laws.proofs.OneTree.Staying.{rest_below}
 use Rattle.rest_laws.proofs.MendStepNarrow.{stands_narrow}
 use Rattle.rest_laws.proofs.MendStepKeptVectors.{vectors_agree}
 use Rattle.rest_laws.proofs.MendStepLists.{own_stamp}

@@ -59,22 +59,22 @@ use Rattle.tree_laws.proofs.Alone.{alone}
 use Rattle.tree_laws.proofs.Kinship.{started_stays}
 use Rattle.tree_laws.proofs.Mending.{mends_at_sync}
 use Rattle.tree_laws.proofs.Waiting.{accepted, asking_waits}
-use Rattle.one_tree_laws.proofs.of_order_laws.ProcessOpen.{OpenAs, granted_open}
-use Rattle.one_tree_laws.proofs.of_order_laws.ProcessOwner.{owner_act}
-use Rattle.one_tree_laws.proofs.of_order_laws.ProcessSynchronizing.{sync_same}
-use Rattle.one_tree_laws.specs.of_holding_laws.Below.{LawsBelow}
-use Rattle.one_tree_laws.proofs.of_holding_laws.Below.{commits_new}
-use Rattle.one_tree_laws.specs.of_holding_laws.MendWorking.{MendsNow}
-use Rattle.one_tree_laws.proofs.of_holding_laws.MendMending.{mends_now}
-use Rattle.one_tree_laws.proofs.of_sync_laws.OpensStay.{granted_named}
-use Rattle.one_tree_laws.specs.of_store_laws.Rests.{MendsAs}
-use Rattle.one_tree_laws.proofs.of_store_laws.Numbers.{serial_key_eq}
-use Rattle.one_tree_laws.specs.of_user_laws.Turning.{it}
-use Rattle.one_tree_laws.proofs.of_user_laws.Tabled.{every_among, first_found, one_row, row_found}
-use Rattle.one_tree_laws.specs.Places.{InsideFact}
-use Rattle.one_tree_laws.specs.Rest.{Past}
-use Rattle.one_tree_laws.proofs.Staying.{rest_below}
-use Rattle.one_tree_laws.proofs.UserStepGroups.{among_row, among_synced}
+use Rattle.store_laws.proofs.of_tree_laws.Orders.ProcessOpen.{OpenAs, granted_open}
+use Rattle.store_laws.proofs.of_tree_laws.Orders.ProcessOwner.{owner_act}
+use Rattle.store_laws.proofs.of_tree_laws.Orders.ProcessSynchronizing.{sync_same}
+use Rattle.store_laws.specs.Holdings.Below.{LawsBelow}
+use Rattle.store_laws.proofs.Holdings.Below.{commits_new}
+use Rattle.store_laws.specs.Holdings.MendWorking.{MendsNow}
+use Rattle.store_laws.proofs.Holdings.MendMending.{mends_now}
+use Rattle.store_laws.proofs.of_tree_laws.Syncs.OpensStay.{granted_named}
+use Rattle.store_laws.specs.Rests.{MendsAs}
+use Rattle.store_laws.proofs.Numbers.{serial_key_eq}
+use Rattle.store_laws.specs.Users.Turning.{it}
+use Rattle.store_laws.proofs.Users.Tabled.{every_among, first_found, one_row, row_found}
+use Rattle.store_laws.specs.OneTree.Places.{InsideFact}
+use Rattle.store_laws.specs.OneTree.Rest.{Past}
+use Rattle.store_laws.proofs.OneTree.Staying.{rest_below}
+use Rattle.store_laws.proofs.OneTree.UserStepGroups.{among_row, among_synced}
 use Rattle.rest_laws.proofs.MendStepKeptVectors.{vectors_agree}
 use Rattle.rest_laws.proofs.MendStepPlaces.{mend_place}
 use Rattle.rest_laws.proofs.MendStepRows.{HasRow, has_row}

@@ -16,13 +16,13 @@ use Rattle.tree_model.specs.Epochs.{boot_of, calls_accepted, calls_after}
 use Rattle.tree_model.specs.Folds.{Trace}
 use Rattle.lawful_trace.specs.CallRows.{CallLine, IsCallAsked, next_call}
 use Rattle.tree_laws.specs.Printed.{entries, onto_entries}
-use Rattle.one_tree_laws.specs.of_call_row_laws.Accepting.{AcceptedAs}
-use Rattle.one_tree_laws.specs.of_pack_laws.CounterNumbers.{calls_in, calls_recorded, calls_told}
-use Rattle.one_tree_laws.specs.of_row_laws.Shown.{EachRecord}
-use Rattle.one_tree_laws.specs.of_row_laws.Voids.{LinesFit}
-use Rattle.one_tree_laws.specs.of_vector_laws.Written.{past_of}
-use Rattle.one_tree_laws.proofs.of_row_laws.Boots.{boot_step}
-use Rattle.one_tree_laws.specs.Rest.{HasLowName, IsNumberedLow}
+use Rattle.store_laws.specs.of_row_laws.CallRows.Accepting.{AcceptedAs}
+use Rattle.store_laws.specs.of_site_laws.Packs.CounterNumbers.{calls_in, calls_recorded, calls_told}
+use Rattle.store_laws.specs.of_row_laws.Shown.{EachRecord}
+use Rattle.store_laws.specs.of_row_laws.Voids.{LinesFit}
+use Rattle.store_laws.specs.of_site_laws.Vectors.Written.{past_of}
+use Rattle.store_laws.proofs.of_row_laws.Boots.{boot_step}
+use Rattle.store_laws.specs.OneTree.Rest.{HasLowName, IsNumberedLow}
 use Rattle.rest_laws.proofs.Ranges.{call_fits}
 use Rattle.rest_laws.proofs.Shown.{IsRow}
 

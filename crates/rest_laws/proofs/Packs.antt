@@ -12,7 +12,7 @@ use Rattle.schedule_lines.specs.declared.header.HeaderLine.TheVariants as header
 use Rattle.schedule_lines.specs.declared.line.ScheduleLine.{ScheduleLine}
 use Rattle.schedule_lines.specs.declared.line.ScheduleLine.TheVariants.{Passed, Header, Event}
 use Rattle.role_steps.specs.Own.{Every}
-use Rattle.one_tree_laws.specs.of_order_laws.Joining.{PacksAreOfSites}
+use Rattle.store_laws.specs.of_tree_laws.Orders.Joining.{PacksAreOfSites}
 use Rattle.rest_laws.proofs.Premises.{some_low}
 
 -- the cluster with one line more

@@ -17,17 +17,17 @@ use Rattle.tree_model.specs.Calls.{call_named}
 use Rattle.tree_model.specs.Opening.{sites_made}
 use Rattle.tree_model.specs.Packs.{packs_of}
 use Rattle.tree_laws.specs.Printed.{entries}
-use Rattle.one_tree_laws.specs.of_order_laws.Joining.{PacksAreOfSites}
-use Rattle.one_tree_laws.proofs.of_holding_laws.Below.{commits_new, packs_hold}
-use Rattle.one_tree_laws.proofs.of_holding_laws.Holding.{sites_hold, stands_on_held}
-use Rattle.one_tree_laws.proofs.of_holding_laws.MendOnly.{only_had}
-use Rattle.one_tree_laws.proofs.of_holding_laws.MendWhole.{whole_kept}
-use Rattle.one_tree_laws.proofs.of_store_laws.Said.{asked_as_said}
-use Rattle.one_tree_laws.specs.of_sync_laws.Making.{MakesAreSaid}
-use Rattle.one_tree_laws.specs.of_sync_laws.Serving.{CallsAreKnown, FilesAreOrdered}
-use Rattle.one_tree_laws.proofs.NumberSaid.{making_said}
-use Rattle.one_tree_laws.specs.Rest.{AskedCall, Past, RangeCall}
-use Rattle.one_tree_laws.proofs.Staying.{rest_below}
+use Rattle.store_laws.specs.of_tree_laws.Orders.Joining.{PacksAreOfSites}
+use Rattle.store_laws.proofs.Holdings.Below.{commits_new, packs_hold}
+use Rattle.store_laws.proofs.Holdings.Holding.{sites_hold, stands_on_held}
+use Rattle.store_laws.proofs.Holdings.MendOnly.{only_had}
+use Rattle.store_laws.proofs.Holdings.MendWhole.{whole_kept}
+use Rattle.store_laws.proofs.Said.{asked_as_said}
+use Rattle.store_laws.specs.of_tree_laws.Syncs.Making.{MakesAreSaid}
+use Rattle.store_laws.specs.of_tree_laws.Syncs.Serving.{CallsAreKnown, FilesAreOrdered}
+use Rattle.store_laws.proofs.OneTree.NumberSaid.{making_said}
+use Rattle.store_laws.specs.OneTree.Rest.{AskedCall, Past, RangeCall}
+use Rattle.store_laws.proofs.OneTree.Staying.{rest_below}
 use Rattle.rest_laws.specs.Asking.{OpensAreSaid}
 use Rattle.rest_laws.proofs.StoreStepKnown.{known_call}
 

@@ -15,13 +15,13 @@ use Rattle.tree_model.specs.Folds.{Trace}
 use Rattle.tree_model.specs.Epochs.{boot_after, boot_of}
 use Rattle.tree_model.specs.Packs.{boot_in}
 use Rattle.lawful_trace.specs.CallRows.{CallLine, IsCallAsked}
-use Rattle.one_tree_laws.specs.of_vector_laws.HistoryCommits.{IsSite}
-use Rattle.one_tree_laws.specs.of_row_laws.Events.{IsShort}
-use Rattle.one_tree_laws.specs.of_row_laws.Rows.{SiteRecordRow}
-use Rattle.one_tree_laws.specs.of_row_laws.Shown.{EachRecord}
-use Rattle.one_tree_laws.specs.of_row_laws.Voids.{LinesFit}
-use Rattle.one_tree_laws.proofs.of_sync_laws.Members.{table_boot}
-use Rattle.one_tree_laws.specs.Rest.{AskedCall, RangeCall}
+use Rattle.store_laws.specs.of_site_laws.Vectors.HistoryCommits.{IsSite}
+use Rattle.store_laws.specs.of_row_laws.Events.{IsShort}
+use Rattle.store_laws.specs.of_row_laws.Rows.{SiteRecordRow}
+use Rattle.store_laws.specs.of_row_laws.Shown.{EachRecord}
+use Rattle.store_laws.specs.of_row_laws.Voids.{LinesFit}
+use Rattle.store_laws.proofs.of_tree_laws.Syncs.Members.{table_boot}
+use Rattle.store_laws.specs.OneTree.Rest.{AskedCall, RangeCall}
 use Rattle.rest_laws.proofs.Shown.{IsRow}
 
 -- ---- boots ----

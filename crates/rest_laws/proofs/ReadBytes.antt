@@ -30,9 +30,9 @@ use Rattle.tree_laws.specs.Instances.{Stands}
 use Rattle.tree_laws.specs.Past.{ActRecord, GrantRecord, Printed, WasDone, WasGranted, WasNamed}
 use Rattle.tree_laws.specs.Printed.{entries}
 use Rattle.tree_laws.proofs.Histories.{content_same, stands_more}
-use Rattle.one_tree_laws.specs.Rest.{EachRest}
-use Rattle.one_tree_laws.proofs.of_store_laws.AnswerDone.{done_named}
-use Rattle.one_tree_laws.proofs.of_store_laws.Places.{AreOne, GrantedSo, granted_once, instance_granted}
+use Rattle.store_laws.specs.OneTree.Rest.{EachRest}
+use Rattle.store_laws.proofs.AnswerDone.{done_named}
+use Rattle.store_laws.proofs.Places.{AreOne, GrantedSo, granted_once, instance_granted}
 use Rattle.rest_laws.proofs.Readers.{ReadsVersion, With, last_stands, reader_reads}
 
 -- the version stands, and has these bytes there

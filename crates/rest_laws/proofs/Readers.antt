@@ -48,14 +48,14 @@ use Rattle.tree_laws.proofs.Histories.{content_same}
 use Rattle.tree_laws.proofs.Kinship.{Ends, GoesOnTold, StaysOpen, open_stays}
 use Rattle.tree_laws.proofs.Opened.{ActsOn, CommitsOn, GrantsIt}
 use Rattle.tree_laws.proofs.Rows.{followed_rows}
-use Rattle.one_tree_laws.specs.Rest.{EachRest}
-use Rattle.one_tree_laws.specs.of_lock_laws.Writing.{changes}
-use Rattle.one_tree_laws.proofs.of_holding_laws.Begun.{Untouched, granted_open, open_seat}
-use Rattle.one_tree_laws.proofs.of_holding_laws.Made.{held_stand}
-use Rattle.one_tree_laws.proofs.of_holding_laws.Released.{released_shut}
-use Rattle.one_tree_laws.proofs.of_holding_laws.Seats.{Seat}
-use Rattle.one_tree_laws.proofs.of_holding_laws.Turning.{acted_last}
-use Rattle.one_tree_laws.proofs.of_store_laws.AnswerDone.{open_before}
+use Rattle.store_laws.specs.OneTree.Rest.{EachRest}
+use Rattle.store_laws.specs.of_site_laws.Locks.Writing.{changes}
+use Rattle.store_laws.proofs.Holdings.Begun.{Untouched, granted_open, open_seat}
+use Rattle.store_laws.proofs.Holdings.Made.{held_stand}
+use Rattle.store_laws.proofs.Holdings.Released.{released_shut}
+use Rattle.store_laws.proofs.Holdings.Seats.{Seat}
+use Rattle.store_laws.proofs.Holdings.Turning.{acted_last}
+use Rattle.store_laws.proofs.AnswerDone.{open_before}
 use Rattle.rest_laws.proofs.StoreStepAsking.{changed_open}
 
 -- ---- an operation that changes nothing ----

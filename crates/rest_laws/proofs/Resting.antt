@@ -11,29 +11,29 @@ use Rattle.the_run.specs.Worlds.{Line}
 use Rattle.the_run.proofs.Runs.{every_run}
 use Rattle.tree_model.specs.Epochs.{boot_of}
 use Rattle.tree_model.specs.Folds.{Trace}
-use Rattle.one_tree_laws.specs.of_vector_laws.Written.{CommitsAreNumbered, past_of}
-use Rattle.one_tree_laws.proofs.of_vector_laws.FactsRun.{run_numbered}
-use Rattle.one_tree_laws.specs.of_vector_laws.HistoryCommits.{CommitsAreSited, FitTold, NumbersFit, StampsAreOnce}
-use Rattle.one_tree_laws.proofs.of_vector_laws.HistorySited.{run_sited}
-use Rattle.one_tree_laws.proofs.of_pack_laws.InstanceAgree.{run_agrees}
-use Rattle.one_tree_laws.proofs.of_pack_laws.InodeFitsRun.{run_fits}
-use Rattle.one_tree_laws.specs.of_pack_laws.Packs.{ToldPacked}
-use Rattle.one_tree_laws.proofs.of_pack_laws.PacksRun.{run_packs}
-use Rattle.one_tree_laws.proofs.of_kept_laws.StampLawsRun.{run_stamps}
-use Rattle.one_tree_laws.specs.of_kept_laws.Roots.{RootsFollow}
-use Rattle.one_tree_laws.proofs.of_kept_laws.RootsRun.{run_roots}
-use Rattle.one_tree_laws.specs.of_row_laws.Shown.{EachRecord}
-use Rattle.one_tree_laws.proofs.of_row_laws.Boots.{run_boots_told}
-use Rattle.one_tree_laws.proofs.of_row_laws.SitesPlaced.{first_has, places_kept}
-use Rattle.one_tree_laws.specs.of_row_laws.Voids.{HasPlaces, LinesFit}
+use Rattle.store_laws.specs.of_site_laws.Vectors.Written.{CommitsAreNumbered, past_of}
+use Rattle.store_laws.proofs.of_site_laws.Vectors.FactsRun.{run_numbered}
+use Rattle.store_laws.specs.of_site_laws.Vectors.HistoryCommits.{CommitsAreSited, FitTold, NumbersFit, StampsAreOnce}
+use Rattle.store_laws.proofs.of_site_laws.Vectors.HistorySited.{run_sited}
+use Rattle.store_laws.proofs.of_site_laws.Packs.InstanceAgree.{run_agrees}
+use Rattle.store_laws.proofs.of_site_laws.Packs.InodeFitsRun.{run_fits}
+use Rattle.store_laws.specs.of_site_laws.Packs.Packs.{ToldPacked}
+use Rattle.store_laws.proofs.of_site_laws.Packs.PacksRun.{run_packs}
+use Rattle.store_laws.proofs.of_site_laws.Kept.StampLawsRun.{run_stamps}
+use Rattle.store_laws.specs.of_site_laws.Kept.Roots.{RootsFollow}
+use Rattle.store_laws.proofs.of_site_laws.Kept.RootsRun.{run_roots}
+use Rattle.store_laws.specs.of_row_laws.Shown.{EachRecord}
+use Rattle.store_laws.proofs.of_row_laws.Boots.{run_boots_told}
+use Rattle.store_laws.proofs.of_row_laws.SitesPlaced.{first_has, places_kept}
+use Rattle.store_laws.specs.of_row_laws.Voids.{HasPlaces, LinesFit}
 use Rattle.tree_laws.specs.Printed.{entries, onto_entries}
-use Rattle.one_tree_laws.specs.of_order_laws.Joining.{PacksAreOfSites}
-use Rattle.one_tree_laws.proofs.of_holding_laws.Below.{once_before}
-use Rattle.one_tree_laws.specs.Rest.{EachRest, IsRest, RangeTold, RowTold}
-use Rattle.one_tree_laws.specs.of_pack_laws.CounterNumbers.{IsLowRecord, IsLowTold, NumbersAreLow, calls_in}
-use Rattle.one_tree_laws.proofs.of_pack_laws.CounterRun.{run_calls_low, run_numbers_low}
-use Rattle.one_tree_laws.specs.SpentMends.{MendedRecord, MendedTold}
-use Rattle.one_tree_laws.proofs.SpentRun.{run_mended}
+use Rattle.store_laws.specs.of_tree_laws.Orders.Joining.{PacksAreOfSites}
+use Rattle.store_laws.proofs.Holdings.Below.{once_before}
+use Rattle.store_laws.specs.OneTree.Rest.{EachRest, IsRest, RangeTold, RowTold}
+use Rattle.store_laws.specs.of_site_laws.Packs.CounterNumbers.{IsLowRecord, IsLowTold, NumbersAreLow, calls_in}
+use Rattle.store_laws.proofs.of_site_laws.Packs.CounterRun.{run_calls_low, run_numbers_low}
+use Rattle.store_laws.specs.OneTree.SpentMends.{MendedRecord, MendedTold}
+use Rattle.store_laws.proofs.OneTree.SpentRun.{run_mended}
 use Rattle.rest_laws.specs.Counters.{CountersAreLow, LowRecord, LowTold}
 use Rattle.rest_laws.proofs.Fresh.{told_fresh}
 use Rattle.rest_laws.proofs.Numbering.{BootsLow, boots_before, name_low}

@@ -33,26 +33,26 @@ use Rattle.tree_laws.specs.Packets.{BodyFact, PacketFact, LookFact, NotifyFact, 
 use Rattle.tree_laws.specs.Past.{WasReleased}
 use Rattle.tree_laws.specs.Printed.{entries}
 use Rattle.tree_laws.specs.Stores.{InstanceFact, StageFact}
-use Rattle.one_tree_laws.specs.of_user_laws.Leaving.{LeavesFine}
-use Rattle.one_tree_laws.proofs.of_user_laws.Leaving.{users_leave_fine}
-use Rattle.one_tree_laws.proofs.of_store_laws.Closes.{closed_ok_fine, closed_sent}
-use Rattle.one_tree_laws.proofs.of_store_laws.Differing.{remembered_differ}
-use Rattle.one_tree_laws.proofs.of_store_laws.MakingHere.{open_fine as begin_fine}
-use Rattle.one_tree_laws.proofs.of_store_laws.Pulls.{notify_fine, asked_sent}
-use Rattle.one_tree_laws.proofs.of_store_laws.PullsComing.{page_fine, delta_fine}
-use Rattle.one_tree_laws.proofs.of_store_laws.Serving.{look_served, page_sent, want_sent}
-use Rattle.one_tree_laws.specs.of_sync_laws.Serving.{Serving}
-use Rattle.one_tree_laws.proofs.of_sync_laws.Looks.{look_fine}
-use Rattle.one_tree_laws.proofs.of_sync_laws.Makes.{make_fine}
-use Rattle.one_tree_laws.proofs.of_sync_laws.Members.{inside_joined}
-use Rattle.one_tree_laws.proofs.of_sync_laws.Notices.{repeats_fine}
-use Rattle.one_tree_laws.proofs.of_sync_laws.Opens.{open_fine}
-use Rattle.one_tree_laws.specs.Places.{UsersOf, UsersOutside}
-use Rattle.one_tree_laws.specs.Rest.{AllRest, Past, more}
-use Rattle.one_tree_laws.specs.Roles.{Came, Ready, RolesDo, TableHere}
-use Rattle.one_tree_laws.proofs.NumberLacking.{full_lacks}
-use Rattle.one_tree_laws.proofs.Repeats.{every_flat}
-use Rattle.one_tree_laws.proofs.Staying.{rest_below}
+use Rattle.store_laws.specs.Users.Leaving.{LeavesFine}
+use Rattle.store_laws.proofs.Users.Leaving.{users_leave_fine}
+use Rattle.store_laws.proofs.Closes.{closed_ok_fine, closed_sent}
+use Rattle.store_laws.proofs.Differing.{remembered_differ}
+use Rattle.store_laws.proofs.MakingHere.{open_fine as begin_fine}
+use Rattle.store_laws.proofs.Pulls.{notify_fine, asked_sent}
+use Rattle.store_laws.proofs.PullsComing.{page_fine, delta_fine}
+use Rattle.store_laws.proofs.Serving.{look_served, page_sent, want_sent}
+use Rattle.store_laws.specs.of_tree_laws.Syncs.Serving.{Serving}
+use Rattle.store_laws.proofs.of_tree_laws.Syncs.Looks.{look_fine}
+use Rattle.store_laws.proofs.of_tree_laws.Syncs.Makes.{make_fine}
+use Rattle.store_laws.proofs.of_tree_laws.Syncs.Members.{inside_joined}
+use Rattle.store_laws.proofs.of_tree_laws.Syncs.Notices.{repeats_fine}
+use Rattle.store_laws.proofs.of_tree_laws.Syncs.Opens.{open_fine}
+use Rattle.store_laws.specs.OneTree.Places.{UsersOf, UsersOutside}
+use Rattle.store_laws.specs.OneTree.Rest.{AllRest, Past, more}
+use Rattle.store_laws.specs.OneTree.Roles.{Came, Ready, RolesDo, TableHere}
+use Rattle.store_laws.proofs.OneTree.NumberLacking.{full_lacks}
+use Rattle.store_laws.proofs.OneTree.Repeats.{every_flat}
+use Rattle.store_laws.proofs.OneTree.Staying.{rest_below}
 use Rattle.rest_laws.specs.EpochTreeWaiting.{RequestsDo}
 use Rattle.rest_laws.proofs.EpochTreeComing.{reports_come}
 use Rattle.rest_laws.proofs.EpochTreeJoins.{epochs_do}
@@ -65,10 +65,10 @@ use Rattle.rest_laws.proofs.MadeOpened.{opens_answered}
 use Rattle.rest_laws.proofs.AdoptionChoosing.{adopts_fine}
 use Rattle.rest_laws.proofs.MendStepStarting.{mends_start}
 use Rattle.rest_laws.proofs.StoreStepFirst.{first_held}
-use Rattle.one_tree_laws.proofs.UserStepAnswering as answers
-use Rattle.one_tree_laws.proofs.UserStepCalling as calling
-use Rattle.one_tree_laws.proofs.UserStepOpening as opening
-use Rattle.one_tree_laws.proofs.UserStepOutside.{calls_outside}
+use Rattle.store_laws.proofs.OneTree.UserStepAnswering as answers
+use Rattle.store_laws.proofs.OneTree.UserStepCalling as calling
+use Rattle.store_laws.proofs.OneTree.UserStepOpening as opening
+use Rattle.store_laws.proofs.OneTree.UserStepOutside.{calls_outside}
 use Rattle.rest_laws.proofs.Asked.{opens_said, user_rests}
 use Rattle.rest_laws.specs.StoreStepSteps.{MendsRest}
 use Rattle.rest_laws.proofs.StoreStepNamed.{released_low}

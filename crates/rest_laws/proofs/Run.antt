@@ -5,16 +5,16 @@ use Rattle.schedule_lines.specs.Cluster.{config_of}
 use Rattle.schedule_lines.specs.Schedule.{AreInOrder}
 use Rattle.schedule_lines.specs.declared.line.ScheduleLine.{ScheduleLine}
 use Rattle.the_run.specs.Runs.{run, run_in}
-use Rattle.one_tree_laws.specs.of_row_laws.Voids.{LinesFit}
-use Rattle.one_tree_laws.proofs.of_row_laws.Fitting.{schedule_fits}
-use Rattle.one_tree_laws.specs.of_order_laws.Joining.{PacksAreOfSites}
-use Rattle.one_tree_laws.specs.Places.{WorldFact}
+use Rattle.store_laws.specs.of_row_laws.Voids.{LinesFit}
+use Rattle.store_laws.proofs.of_row_laws.Fitting.{schedule_fits}
+use Rattle.store_laws.specs.of_tree_laws.Orders.Joining.{PacksAreOfSites}
+use Rattle.store_laws.specs.OneTree.Places.{WorldFact}
 use Rattle.tree_laws.specs.Following.{IsFollowed, RowsAreLawful}
 use Rattle.tree_laws.specs.Printed.{entries}
 use Rattle.tree_laws.proofs.Rows.{followed_rows}
 use Rattle.rest_laws.proofs.StoreStepFirst.{four_groups}
-use Rattle.one_tree_laws.proofs.Run.{run_holds}
-use Rattle.one_tree_laws.proofs.Staying.{stays}
+use Rattle.store_laws.proofs.OneTree.Run.{run_holds}
+use Rattle.store_laws.proofs.OneTree.Staying.{stays}
 use Rattle.rest_laws.proofs.Packs.{schedule_packs}
 use Rattle.rest_laws.proofs.Resting.{run_low, run_rests}
 use Rattle.rest_laws.proofs.Roles.{roles_do}

@@ -7,14 +7,14 @@ use Rattle.role_steps.specs.Views.{Told, Shown}
 use Rattle.the_run.specs.Runs.{run_in}
 use Rattle.the_run.specs.Worlds.{Line}
 use Rattle.tree_model.specs.Folds.{Trace}
-use Rattle.one_tree_laws.specs.of_call_row_laws.Accepting.{IsAcceptRow}
-use Rattle.one_tree_laws.proofs.of_call_row_laws.CallsRun.{run_accepts}
-use Rattle.one_tree_laws.specs.of_row_laws.Shown.{EachRecord, shown, with_told}
-use Rattle.one_tree_laws.specs.of_row_laws.Rows.{IsAskedFor, IsMemberRow, IsShortRow, IsSiteRow}
-use Rattle.one_tree_laws.specs.of_row_laws.Voids.{LinesFit}
-use Rattle.one_tree_laws.proofs.of_row_laws.AskedRun.{run_asked, run_lists, run_members}
-use Rattle.one_tree_laws.proofs.of_row_laws.Fitting.{cuts_none}
-use Rattle.one_tree_laws.proofs.of_row_laws.SitesGoOn.{run_sites}
+use Rattle.store_laws.specs.of_row_laws.CallRows.Accepting.{IsAcceptRow}
+use Rattle.store_laws.proofs.of_row_laws.CallRows.CallsRun.{run_accepts}
+use Rattle.store_laws.specs.of_row_laws.Shown.{EachRecord, shown, with_told}
+use Rattle.store_laws.specs.of_row_laws.Rows.{IsAskedFor, IsMemberRow, IsShortRow, IsSiteRow}
+use Rattle.store_laws.specs.of_row_laws.Voids.{LinesFit}
+use Rattle.store_laws.proofs.of_row_laws.AskedRun.{run_asked, run_lists, run_members}
+use Rattle.store_laws.proofs.of_row_laws.Fitting.{cuts_none}
+use Rattle.store_laws.proofs.of_row_laws.SitesGoOn.{run_sites}
 use Rattle.tree_laws.specs.Printed.{entries, onto_entries}
 
 -- the two names of the printed trace

@@ -7,24 +7,24 @@ use Rattle.role_steps.specs.Views.{Frame, Store, Told, Shown, Begins, Reserves}
 use Rattle.role_steps.specs.Views as role
 use Rattle.role_steps.specs.declared.synchronizing.SyncTable.{SyncTable}
 use Rattle.the_run.specs.Worlds.{Line}
-use Rattle.one_tree_laws.specs.of_vector_laws.Written.{past_of}
-use Rattle.one_tree_laws.specs.of_vector_laws.HistoryCommits.{StampsAreOnce}
+use Rattle.store_laws.specs.of_site_laws.Vectors.Written.{past_of}
+use Rattle.store_laws.specs.of_site_laws.Vectors.HistoryCommits.{StampsAreOnce}
 use Rattle.tree_laws.specs.Doing.{FrameFact, IsOfTable}
 use Rattle.tree_laws.specs.Following.{MayTell}
 use Rattle.tree_laws.specs.Frames.{IsFresh, OrderStays}
 use Rattle.tree_laws.specs.Printed.{entries, onto_entries}
-use Rattle.one_tree_laws.proofs.of_holding_laws.Below.{commits_new, line_fresh, packs_hold}
-use Rattle.one_tree_laws.proofs.of_holding_laws.Kept.{kept_stays}
-use Rattle.one_tree_laws.proofs.of_holding_laws.Made.{CommitsAreNew}
-use Rattle.one_tree_laws.proofs.of_holding_laws.Reports.{report_stays}
-use Rattle.one_tree_laws.proofs.of_holding_laws.Rising.{held_rises}
-use Rattle.one_tree_laws.proofs.of_holding_laws.OneVersionSingle.{single_stays}
-use Rattle.one_tree_laws.proofs.of_order_laws.ProcessSynchronizing.{sync_same}
-use Rattle.one_tree_laws.specs.of_sync_laws.Serving.{Serving}
-use Rattle.one_tree_laws.specs.of_sync_laws.Staying.{BringsNothing, FilesStay}
-use Rattle.one_tree_laws.specs.Rest.{Past, more}
-use Rattle.one_tree_laws.specs.Roles.{TableHere}
-use Rattle.one_tree_laws.proofs.Staying.{rest_below}
+use Rattle.store_laws.proofs.Holdings.Below.{commits_new, line_fresh, packs_hold}
+use Rattle.store_laws.proofs.Holdings.Kept.{kept_stays}
+use Rattle.store_laws.proofs.Holdings.Made.{CommitsAreNew}
+use Rattle.store_laws.proofs.Holdings.Reports.{report_stays}
+use Rattle.store_laws.proofs.Holdings.Rising.{held_rises}
+use Rattle.store_laws.proofs.Holdings.OneVersionSingle.{single_stays}
+use Rattle.store_laws.proofs.of_tree_laws.Orders.ProcessSynchronizing.{sync_same}
+use Rattle.store_laws.specs.of_tree_laws.Syncs.Serving.{Serving}
+use Rattle.store_laws.specs.of_tree_laws.Syncs.Staying.{BringsNothing, FilesStay}
+use Rattle.store_laws.specs.OneTree.Rest.{Past, more}
+use Rattle.store_laws.specs.OneTree.Roles.{TableHere}
+use Rattle.store_laws.proofs.OneTree.Staying.{rest_below}
 use Rattle.rest_laws.specs.Asking.{OpensAreSaid}
 use Rattle.rest_laws.proofs.Premises.{calls_known}
 

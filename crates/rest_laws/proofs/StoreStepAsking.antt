@@ -38,8 +38,8 @@ use Rattle.call_rules.specs.declared.answer.Answer.TheVariants as answer
 use Rattle.call_rules.specs.declared.want.Want.{Want}
 use Rattle.call_rules.specs.declared.want.Want.TheVariants as want
 use Rattle.call_rules.specs.Scripts.{named_wants, where_packed}
-use Rattle.one_tree_laws.specs.of_lock_laws.Writing.{IsOpenedToWrite, IsWriteOn, Opens, OpensToWrite, ToWrite, changes}
-use Rattle.one_tree_laws.proofs.of_lock_laws.Writing.{scripts_sound}
+use Rattle.store_laws.specs.of_site_laws.Locks.Writing.{IsOpenedToWrite, IsWriteOn, Opens, OpensToWrite, ToWrite, changes}
+use Rattle.store_laws.proofs.of_site_laws.Locks.Writing.{scripts_sound}
 use Rattle.role_steps.specs.Opens.{mode_of}
 use Rattle.role_steps.specs.Requests.{opening_of}
 use Rattle.role_steps.specs.Views.{Told, Shown, LooksAgain}
@@ -65,7 +65,7 @@ use Rattle.tree_laws.proofs.Fresh.{IsNamed}
 use Rattle.tree_laws.proofs.Having.{Untaken, named_or_untaken}
 use Rattle.tree_laws.proofs.Names.{same_call_eq}
 use Rattle.tree_laws.proofs.Scripts.{begun_stays, named_stays}
-use Rattle.one_tree_laws.proofs.of_store_laws.Places.{open_is}
+use Rattle.store_laws.proofs.Places.{open_is}
 use Rattle.rest_laws.proofs.StoreStepGranting.{GrantedToWrite, UsesWritten, grant_stays, uses_written}
 
 -- ---- answers that open an instance ----

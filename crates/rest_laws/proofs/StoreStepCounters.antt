@@ -21,9 +21,9 @@ use Rattle.tree_model.specs.Histories.{history, history_after}
 use Rattle.tree_laws.specs.Following.{IsFollowed, MayTell}
 use Rattle.tree_laws.specs.Packets.{JoinsParents}
 use Rattle.tree_laws.specs.Printed.{entries, onto_entries}
-use Rattle.one_tree_laws.proofs.of_order_laws.Standing.{same_file_eq}
-use Rattle.one_tree_laws.proofs.of_store_laws.Raising.{joins_greatest}
-use Rattle.one_tree_laws.specs.Rest.{EachRest, RangeTold}
+use Rattle.store_laws.proofs.of_tree_laws.Orders.Standing.{same_file_eq}
+use Rattle.store_laws.proofs.Raising.{joins_greatest}
+use Rattle.store_laws.specs.OneTree.Rest.{EachRest, RangeTold}
 use Rattle.rest_laws.proofs.StoreStepFirst.{counts_none}
 
 -- below the last number of 32 bits

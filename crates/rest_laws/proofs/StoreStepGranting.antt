@@ -24,7 +24,7 @@ use Rattle.call_rules.specs.Descriptors.{beginning, begins_change, is_in}
 use Rattle.call_rules.specs.Words.{is_too_long}
 use Rattle.role_steps.specs.Views.{Told, Shown}
 use Rattle.the_run.specs.Worlds.{Line}
-use Rattle.one_tree_laws.specs.of_lock_laws.Writing.{IsWrite}
+use Rattle.store_laws.specs.of_site_laws.Locks.Writing.{IsWrite}
 use Rattle.tree_model.specs.declared.accepted.Waiting.{Waiting}
 use Rattle.tree_model.specs.Calls.{accepted_as, call_named, opening_of, version_of}
 use Rattle.tree_model.specs.Epochs.{epoch_of}

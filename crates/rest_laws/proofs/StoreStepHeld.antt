@@ -20,11 +20,11 @@ use Rattle.role_steps.proofs.Sending.{every_cond}
 use Rattle.the_run.specs.Worlds.{Line, told_onto}
 use Rattle.tree_laws.specs.Doing.{StoreFine, StoreHeld}
 use Rattle.tree_laws.specs.Packets.{BodyFact, OpFact, PacketFact}
-use Rattle.one_tree_laws.proofs.of_store_laws.Executing.{op_fine}
-use Rattle.one_tree_laws.proofs.of_store_laws.StorageResting.{room_is}
-use Rattle.one_tree_laws.specs.Rest.{AllRest}
-use Rattle.one_tree_laws.specs.Roles.{Came, Ready}
-use Rattle.one_tree_laws.proofs.Staying.{rest_below}
+use Rattle.store_laws.proofs.Executing.{op_fine}
+use Rattle.store_laws.proofs.StorageResting.{room_is}
+use Rattle.store_laws.specs.OneTree.Rest.{AllRest}
+use Rattle.store_laws.specs.OneTree.Roles.{Came, Ready}
+use Rattle.store_laws.proofs.OneTree.Staying.{rest_below}
 use Rattle.rest_laws.proofs.StoreStepResting.{op_rests, plain_rests, store_rests}
 use Rattle.rest_laws.proofs.StoreStepStaying.{all_stay, unspent_told}
 use Rattle.rest_laws.proofs.StoreStepSteps.{its_fact, op_low, user_of}

@@ -24,12 +24,12 @@ use Rattle.tree_model.specs.Calls.{accepted_as, call_after, call_named}
 use Rattle.tree_model.specs.Epochs.{epoch_after, epoch_of}
 use Rattle.tree_model.specs.Histories.{format_version, format_versions, history, history_after}
 use Rattle.lawful_trace.specs.CallRows.{CallRow, MayAccept}
-use Rattle.one_tree_laws.specs.of_vector_laws.HistoryCommits.{IsSite}
+use Rattle.store_laws.specs.of_site_laws.Vectors.HistoryCommits.{IsSite}
 use Rattle.tree_laws.specs.Following.{IsFollowed, MayTell}
 use Rattle.tree_laws.specs.Printed.{entries, onto_entries}
 use Rattle.tree_laws.proofs.Names.{same_call_eq}
-use Rattle.one_tree_laws.proofs.of_order_laws.Standing.{same_file_eq}
-use Rattle.one_tree_laws.specs.Rest.{AskedCall, EachRest, IsNumberedLow, RangeCall, RangeTold}
+use Rattle.store_laws.proofs.of_tree_laws.Orders.Standing.{same_file_eq}
+use Rattle.store_laws.specs.OneTree.Rest.{AskedCall, EachRest, IsNumberedLow, RangeCall, RangeTold}
 use Rattle.rest_laws.specs.StoreStepKnown.{IsKnownCall}
 
 -- ---- who is in an epoch ----

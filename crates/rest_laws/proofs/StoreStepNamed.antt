@@ -13,8 +13,8 @@ use Rattle.lawful_trace.specs.TreeRows.{IsCallIn}
 use Rattle.tree_laws.specs.Following.{IsFollowed, MayTell}
 use Rattle.tree_laws.specs.Past.{NamingRecord, Printed, WasNamed, WasReleased}
 use Rattle.tree_laws.specs.Printed.{entries}
-use Rattle.one_tree_laws.proofs.of_holding_laws.Released.{released_named}
-use Rattle.one_tree_laws.specs.Rest.{EachRest, Past}
+use Rattle.store_laws.proofs.Holdings.Released.{released_named}
+use Rattle.store_laws.specs.OneTree.Rest.{EachRest, Past}
 use Rattle.rest_laws.proofs.StoreStepKnown.{known_call}
 
 pub named_low : (c : Config) (t : List Line) → IsFollowed c t → EachRest c t → (e : EpochId) (i : Serial) → WasNamed t e i → i.us ≤ sites_max

@@ -21,8 +21,8 @@ use Rattle.file_effects.specs.declared.work.Work.{Work}
 use Rattle.role_steps.specs.OperationEffects.{Mending}
 use Rattle.role_steps.specs.Views.{Told, Shown}
 use Rattle.the_run.specs.Worlds.{Line}
-use Rattle.one_tree_laws.specs.of_lock_laws.Writing.{changes}
-use Rattle.one_tree_laws.proofs.of_make_laws.RunningCounting.{CountsNot, effect_not, operated_owes}
+use Rattle.store_laws.specs.of_site_laws.Locks.Writing.{changes}
+use Rattle.store_laws.proofs.of_site_laws.Makes.RunningCounting.{CountsNot, effect_not, operated_owes}
 use Rattle.tree_model.specs.declared.instance.Instance.{Instance}
 use Rattle.tree_model.specs.Histories.{history}
 use Rattle.tree_model.specs.State.{TreeState}
@@ -36,9 +36,9 @@ use Rattle.tree_laws.specs.Printed.{entries}
 use Rattle.tree_laws.proofs.Grants.{Had, before_record, in_tree_named, open_named}
 use Rattle.tree_laws.proofs.Kinship.{Ends, GoesOnTold, StaysOpen, open_stays}
 use Rattle.tree_laws.proofs.Opened.{ActsOn, CommitsOn, GrantsIt}
-use Rattle.one_tree_laws.proofs.of_order_laws.ProcessOpen.{granted_begins}
-use Rattle.one_tree_laws.proofs.of_holding_laws.Released.{released_shut}
-use Rattle.one_tree_laws.proofs.of_store_laws.AnswerDone.{open_before}
+use Rattle.store_laws.proofs.of_tree_laws.Orders.ProcessOpen.{granted_begins}
+use Rattle.store_laws.proofs.Holdings.Released.{released_shut}
+use Rattle.store_laws.proofs.AnswerDone.{open_before}
 use Rattle.rest_laws.proofs.StoreStepAsking.{changed_open}
 
 -- ---- an operation that changes nothing ----

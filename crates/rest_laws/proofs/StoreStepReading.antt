@@ -37,12 +37,12 @@ use Rattle.tree_laws.proofs.Names.{same_call_eq, same_call_own}
 use Rattle.tree_laws.proofs.Reopening.{FromSteady, reopens_from}
 use Rattle.tree_laws.proofs.Scripts.{begun_stays}
 use Rattle.tree_laws.proofs.Waiting.{accepted, found_among}
-use Rattle.one_tree_laws.specs.Rest.{AskedCall, EachRest, RangeCall}
-use Rattle.one_tree_laws.specs.of_user_laws.Rests.{ReadsKept}
-use Rattle.one_tree_laws.proofs.of_store_laws.ScriptFitted.{began_right}
-use Rattle.one_tree_laws.proofs.of_store_laws.ScriptFree.{all_alone, among_back, among_passes}
-use Rattle.one_tree_laws.proofs.of_store_laws.ScriptNaming.{Rereads, rereads_so}
-use Rattle.one_tree_laws.proofs.UserStepCalling.{words_low}
+use Rattle.store_laws.specs.OneTree.Rest.{AskedCall, EachRest, RangeCall}
+use Rattle.store_laws.specs.Users.Rests.{ReadsKept}
+use Rattle.store_laws.proofs.ScriptFitted.{began_right}
+use Rattle.store_laws.proofs.ScriptFree.{all_alone, among_back, among_passes}
+use Rattle.store_laws.proofs.ScriptNaming.{Rereads, rereads_so}
+use Rattle.store_laws.proofs.OneTree.UserStepCalling.{words_low}
 use Rattle.rest_laws.proofs.StoreStepKnown.{known_call}
 
 abbrev With : ℕ → Told → List Line → List Line

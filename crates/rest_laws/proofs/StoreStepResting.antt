@@ -17,16 +17,16 @@ use Rattle.lawful_trace.specs.TreeRows.{granted_group}
 use Rattle.tree_laws.specs.Instances.{instance_now}
 use Rattle.tree_laws.specs.Printed.{entries}
 use Rattle.tree_laws.proofs.Rows.{followed_rows}
-use Rattle.one_tree_laws.proofs.of_order_laws.Lists.{all_found}
-use Rattle.one_tree_laws.proofs.of_holding_laws.OneVersionHomes.{IsRooted, rows_rooted}
-use Rattle.one_tree_laws.proofs.of_sync_laws.Members.{inside_joined}
-use Rattle.one_tree_laws.specs.of_store_laws.Rests.{OpRests, StoreRests}
-use Rattle.one_tree_laws.specs.of_store_laws.StoragePlain.{PlainRests}
-use Rattle.one_tree_laws.proofs.of_store_laws.StorageResting.{rests_hold}
-use Rattle.one_tree_laws.proofs.of_store_laws.AnswerDone.{done_low}
-use Rattle.one_tree_laws.proofs.of_store_laws.AnswerRemovers.{open_here, remover_opened}
-use Rattle.one_tree_laws.specs.Rest.{Past}
-use Rattle.one_tree_laws.proofs.Staying.{rest_below}
+use Rattle.store_laws.proofs.of_tree_laws.Orders.Lists.{all_found}
+use Rattle.store_laws.proofs.Holdings.OneVersionHomes.{IsRooted, rows_rooted}
+use Rattle.store_laws.proofs.of_tree_laws.Syncs.Members.{inside_joined}
+use Rattle.store_laws.specs.Rests.{OpRests, StoreRests}
+use Rattle.store_laws.specs.StoragePlain.{PlainRests}
+use Rattle.store_laws.proofs.StorageResting.{rests_hold}
+use Rattle.store_laws.proofs.AnswerDone.{done_low}
+use Rattle.store_laws.proofs.AnswerRemovers.{open_here, remover_opened}
+use Rattle.store_laws.specs.OneTree.Rest.{Past}
+use Rattle.store_laws.proofs.OneTree.Staying.{rest_below}
 use Rattle.rest_laws.proofs.StoreStepKnown.{inside_site, known_call, stands_narrow}
 
 -- ---- files of open instances ----

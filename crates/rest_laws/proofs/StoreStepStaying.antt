@@ -7,9 +7,9 @@ use Rattle.trace_book.specs.declared.record.Record.TheVariants as says
 use Rattle.role_steps.specs.Own.{Every}
 use Rattle.role_steps.specs.Views.{Told, Shown}
 use Rattle.the_run.specs.Worlds.{Line}
-use Rattle.one_tree_laws.specs.of_store_laws.Rests.{AllStays, UnspentTold}
-use Rattle.one_tree_laws.specs.Rest.{AllRest, Past, RangeTold, more}
-use Rattle.one_tree_laws.proofs.Staying.{stays}
+use Rattle.store_laws.specs.Rests.{AllStays, UnspentTold}
+use Rattle.store_laws.specs.OneTree.Rest.{AllRest, Past, RangeTold, more}
+use Rattle.store_laws.proofs.OneTree.Staying.{stays}
 
 pub all_stay : (c : Config) (n : ℕ) (told : List Told) (trace : List Line) → Past c trace → AllRest c n trace told → AllStays c n trace told
 all_stay c n [] trace past rest = tt

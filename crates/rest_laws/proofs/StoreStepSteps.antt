@@ -25,15 +25,15 @@ use Rattle.tree_laws.specs.Doing.{StoreFine, StoreHeld}
 use Rattle.tree_laws.specs.Packets.{BodyFact, CloseFact, OpFact}
 use Rattle.tree_laws.specs.Printed.{entries}
 use Rattle.tree_laws.proofs.Grants.{open_named}
-use Rattle.one_tree_laws.proofs.of_store_laws.AnswerDone.{done_named}
-use Rattle.one_tree_laws.specs.of_store_laws.Rests.{MendsAs}
-use Rattle.one_tree_laws.proofs.of_store_laws.Ending.{close_fine}
-use Rattle.one_tree_laws.proofs.of_store_laws.Executing.{op_fine}
-use Rattle.one_tree_laws.proofs.of_store_laws.StorageResting.{room_is}
-use Rattle.one_tree_laws.specs.Places.{InsideFact}
-use Rattle.one_tree_laws.specs.Rest.{AllRest, Past}
-use Rattle.one_tree_laws.specs.Roles.{Came, Ready}
-use Rattle.one_tree_laws.proofs.Staying.{rest_below}
+use Rattle.store_laws.proofs.AnswerDone.{done_named}
+use Rattle.store_laws.specs.Rests.{MendsAs}
+use Rattle.store_laws.proofs.Ending.{close_fine}
+use Rattle.store_laws.proofs.Executing.{op_fine}
+use Rattle.store_laws.proofs.StorageResting.{room_is}
+use Rattle.store_laws.specs.OneTree.Places.{InsideFact}
+use Rattle.store_laws.specs.OneTree.Rest.{AllRest, Past}
+use Rattle.store_laws.specs.OneTree.Roles.{Came, Ready}
+use Rattle.store_laws.proofs.OneTree.Staying.{rest_below}
 use Rattle.rest_laws.specs.StoreStepSteps.{MendsRest}
 use Rattle.rest_laws.proofs.StoreStepNamed.{named_low, released_low}
 use Rattle.rest_laws.proofs.StoreStepResting.{op_rests, plain_rests, store_rests}

@@ -13,8 +13,8 @@ use Rattle.the_run.specs.Worlds.{Line}
 use Rattle.tree_laws.specs.Doing.{FrameFact, StoreHeld}
 use Rattle.tree_laws.specs.Stores.{InstanceFact, RunsAs, StageFact}
 use Rattle.tree_laws.proofs.Later.{every_among}
-use Rattle.one_tree_laws.specs.of_store_laws.Rests.{MayWrite}
-use Rattle.one_tree_laws.specs.Rest.{Past}
+use Rattle.store_laws.specs.Rests.{MayWrite}
+use Rattle.store_laws.specs.OneTree.Rest.{Past}
 use Rattle.rest_laws.proofs.StoreStepCounters.{unspent}
 use Rattle.rest_laws.proofs.StoreStepKnown.{inside_site}
 use Rattle.rest_laws.proofs.StoreStepOwing.{reader_clean}

@@ -32,13 +32,13 @@ use Rattle.tree_laws.specs.Instances.{instance_now}
 use Rattle.tree_laws.specs.Printed.{entries, onto_entries}
 use Rattle.tree_laws.proofs.Names.{same_epoch_eq}
 use Rattle.tree_laws.proofs.Owing.{inside_is}
-use Rattle.one_tree_laws.specs.of_order_laws.Joining.{PacksAreOfSites}
-use Rattle.one_tree_laws.proofs.of_order_laws.Lists.{all_changed, all_found, all_more, all_then, all_without}
-use Rattle.one_tree_laws.proofs.of_order_laws.Standing.{acted_keeps, newest}
-use Rattle.one_tree_laws.proofs.of_holding_laws.Turning.{all_passing}
-use Rattle.one_tree_laws.proofs.of_holding_laws.OneVersionFirsts.{IsFirst, MakesFirst, makes_first}
-use Rattle.one_tree_laws.proofs.of_holding_laws.OneVersionLists.{all_both}
-use Rattle.one_tree_laws.proofs.of_store_laws.Runs.{writes_at}
+use Rattle.store_laws.specs.of_tree_laws.Orders.Joining.{PacksAreOfSites}
+use Rattle.store_laws.proofs.of_tree_laws.Orders.Lists.{all_changed, all_found, all_more, all_then, all_without}
+use Rattle.store_laws.proofs.of_tree_laws.Orders.Standing.{acted_keeps, newest}
+use Rattle.store_laws.proofs.Holdings.Turning.{all_passing}
+use Rattle.store_laws.proofs.Holdings.OneVersionFirsts.{IsFirst, MakesFirst, makes_first}
+use Rattle.store_laws.proofs.Holdings.OneVersionLists.{all_both}
+use Rattle.store_laws.proofs.Runs.{writes_at}
 
 -- a make that has committed was the first to commit its file
 abbrev pub IsCalled : Config → Trace → Instance → Type 0

@@ -36,16 +36,16 @@ use Rattle.tree_laws.proofs.CarriedOpens.{was_then}
 use Rattle.tree_laws.proofs.CarriedVersions.{joins_stay, sees_stay}
 use Rattle.tree_laws.proofs.Rows.{followed_rows}
 use Rattle.tree_laws.proofs.Versions.{versions_stay}
-use Rattle.one_tree_laws.proofs.of_order_laws.Started.{open_started}
-use Rattle.one_tree_laws.proofs.of_store_laws.Tabled.{apart_latest, every_latest, row_among}
-use Rattle.one_tree_laws.proofs.of_sync_laws.Adding.{latest_found}
-use Rattle.one_tree_laws.proofs.of_sync_laws.Looks.{sends_fine}
-use Rattle.one_tree_laws.proofs.of_sync_laws.Notices.{row_notices_fine, rows_found}
-use Rattle.one_tree_laws.proofs.of_sync_laws.OpensStay.{open_row_goes_on}
-use Rattle.one_tree_laws.proofs.of_sync_laws.Rows.{every_among, row_every}
-use Rattle.one_tree_laws.specs.Rest.{AllRest, Comes, RestTold, more}
-use Rattle.one_tree_laws.specs.Roles.{Came, Ready, TableHere}
-use Rattle.one_tree_laws.proofs.Staying.{stays}
+use Rattle.store_laws.proofs.of_tree_laws.Orders.Started.{open_started}
+use Rattle.store_laws.proofs.Tabled.{apart_latest, every_latest, row_among}
+use Rattle.store_laws.proofs.of_tree_laws.Syncs.Adding.{latest_found}
+use Rattle.store_laws.proofs.of_tree_laws.Syncs.Looks.{sends_fine}
+use Rattle.store_laws.proofs.of_tree_laws.Syncs.Notices.{row_notices_fine, rows_found}
+use Rattle.store_laws.proofs.of_tree_laws.Syncs.OpensStay.{open_row_goes_on}
+use Rattle.store_laws.proofs.of_tree_laws.Syncs.Rows.{every_among, row_every}
+use Rattle.store_laws.specs.OneTree.Rest.{AllRest, Comes, RestTold, more}
+use Rattle.store_laws.specs.OneTree.Roles.{Came, Ready, TableHere}
+use Rattle.store_laws.proofs.OneTree.Staying.{stays}
 use Rattle.rest_laws.specs.TableNarrow.{CallsAreNarrow}
 use Rattle.rest_laws.proofs.TableFiles.{FilesNow, published_files, unmade_files}
 use Rattle.rest_laws.proofs.TableNaming.{row_is}

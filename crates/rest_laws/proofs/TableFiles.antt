@@ -30,18 +30,18 @@ use Rattle.tree_laws.specs.Packets.{EndsNow, MadeFact, file_in}
 use Rattle.tree_laws.specs.Printed.{entries}
 use Rattle.tree_laws.specs.Tables.{AsItsFile, AreRising, ExactFact, FileFact, IsAhead, IsGrantedNow, IsNoted, IsStill, StartedFiles, known_stamps, row_stamp}
 use Rattle.tree_laws.proofs.Boots.{every_both}
-use Rattle.one_tree_laws.proofs.of_order_laws.Keeping.{published_same}
-use Rattle.one_tree_laws.specs.of_holding_laws.Held.{IsKnownOrAhead}
-use Rattle.one_tree_laws.proofs.of_holding_laws.Below.{packs_hold}
-use Rattle.one_tree_laws.proofs.of_holding_laws.Holding.{known_or_ahead}
-use Rattle.one_tree_laws.proofs.of_holding_laws.OneVersionAscending.{known_ascends}
-use Rattle.one_tree_laws.proofs.of_call_row_laws.Rising.{key_case}
-use Rattle.one_tree_laws.proofs.of_store_laws.Tabled.{row_other, row_same}
-use Rattle.one_tree_laws.proofs.of_sync_laws.Files.{file_row_stays}
-use Rattle.one_tree_laws.proofs.of_sync_laws.Rows.{row_every, row_key_is}
-use Rattle.one_tree_laws.specs.Rest.{Past, RestTold, more}
-use Rattle.one_tree_laws.specs.Roles.{Ready, TableHere}
-use Rattle.one_tree_laws.proofs.Staying.{rest_below}
+use Rattle.store_laws.proofs.of_tree_laws.Orders.Keeping.{published_same}
+use Rattle.store_laws.specs.Holdings.Held.{IsKnownOrAhead}
+use Rattle.store_laws.proofs.Holdings.Below.{packs_hold}
+use Rattle.store_laws.proofs.Holdings.Holding.{known_or_ahead}
+use Rattle.store_laws.proofs.Holdings.OneVersionAscending.{known_ascends}
+use Rattle.store_laws.proofs.of_row_laws.CallRows.Rising.{key_case}
+use Rattle.store_laws.proofs.Tabled.{row_other, row_same}
+use Rattle.store_laws.proofs.of_tree_laws.Syncs.Files.{file_row_stays}
+use Rattle.store_laws.proofs.of_tree_laws.Syncs.Rows.{row_every, row_key_is}
+use Rattle.store_laws.specs.OneTree.Rest.{Past, RestTold, more}
+use Rattle.store_laws.specs.OneTree.Roles.{Ready, TableHere}
+use Rattle.store_laws.proofs.OneTree.Staying.{rest_below}
 use Rattle.rest_laws.proofs.TableFiling.{rising_row}
 use Rattle.rest_laws.proofs.TableHigh.{kept_high}
 use Rattle.rest_laws.proofs.TableKnown.{brought_stamps}

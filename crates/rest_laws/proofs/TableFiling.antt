@@ -19,8 +19,8 @@ use Rattle.tree_laws.specs.Packets.{file_in}
 use Rattle.tree_laws.specs.Printed.{entries}
 use Rattle.tree_laws.specs.Stores.{Ascends}
 use Rattle.tree_laws.specs.Tables.{AreRising, ExactFact, FileFact, FilesFact, HasHolder, IsAhead, IsNoted, IsStill, StartedFiles, TableFact, known_stamps, row_stamp}
-use Rattle.one_tree_laws.proofs.of_call_row_laws.Rising.{key_case}
-use Rattle.one_tree_laws.proofs.of_store_laws.Tabled.{ascends_row, row_other, row_same}
+use Rattle.store_laws.proofs.of_row_laws.CallRows.Rising.{key_case}
+use Rattle.store_laws.proofs.Tabled.{ascends_row, row_other, row_same}
 use Rattle.rest_laws.proofs.TableNoting.{NotedRow}
 
 -- ---- rows in order ----

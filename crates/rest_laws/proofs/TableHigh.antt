@@ -14,9 +14,9 @@ use Rattle.tree_model.specs.Histories.{history}
 use Rattle.tree_laws.specs.Printed.{entries}
 use Rattle.tree_laws.specs.Tables.{VersionFact, highest, row_stamp}
 use Rattle.tree_laws.proofs.Boots.{every_both}
-use Rattle.one_tree_laws.proofs.of_sync_laws.Versions.{row_stands, row_vector}
-use Rattle.one_tree_laws.specs.Rest.{Past}
-use Rattle.one_tree_laws.proofs.ToldVectorTelling.{vectors_tell_newer}
+use Rattle.store_laws.proofs.of_tree_laws.Syncs.Versions.{row_stands, row_vector}
+use Rattle.store_laws.specs.OneTree.Rest.{Past}
+use Rattle.store_laws.proofs.OneTree.ToldVectorTelling.{vectors_tell_newer}
 
 any_mapped : {A B : Type 0} (g : A → B) (p : A → Bool) (q : B → Bool) (xs : List A) → Every (λ (x : A). p x ≡ q (g x)) xs → list_any p xs ≡ list_any q (map g xs)
 any_mapped g p q [] same = refl

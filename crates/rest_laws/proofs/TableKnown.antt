@@ -16,7 +16,7 @@ use Rattle.role_steps.specs.declared.synchronizing.VersionRow.{VersionRow}
 use Rattle.tree_model.specs.Same.{same_brought}
 use Rattle.tree_model.specs.State.{is_brought_below, stamps_of, with_brought}
 use Rattle.tree_laws.specs.Tables.{row_stamp}
-use Rattle.one_tree_laws.proofs.of_holding_laws.OneVersionAscending.{Ascends}
+use Rattle.store_laws.proofs.Holdings.OneVersionAscending.{Ascends}
 
 -- ---- the tree's list ----
 

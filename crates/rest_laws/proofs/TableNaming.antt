@@ -17,10 +17,10 @@ use Rattle.tree_laws.specs.Past.{WasNamed, WasReleased}
 use Rattle.tree_laws.specs.Printed.{entries}
 use Rattle.tree_laws.specs.Tables.{RowFact}
 use Rattle.tree_laws.proofs.Grants.{open_named}
-use Rattle.one_tree_laws.proofs.of_holding_laws.Released.{released_named}
-use Rattle.one_tree_laws.proofs.of_store_laws.Begun.{named_of}
-use Rattle.one_tree_laws.proofs.of_sync_laws.Rows.{row_key_is}
-use Rattle.one_tree_laws.specs.Rest.{Past}
+use Rattle.store_laws.proofs.Holdings.Released.{released_named}
+use Rattle.store_laws.proofs.Begun.{named_of}
+use Rattle.store_laws.proofs.of_tree_laws.Syncs.Rows.{row_key_is}
+use Rattle.store_laws.specs.OneTree.Rest.{Past}
 use Rattle.rest_laws.specs.TableNarrow.{CallsAreNarrow}
 
 serial_same : (a b : Serial) → a.us ≤ sites_max → b.us ≤ sites_max → serial_key a ≡ serial_key b → a ≡ b

@@ -16,10 +16,10 @@ use Rattle.tree_laws.specs.Doing.{TableFine}
 use Rattle.tree_laws.specs.Instances.{HasAtLeast, IsStarted}
 use Rattle.tree_laws.specs.Packets.{BodyFact, HaveFact, file_in}
 use Rattle.tree_laws.specs.Tables.{FileFact, TableFact}
-use Rattle.one_tree_laws.proofs.of_sync_laws.Looks.{sends_fine}
-use Rattle.one_tree_laws.proofs.of_sync_laws.Rows.{row_every, row_key_is}
-use Rattle.one_tree_laws.specs.Rest.{Past}
-use Rattle.one_tree_laws.specs.Roles.{Came, Ready, TableHere}
+use Rattle.store_laws.proofs.of_tree_laws.Syncs.Looks.{sends_fine}
+use Rattle.store_laws.proofs.of_tree_laws.Syncs.Rows.{row_every, row_key_is}
+use Rattle.store_laws.specs.OneTree.Rest.{Past}
+use Rattle.store_laws.specs.OneTree.Roles.{Came, Ready, TableHere}
 use Rattle.rest_laws.proofs.TableFiling.{filed_table}
 use Rattle.rest_laws.proofs.TableNoting.{noted_row, row_so}
 

@@ -31,18 +31,18 @@ use Rattle.tree_laws.specs.Stores.{Ascends}
 use Rattle.tree_laws.specs.Tables.{FileFact, HasHolder, HasVersion, HoldingFact, IsNoted, IsOrderly, VersionFact}
 use Rattle.tree_laws.proofs.Boots.{every_passes}
 use Rattle.tree_laws.proofs.Rows.{followed_rows}
-use Rattle.one_tree_laws.proofs.of_holding_laws.Ancestors.{ancestors_one, ancestors_stand}
-use Rattle.one_tree_laws.proofs.of_holding_laws.Below.{commits_new}
-use Rattle.one_tree_laws.proofs.of_holding_laws.Made.{held_stand, rows_made}
-use Rattle.one_tree_laws.proofs.of_call_row_laws.Rising.{key_case, put_keeps}
-use Rattle.one_tree_laws.proofs.of_store_laws.Tabled.{row_among, row_other, row_same}
-use Rattle.one_tree_laws.proofs.of_sync_laws.Orderly.{holder_orderly}
-use Rattle.one_tree_laws.proofs.of_sync_laws.Rows.{every_among, row_every, row_key_is}
-use Rattle.one_tree_laws.proofs.of_sync_laws.Versions.{row_stands, row_vector}
-use Rattle.one_tree_laws.specs.Rest.{Past}
-use Rattle.one_tree_laws.proofs.Staying.{rest_below}
-use Rattle.one_tree_laws.proofs.ToldVectorOnly.{stamp_only}
-use Rattle.one_tree_laws.proofs.ToldVectorTelling.{vectors_tell_newer}
+use Rattle.store_laws.proofs.Holdings.Ancestors.{ancestors_one, ancestors_stand}
+use Rattle.store_laws.proofs.Holdings.Below.{commits_new}
+use Rattle.store_laws.proofs.Holdings.Made.{held_stand, rows_made}
+use Rattle.store_laws.proofs.of_row_laws.CallRows.Rising.{key_case, put_keeps}
+use Rattle.store_laws.proofs.Tabled.{row_among, row_other, row_same}
+use Rattle.store_laws.proofs.of_tree_laws.Syncs.Orderly.{holder_orderly}
+use Rattle.store_laws.proofs.of_tree_laws.Syncs.Rows.{every_among, row_every, row_key_is}
+use Rattle.store_laws.proofs.of_tree_laws.Syncs.Versions.{row_stands, row_vector}
+use Rattle.store_laws.specs.OneTree.Rest.{Past}
+use Rattle.store_laws.proofs.OneTree.Staying.{rest_below}
+use Rattle.store_laws.proofs.OneTree.ToldVectorOnly.{stamp_only}
+use Rattle.store_laws.proofs.OneTree.ToldVectorTelling.{vectors_tell_newer}
 
 -- ---- lists ----
 

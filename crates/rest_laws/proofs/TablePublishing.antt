@@ -38,24 +38,24 @@ use Rattle.tree_laws.specs.Tables.{AsItsFile, FileFact, HasHolder, IsGrantedNow,
 use Rattle.tree_laws.proofs.Boots.{every_both, every_filter}
 use Rattle.tree_laws.proofs.CarriedVersions.{version_stays}
 use Rattle.tree_laws.proofs.Versions.{versions_stay}
-use Rattle.one_tree_laws.specs.of_holding_laws.Held.{StandsOnHeld}
-use Rattle.one_tree_laws.proofs.of_holding_laws.Ancestors.{ancestor_own}
-use Rattle.one_tree_laws.proofs.of_holding_laws.Holding.{stands_on_held}
-use Rattle.one_tree_laws.proofs.of_order_laws.Lists.{all_found}
-use Rattle.one_tree_laws.proofs.of_holding_laws.OneVersionFirsts.{MakesFirst, makes_first}
-use Rattle.one_tree_laws.proofs.of_holding_laws.OneVersionHomes.{no_root}
-use Rattle.one_tree_laws.proofs.of_store_laws.Places.{open_is}
-use Rattle.one_tree_laws.proofs.of_store_laws.Tabled.{row_among}
-use Rattle.one_tree_laws.proofs.of_sync_laws.Files.{file_row_stays}
-use Rattle.one_tree_laws.proofs.of_sync_laws.Orderly.{version_orderly, version_there}
-use Rattle.one_tree_laws.proofs.of_sync_laws.Rows.{every_among, row_every, row_key_is}
-use Rattle.one_tree_laws.proofs.of_sync_laws.Versions.{row_stands}
+use Rattle.store_laws.specs.Holdings.Held.{StandsOnHeld}
+use Rattle.store_laws.proofs.Holdings.Ancestors.{ancestor_own}
+use Rattle.store_laws.proofs.Holdings.Holding.{stands_on_held}
+use Rattle.store_laws.proofs.of_tree_laws.Orders.Lists.{all_found}
+use Rattle.store_laws.proofs.Holdings.OneVersionFirsts.{MakesFirst, makes_first}
+use Rattle.store_laws.proofs.Holdings.OneVersionHomes.{no_root}
+use Rattle.store_laws.proofs.Places.{open_is}
+use Rattle.store_laws.proofs.Tabled.{row_among}
+use Rattle.store_laws.proofs.of_tree_laws.Syncs.Files.{file_row_stays}
+use Rattle.store_laws.proofs.of_tree_laws.Syncs.Orderly.{version_orderly, version_there}
+use Rattle.store_laws.proofs.of_tree_laws.Syncs.Rows.{every_among, row_every, row_key_is}
+use Rattle.store_laws.proofs.of_tree_laws.Syncs.Versions.{row_stands}
 use Rattle.tree_model.specs.State.{is_named}
-use Rattle.one_tree_laws.specs.Rest.{Comes, Past, RestTold, more}
-use Rattle.one_tree_laws.specs.Roles.{Ready, TableHere}
-use Rattle.one_tree_laws.proofs.Composing.{past_more}
-use Rattle.one_tree_laws.proofs.Staying.{stays}
-use Rattle.one_tree_laws.proofs.ToldVectorOnly.{only_version, stands_low}
+use Rattle.store_laws.specs.OneTree.Rest.{Comes, Past, RestTold, more}
+use Rattle.store_laws.specs.OneTree.Roles.{Ready, TableHere}
+use Rattle.store_laws.proofs.OneTree.Composing.{past_more}
+use Rattle.store_laws.proofs.OneTree.Staying.{stays}
+use Rattle.store_laws.proofs.OneTree.ToldVectorOnly.{only_version, stands_low}
 use Rattle.rest_laws.proofs.TableCalled.{open_make_called}
 use Rattle.rest_laws.proofs.TableKnown.{row_stamps}
 use Rattle.rest_laws.proofs.TableNoting.{NotedRow, RowSo, noted_now, noted_row, row_so}

@@ -22,10 +22,10 @@ use Rattle.tree_laws.specs.Stores.{AreApart}
 use Rattle.tree_laws.specs.Tables.{AreRising, FileFact, FilesFact, RowFact, TableFact, early_packet, named_openers, tree_openers}
 use Rattle.tree_laws.proofs.Boots.{every_both}
 use Rattle.tree_laws.proofs.Carried.{packet_stays}
-use Rattle.one_tree_laws.specs.of_sync_laws.Staying.{Looks, Starts}
-use Rattle.one_tree_laws.proofs.of_sync_laws.Files.{started_told}
-use Rattle.one_tree_laws.proofs.of_sync_laws.Staying.{turn_told_same}
-use Rattle.one_tree_laws.specs.Rest.{more}
+use Rattle.store_laws.specs.of_tree_laws.Syncs.Staying.{Looks, Starts}
+use Rattle.store_laws.proofs.of_tree_laws.Syncs.Files.{started_told}
+use Rattle.store_laws.proofs.of_tree_laws.Syncs.Staying.{turn_told_same}
+use Rattle.store_laws.specs.OneTree.Rest.{more}
 
 -- what a table has of its opens and files by the trace
 pub record HasNow (c : Config) (trace : List Line) (f : Frame) (t : SyncTable) : Type 0 where

@@ -48,12 +48,12 @@ use Rattle.tree_laws.proofs.Finds.{find_without}
 use Rattle.tree_laws.proofs.Hearing.{asks_next}
 use Rattle.tree_laws.proofs.Kinship.{tree_epoch_is, tree_group_is}
 use Rattle.tree_laws.proofs.Names.{same_epoch_own, same_serial_eq}
-use Rattle.one_tree_laws.proofs.of_order_laws.ProcessSynchronizing.{sync_same}
-use Rattle.one_tree_laws.proofs.of_store_laws.Places.{open_is}
-use Rattle.one_tree_laws.proofs.of_sync_laws.Members.{inside_joined}
-use Rattle.one_tree_laws.proofs.of_sync_laws.OpensStay.{granted_group_is}
-use Rattle.one_tree_laws.specs.Rest.{more}
-use Rattle.one_tree_laws.specs.Roles.{Ready, TableHere}
+use Rattle.store_laws.proofs.of_tree_laws.Orders.ProcessSynchronizing.{sync_same}
+use Rattle.store_laws.proofs.Places.{open_is}
+use Rattle.store_laws.proofs.of_tree_laws.Syncs.Members.{inside_joined}
+use Rattle.store_laws.proofs.of_tree_laws.Syncs.OpensStay.{granted_group_is}
+use Rattle.store_laws.specs.OneTree.Rest.{more}
+use Rattle.store_laws.specs.OneTree.Roles.{Ready, TableHere}
 use Rattle.rest_laws.proofs.TableOpeners.{filter_taken, is_of, latest_apart, table_taken, tree_taken}
 
 version_own : (o : Option Stamp) → same_version o o ≡ true

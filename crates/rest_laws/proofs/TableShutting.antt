@@ -11,8 +11,8 @@ use Rattle.role_steps.specs.Views.{Told, Shuts}
 use Rattle.the_run.specs.Worlds.{Line}
 use Rattle.tree_laws.specs.Following.{IsFollowed, MayTell}
 use Rattle.tree_laws.specs.Past.{ShutsIt, WasBegun, WasGranted, WasShut}
-use Rattle.one_tree_laws.proofs.of_store_laws.Begun.{begun_one}
-use Rattle.one_tree_laws.proofs.of_store_laws.Places.{GrantedSo, granted_once, instance_granted}
+use Rattle.store_laws.proofs.Begun.{begun_one}
+use Rattle.store_laws.proofs.Places.{GrantedSo, granted_once, instance_granted}
 
 -- it was granted on this file, and begun on it
 record ShutOn (trace : List Line) (s : ℕ) (e : EpochId) (i : Serial) : Type 0 where

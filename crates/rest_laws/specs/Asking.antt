@@ -12,7 +12,7 @@ use Rattle.tree_model.specs.Calls.{call_named}
 use Rattle.tree_model.specs.Opening.{site_named}
 use Rattle.tree_laws.specs.Instances.{AsksOpen}
 use Rattle.tree_laws.specs.Printed.{entries}
-use Rattle.one_tree_laws.specs.of_sync_laws.Opening.{IsPlainOpening}
+use Rattle.store_laws.specs.of_tree_laws.Syncs.Opening.{IsPlainOpening}
 
 pub record OpensAreSaid (c : Config) (trace : List Line) : Type 0 where
   -- a file that is opened has a number: no entry of a directory names number 0

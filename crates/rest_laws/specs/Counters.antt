@@ -5,8 +5,8 @@ use Rattle.trace_book.specs.declared.record.Record.TheVariants as says
 use Rattle.role_steps.specs.Own.{Every}
 use Rattle.role_steps.specs.Views.{Told, Shown}
 use Rattle.the_run.specs.Worlds.{Line}
-use Rattle.one_tree_laws.specs.of_vector_laws.Written.{past_of}
-use Rattle.one_tree_laws.specs.Rest.{IsSpentMend}
+use Rattle.store_laws.specs.of_site_laws.Vectors.Written.{past_of}
+use Rattle.store_laws.specs.OneTree.Rest.{IsSpentMend}
 
 abbrev pub LowRecord : Record → Type 0
 LowRecord (says.Commit f s stamp parents content) = stamp.n < 4294967295

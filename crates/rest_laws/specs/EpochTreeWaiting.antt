@@ -10,8 +10,8 @@ use Rattle.role_steps.specs.Views.{Frame}
 use Rattle.role_steps.specs.declared.synchronizing.SyncTable.{SyncTable}
 use Rattle.the_run.specs.Worlds.{Line}
 use Rattle.tree_laws.specs.Doing.{TableFine}
-use Rattle.one_tree_laws.specs.Rest.{AllRest}
-use Rattle.one_tree_laws.specs.Roles.{Came, Ready, TableHere}
+use Rattle.store_laws.specs.OneTree.Rest.{AllRest}
+use Rattle.store_laws.specs.OneTree.Roles.{Came, Ready, TableHere}
 
 -- a synchronization site does opens and looks as it may, as they come
 pub record RequestsDo (c : Config) : Type 0 where

@@ -13,10 +13,10 @@ use Rattle.tree_model.specs.Tree.{tree_of}
 use Rattle.tree_laws.specs.Instances.{IsFull}
 use Rattle.tree_laws.specs.Packets.{MakesNow}
 use Rattle.tree_laws.specs.Printed.{entries}
-use Rattle.one_tree_laws.specs.of_sync_laws.Making.{MakesAreSaid}
-use Rattle.one_tree_laws.specs.of_sync_laws.Serving.{Serving}
-use Rattle.one_tree_laws.specs.Rest.{Past}
-use Rattle.one_tree_laws.specs.Roles.{Ready, TableHere}
+use Rattle.store_laws.specs.of_tree_laws.Syncs.Making.{MakesAreSaid}
+use Rattle.store_laws.specs.of_tree_laws.Syncs.Serving.{Serving}
+use Rattle.store_laws.specs.OneTree.Rest.{Past}
+use Rattle.store_laws.specs.OneTree.Roles.{Ready, TableHere}
 
 pub record MadeRests (c : Config) : Type 0 where
   -- a site serves the groups that it synchronizes

@@ -6,7 +6,7 @@ use Rattle.trace_book.specs.declared.entry.Entry.{Entry}
 use Rattle.trace_book.specs.declared.record.Record.{Record}
 use Rattle.trace_book.specs.declared.record.Record.TheVariants as says
 use Rattle.tree_model.specs.Folds.{Trace}
-use Rattle.one_tree_laws.specs.of_row_laws.Rest.{IsCounted}
+use Rattle.store_laws.specs.of_row_laws.Rest.{IsCounted}
 
 -- a site that is stopped within a disk call is so at a call that counts
 abbrev pub CountedRecord : Config → List ScheduleLine → ℕ → Trace → Record → Type 0

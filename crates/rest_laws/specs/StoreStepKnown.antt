@@ -2,10 +2,10 @@
 use Rattle.std.specs.Prelude.{◌≡◌, ◌<◌}
 use Rattle.locus_ids.specs.declared.config.Config.{Config}
 use Rattle.locus_ids.specs.declared.ids.CallId.{CallId}
-use Rattle.one_tree_laws.specs.of_vector_laws.HistoryCommits.{IsSite}
+use Rattle.store_laws.specs.of_site_laws.Vectors.HistoryCommits.{IsSite}
 use Rattle.tree_model.specs.declared.accepted.Waiting.{Waiting}
 use Rattle.tree_laws.specs.Processes.{IsMend}
-use Rattle.one_tree_laws.specs.Rest.{IsNumberedLow, RangeCall}
+use Rattle.store_laws.specs.OneTree.Rest.{IsNumberedLow, RangeCall}
 
 -- the call is of one of the sites, and of a process of one byte, of which 0 makes mends alone; where a line asked it, it is in range, and its name
 -- has numbers of 32 bits

@@ -15,9 +15,9 @@ use Rattle.the_run.specs.Worlds.{Line}
 use Rattle.lawful_trace.specs.TreeRows.{IsCallIn}
 use Rattle.tree_laws.specs.Calls.{Asks}
 use Rattle.tree_laws.specs.Printed.{entries}
-use Rattle.one_tree_laws.specs.of_store_laws.Rests.{MendsAs}
-use Rattle.one_tree_laws.specs.Places.{InsideFact}
-use Rattle.one_tree_laws.specs.Roles.{Ready}
+use Rattle.store_laws.specs.Rests.{MendsAs}
+use Rattle.store_laws.specs.OneTree.Places.{InsideFact}
+use Rattle.store_laws.specs.OneTree.Roles.{Ready}
 
 pub record MendsRest (c : Config) : Type 0 where
   -- a mend that a call asks of an instance now works on what the tree has kept

@@ -7,7 +7,7 @@ use Rattle.the_run.specs.Worlds.{Line}
 use Rattle.tree_model.specs.declared.accepted.Waiting.{Waiting}
 use Rattle.tree_model.specs.Calls.{call_named}
 use Rattle.tree_laws.specs.Printed.{entries}
-use Rattle.one_tree_laws.specs.Rest.{Past}
+use Rattle.store_laws.specs.OneTree.Rest.{Past}
 
 pub record CallsAreNarrow (c : Config) : Type 0 where
   pub sites : (trace : List Line) → Past c trace → (d : CallId) (w : Waiting) → call_named (entries trace) d ≡ Some w → d.site ≤ sites_max

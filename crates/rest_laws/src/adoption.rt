@@ -13,9 +13,9 @@ ghost use Rattle.tree_laws.specs.Following.{IsFollowed};
 ghost use Rattle.tree_laws.specs.Instances.{instance_now};
 ghost use Rattle.tree_laws.specs.Printed.{entries};
 ghost use Rattle.tree_laws.specs.Doing.{Fine, IsAdopted, WriteFact};
-ghost use Rattle.one_tree_laws.specs.Places.{InsideFact};
-ghost use Rattle.one_tree_laws.specs.Rest.{AllRest};
-ghost use Rattle.one_tree_laws.specs.Roles.{Ready};
+ghost use Rattle.store_laws.specs.OneTree.Places.{InsideFact};
+ghost use Rattle.store_laws.specs.OneTree.Rest.{AllRest};
+ghost use Rattle.store_laws.specs.OneTree.Roles.{Ready};
 ghost use Rattle.rest_laws.specs.AdoptionMending.{MendWaits};
 
 /// While the instance of a mend is open and its storage site is in the epoch, the call that mends waits at that site: a mend gives its

@@ -1,9 +1,22 @@
-//! What each role does, it does as it may: joining and reporting, starting and serving a group, storing, mending and adopting; and what
-//! all of it rests on in every run. Theorems alone; this room has no running part.
+//! Laws of every run about what is at rest between events, and that it has room.
+//! Theorems about the run alone; this room has no running part.
+//!
+//! Parts:
+//! - The rest: What each role does, it does as it may: joining and reporting, starting and serving a group, storing,
+//!   mending and adopting; and what all of it rests on in every run. Theorems alone; this room has no running part.
+//! - `CopiesKept`: Laws of every run about the bytes of versions: each copy on a disk has those that its version was
+//!   committed with.
+//! - `Fits`: What every run asks of disks, tables, packets and directories has room, is in range and can be done: none of
+//!   the causes for which a role refuses a value as unfit comes in any run. Theorems alone; this room has no running
+//!   part.
 #![tactic(auto)]
 
 mod adoption;
+mod calm_asking;
+mod copy_laws;
+mod entry;
 mod epoch_tree;
+mod fit_laws;
 mod laws;
 mod made;
 mod mend_step;
@@ -31,3 +44,11 @@ pub use store_step::{
     storage_sites_rest_on_the_past, what_is_owed_may_be_written,
 };
 pub use table::{adoptions_are_noted, closes_are_published};
+pub use copy_laws::{copies_have_contents, versions_and_copies_hold, versions_stand};
+pub use calm_asking::{asked_operations_can_be_done, inserted_numbers_are_new};
+pub use entry::{directories_name_files, who_inserts_has_made};
+pub use fit_laws::{
+    files_have_inodes, notices_are_of_versions, opens_are_of_sites, packs_have_room,
+    sites_keep_their_room, tables_are_of_inodes, versions_fit_slots, what_is_pulled_may_be_adopted,
+    what_runs_may_be_stored,
+};

@@ -10,8 +10,8 @@ ghost use Rattle.role_steps.specs.Views.{Frame};
 ghost use Rattle.role_steps.specs.declared.synchronizing.SyncTable.{SyncTable};
 ghost use Rattle.the_run.specs.Worlds.{Line};
 ghost use Rattle.tree_laws.specs.Doing.{TableFine};
-ghost use Rattle.one_tree_laws.specs.Rest.{AllRest};
-ghost use Rattle.one_tree_laws.specs.Roles.{Came, Ready, TableHere};
+ghost use Rattle.store_laws.specs.OneTree.Rest.{AllRest};
+ghost use Rattle.store_laws.specs.OneTree.Roles.{Came, Ready, TableHere};
 ghost use Rattle.rest_laws.specs.MadeResting.{MadeRests};
 
 /// Where a storage site answers that it has begun a make, the make is granted the number that the site has given it: nothing has that

@@ -33,19 +33,19 @@ ghost use Rattle.tree_model.specs.Histories.{history};
 ghost use Rattle.tree_model.specs.Mending.{kept_vectors};
 ghost use Rattle.tree_model.specs.Packs.{sync_site};
 ghost use Rattle.tree_model.specs.Tree.{tree_of};
-ghost use Rattle.one_tree_laws.specs.of_row_laws.Shown.{EachRecord};
-ghost use Rattle.one_tree_laws.specs.of_call_row_laws.Tree.{IsTreeRow};
+ghost use Rattle.store_laws.specs.of_row_laws.Shown.{EachRecord};
+ghost use Rattle.store_laws.specs.of_row_laws.CallRows.Tree.{IsTreeRow};
 ghost use Rattle.tree_laws.specs.Following.{IsFollowed, RowsAreLawful};
 ghost use Rattle.tree_laws.specs.Past.{WasGranted};
 ghost use Rattle.tree_laws.specs.Instances.{Stands};
 ghost use Rattle.tree_laws.specs.Printed.{entries};
 ghost use Rattle.tree_laws.specs.Tables.{TableFact};
-ghost use Rattle.one_tree_laws.specs.of_store_laws.Rests.{MendsAs};
-ghost use Rattle.one_tree_laws.specs.Places.{InsideFact};
-ghost use Rattle.one_tree_laws.specs.Rest.{AllRest, Past};
-ghost use Rattle.one_tree_laws.specs.Roles.{Ready};
+ghost use Rattle.store_laws.specs.Rests.{MendsAs};
+ghost use Rattle.store_laws.specs.OneTree.Places.{InsideFact};
+ghost use Rattle.store_laws.specs.OneTree.Rest.{AllRest, Past};
+ghost use Rattle.store_laws.specs.OneTree.Roles.{Ready};
 ghost use Rattle.tree_laws.specs.Doing.{Fine, IsOfUsers, NoWrite};
-ghost use Rattle.one_tree_laws.specs.UserStepRests.{UserRests};
+ghost use Rattle.store_laws.specs.OneTree.UserStepRests.{UserRests};
 ghost use Rattle.rest_laws.specs.MendStepCounting.{IsCountedRow};
 
 /// Once a group has started, the vectors of the kept versions of all its files are the same in the table of its synchronization site

@@ -16,10 +16,10 @@ ghost use Rattle.the_run.specs.Steps.{group_of};
 ghost use Rattle.the_run.specs.Worlds.{Line, formatted};
 ghost use Rattle.tree_laws.specs.Doing.{FrameFact, StoreFine, StoreHeld};
 ghost use Rattle.tree_laws.specs.Stores.{CopiesAreHeld};
-ghost use Rattle.one_tree_laws.specs.of_store_laws.Rests.{MayWrite, OpRests, StoreRests};
-ghost use Rattle.one_tree_laws.specs.Places.{InsideFact};
-ghost use Rattle.one_tree_laws.specs.Rest.{AllRest, Past};
-ghost use Rattle.one_tree_laws.specs.Roles.{Came, Ready};
+ghost use Rattle.store_laws.specs.Rests.{MayWrite, OpRests, StoreRests};
+ghost use Rattle.store_laws.specs.OneTree.Places.{InsideFact};
+ghost use Rattle.store_laws.specs.OneTree.Rest.{AllRest, Past};
+ghost use Rattle.store_laws.specs.OneTree.Roles.{Came, Ready};
 ghost use Rattle.rest_laws.specs.StoreStepSteps.{MendsRest};
 
 /// The cluster that schedule lines make has four groups.

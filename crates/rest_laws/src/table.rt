@@ -13,8 +13,8 @@ ghost use Rattle.role_steps.specs.Views.{Frame};
 ghost use Rattle.role_steps.specs.declared.synchronizing.SyncTable.{SyncTable};
 ghost use Rattle.the_run.specs.Worlds.{Line};
 ghost use Rattle.tree_laws.specs.Doing.{TableFine};
-ghost use Rattle.one_tree_laws.specs.Rest.{AllRest};
-ghost use Rattle.one_tree_laws.specs.Roles.{Came, Ready, TableHere};
+ghost use Rattle.store_laws.specs.OneTree.Rest.{AllRest};
+ghost use Rattle.store_laws.specs.OneTree.Roles.{Came, Ready, TableHere};
 ghost use Rattle.rest_laws.specs.TableNarrow.{CallsAreNarrow};
 
 /// Where a member tells which version of a file it has, the synchronization site notes it if it is above what was noted of that member:

@@ -13,12 +13,12 @@ use Rattle.trace_book.specs.declared.record.StopCause.TheVariants as cause
 use Rattle.role_steps.specs.Tables.{row}
 use Rattle.role_steps.specs.Views.{Shown, Event, Receives, Ticks}
 use Rattle.role_steps.proofs.Sending.{every_map}
-use Rattle.lock_laws.specs.of_the_run.Disks.{Armed as Script, Stops as Stopping, Fails as Failing}
-use Rattle.lock_laws.specs.of_the_run.Steps.{step}
-use Rattle.lock_laws.specs.of_the_run.Worlds.{World, Running, Numbered, Line, armed_site, script_of, links_of, passed, arms, disk_of, first_world}
-use Rattle.lock_laws.specs.of_the_run.Runs.{packet_record, run_in}
-use Rattle.lock_laws.specs.of_run_laws.Naming.{DeedsOf}
-use Rattle.lock_laws.proofs.of_vector_laws.SiteDisks.{step_disk}
+use Rattle.site_laws.specs.of_the_run.Disks.{Armed as Script, Stops as Stopping, Fails as Failing}
+use Rattle.site_laws.specs.of_the_run.Steps.{step}
+use Rattle.site_laws.specs.of_the_run.Worlds.{World, Running, Numbered, Line, armed_site, script_of, links_of, passed, arms, disk_of, first_world}
+use Rattle.site_laws.specs.of_the_run.Runs.{packet_record, run_in}
+use Rattle.site_laws.specs.of_run_laws.Naming.{DeedsOf}
+use Rattle.site_laws.proofs.Vectors.SiteDisks.{step_disk}
 use Rattle.lawful_trace.specs.Places.{line_at}
 use Rattle.lawful_trace.specs.Disks.{Stops, Fails, Disk, armed_by, newly_armed, armed_at, keeps_calls}
 use Rattle.row_laws.specs.Shown.{shown, trace_of, EachRecord}

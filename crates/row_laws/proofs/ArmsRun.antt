@@ -15,11 +15,11 @@ use Rattle.role_steps.specs.Tables.{row}
 use Rattle.role_steps.specs.Views.{SiteView, Told, Shown, DiskWrite, Outcome}
 use Rattle.lawful_trace.specs.of_tree_model.Folds.{Trace, last_line}
 use Rattle.lawful_trace.specs.of_tree_model.Epochs.{is_up}
-use Rattle.lock_laws.specs.of_the_run.Disks.{Disk as DiskLeft, Armed as Script, Cut, Stops as Stopping, Fails as Failing, BootWrite, boot_writes, written as boot_written, Booted, Whole, CutOff, boots, boots_armed, blocks, writing_of, write_calls, cut_disk, is_on_disk, has_older}
-use Rattle.lock_laws.specs.of_the_run.Worlds.{World, Running, armed_site, script_of, happened, puts, arms, stops_with, cut_event, runs_on, spends, writes_of, acts_of, acts, cause_of, fresh}
-use Rattle.lock_laws.specs.of_the_run.Runs.{boots_as}
-use Rattle.lock_laws.proofs.of_the_run.Boots.{at_each}
-use Rattle.lock_laws.specs.of_vector_laws.Held.{OnDisk}
+use Rattle.site_laws.specs.of_the_run.Disks.{Disk as DiskLeft, Armed as Script, Cut, Stops as Stopping, Fails as Failing, BootWrite, boot_writes, written as boot_written, Booted, Whole, CutOff, boots, boots_armed, blocks, writing_of, write_calls, cut_disk, is_on_disk, has_older}
+use Rattle.site_laws.specs.of_the_run.Worlds.{World, Running, armed_site, script_of, happened, puts, arms, stops_with, cut_event, runs_on, spends, writes_of, acts_of, acts, cause_of, fresh}
+use Rattle.site_laws.specs.of_the_run.Runs.{boots_as}
+use Rattle.site_laws.proofs.of_the_run.Boots.{at_each}
+use Rattle.site_laws.specs.Vectors.Held.{OnDisk}
 use Rattle.lawful_trace.specs.Places.{line_at}
 use Rattle.lawful_trace.specs.Disks.{Arming, Stops, Fails, calls_of, Armed, Disk, armed_by, Writing, written_with, booted_with, stopped_with, disk_after, disk_of, disk_at, armed_at, writer_of, is_armed_as, is_cut_next, is_within_calls, fits_calls, all_fit_calls}
 use Rattle.row_laws.specs.Shown.{trace_of}

@@ -9,10 +9,10 @@ use Rattle.schedule_lines.specs.declared.line.ScheduleLine.TheVariants.{Passed}
 use Rattle.role_steps.specs.Own.{Every}
 use Rattle.role_steps.specs.Views.{Told, Shown}
 use Rattle.lawful_trace.specs.of_tree_model.Folds.{Trace}
-use Rattle.lock_laws.specs.of_the_run.Worlds.{Line, told_onto}
+use Rattle.site_laws.specs.of_the_run.Worlds.{Line, told_onto}
 use Rattle.lawful_trace.specs.Places.{line_at}
 use Rattle.lawful_trace.specs.Disks.{Disk, armed_by, through_lines, disk_after, disk_of, disk_at, writer_of, is_cut_next, is_within_calls, fits_calls, all_fit_calls, keeps_calls}
-use Rattle.lock_laws.specs.of_vector_laws.Held.{StillRecord, Still}
+use Rattle.site_laws.specs.Vectors.Held.{StillRecord, Still}
 use Rattle.row_laws.specs.Shown.{with_told, shown, EachRecord}
 use Rattle.row_laws.specs.Events.{Causes, SiteRecord, SiteTold}
 use Rattle.row_laws.specs.Rows.{IsArmedFor}

@@ -20,11 +20,11 @@ use Rattle.role_steps.specs.Views.{SiteView, Told, Shown, DiskWrite, Outcome}
 use Rattle.role_steps.proofs.Sending.{every_append}
 use Rattle.lawful_trace.specs.of_tree_model.Folds.{Trace}
 use Rattle.lawful_trace.specs.of_tree_model.Epochs.{is_up, boot_of}
-use Rattle.lock_laws.specs.of_the_run.Disks.{Disk, Cut, Stops, Fails, Booted, Whole, CutOff, boots, cut_disk, is_on_disk}
-use Rattle.lock_laws.specs.of_the_run.Worlds.{World, Place, Running, Stopped, Numbered, Line, place_at, is_between, script_of, happened, numbered_from, told_onto, disk_of, puts, arms, stops_with, cause_of, acts, fresh}
-use Rattle.lock_laws.specs.of_the_run.Runs.{boots_as, packet_record}
-use Rattle.lock_laws.proofs.of_the_run.Boots.{at_each, acts_cases, every_newest, every_numbered, Reached, boots_reached}
-use Rattle.lock_laws.proofs.of_the_run.Events.{happened_keeps, puts_other, puts_same}
+use Rattle.site_laws.specs.of_the_run.Disks.{Disk, Cut, Stops, Fails, Booted, Whole, CutOff, boots, cut_disk, is_on_disk}
+use Rattle.site_laws.specs.of_the_run.Worlds.{World, Place, Running, Stopped, Numbered, Line, place_at, is_between, script_of, happened, numbered_from, told_onto, disk_of, puts, arms, stops_with, cause_of, acts, fresh}
+use Rattle.site_laws.specs.of_the_run.Runs.{boots_as, packet_record}
+use Rattle.site_laws.proofs.of_the_run.Boots.{at_each, acts_cases, every_newest, every_numbered, Reached, boots_reached}
+use Rattle.site_laws.proofs.of_the_run.Events.{happened_keeps, puts_other, puts_same}
 use Rattle.lawful_trace.specs.Places.{line_at}
 use Rattle.lawful_trace.specs.SiteRows.{boots as boots_site}
 use Rattle.lawful_trace.specs.LineRows.{lists_packets}

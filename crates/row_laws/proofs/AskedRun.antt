@@ -17,19 +17,19 @@ use Rattle.role_steps.specs.Tables.{row}
 use Rattle.role_steps.specs.Views.{Told, Shown, Promises, Event, Calls, Receives, Ticks, Parts, Merges, GivesUp}
 use Rattle.lawful_trace.specs.of_tree_model.Folds.{Trace, last_line, before_line}
 use Rattle.lawful_trace.specs.of_tree_model.Epochs.{boot_of}
-use Rattle.lock_laws.specs.of_the_run.Joins.{IsJoinRecord, IsJoin, Joined}
-use Rattle.lock_laws.specs.of_the_run.Kept.{IsOwn, Kept}
-use Rattle.lock_laws.specs.of_the_run.Steps.{step}
-use Rattle.lock_laws.specs.of_the_run.Worlds.{World, Running, Numbered, Line, CutCircuit, is_between, is_cut, number_of, links_of, passed, first_world}
-use Rattle.lock_laws.specs.of_the_run.Runs.{packet_record, cuts_circuit, mends_circuit, run_in}
-use Rattle.lock_laws.proofs.of_the_run.InsideSync.{every_without}
-use Rattle.lock_laws.specs.of_run_laws.Standing.{Standing, nowhere, after_record, after_told, standing, GoesOn, EpochsGoOn}
-use Rattle.lock_laws.specs.of_run_laws.Naming.{Promised, DeedsOf, Has, Good}
-use Rattle.lock_laws.proofs.of_run_laws.Run.{good_kept, first_good}
+use Rattle.site_laws.specs.of_the_run.Joins.{IsJoinRecord, IsJoin, Joined}
+use Rattle.site_laws.specs.of_the_run.Kept.{IsOwn, Kept}
+use Rattle.site_laws.specs.of_the_run.Steps.{step}
+use Rattle.site_laws.specs.of_the_run.Worlds.{World, Running, Numbered, Line, CutCircuit, is_between, is_cut, number_of, links_of, passed, first_world}
+use Rattle.site_laws.specs.of_the_run.Runs.{packet_record, cuts_circuit, mends_circuit, run_in}
+use Rattle.site_laws.proofs.of_the_run.InsideSync.{every_without}
+use Rattle.site_laws.specs.of_run_laws.Standing.{Standing, nowhere, after_record, after_told, standing, GoesOn, EpochsGoOn}
+use Rattle.site_laws.specs.of_run_laws.Naming.{Promised, DeedsOf, Has, Good}
+use Rattle.site_laws.proofs.of_run_laws.Run.{good_kept, first_good}
 use Rattle.lawful_trace.specs.Places.{initiator}
 use Rattle.lawful_trace.specs.SiteRows.{is_site, starts_in, is_asked_for}
 use Rattle.lawful_trace.specs.LineRows.{settles}
-use Rattle.lock_laws.proofs.of_law_walks.FirstWorld.{first_places}
+use Rattle.site_laws.proofs.of_run_laws.Walks.FirstWorld.{first_places}
 use Rattle.row_laws.specs.Shown.{with_told, shown, trace_of, EachRecord}
 use Rattle.row_laws.specs.Events.{IsShort, FormingPacket, causes_of}
 use Rattle.row_laws.specs.ByLine.{IsLine, Gives, KeptIn}

@@ -7,10 +7,10 @@ use Rattle.trace_book.specs.declared.record.Record.{Record}
 use Rattle.trace_book.specs.declared.record.Record.TheVariants as says
 use Rattle.lawful_trace.specs.of_tree_model.Epochs.{boot_after, boot_of}
 use Rattle.lawful_trace.specs.of_tree_model.Folds.{Trace}
-use Rattle.lock_laws.specs.of_the_run.Laws.{boot_on, boot_number}
-use Rattle.lock_laws.specs.of_the_run.Runs.{run_in}
-use Rattle.lock_laws.specs.of_the_run.Worlds.{World, Place, Running, Stopped, place_at}
-use Rattle.lock_laws.proofs.of_run_laws.Boots.{run_boots_low}
+use Rattle.site_laws.specs.of_the_run.Laws.{boot_on, boot_number}
+use Rattle.site_laws.specs.of_the_run.Runs.{run_in}
+use Rattle.site_laws.specs.of_the_run.Worlds.{World, Place, Running, Stopped, place_at}
+use Rattle.site_laws.proofs.of_run_laws.Boots.{run_boots_low}
 use Rattle.row_laws.specs.Course.{StandsAs}
 use Rattle.row_laws.specs.Rows.{SiteRecordRow}
 use Rattle.row_laws.specs.Shown.{trace_of}

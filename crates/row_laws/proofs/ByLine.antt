@@ -10,11 +10,11 @@ use Rattle.schedule_lines.specs.declared.line.ScheduleLine.{ScheduleLine}
 use Rattle.schedule_lines.specs.declared.line.ScheduleLine.TheVariants.{Passed, Header, Event as EventLine}
 use Rattle.role_steps.specs.Tables.{row, first_that}
 use Rattle.role_steps.specs.Views.{Event, Calls, Receives, Ticks, Parts, Merges, GivesUp, all_sites}
-use Rattle.lock_laws.specs.of_the_run.Disks.{Stops, Fails}
-use Rattle.lock_laws.specs.of_the_run.Steps.{is_dropped}
-use Rattle.lock_laws.specs.of_the_run.Worlds.{World, Limit, Place, Running, Stopped, Numbered, place_at, is_cut, number_of, passed, loses, happens, happens_at, voids, first_world}
-use Rattle.lock_laws.specs.of_the_run.Runs.{packet_at, can_come, arrives_at, arrives, next_packet_of, next_packet, goes_round, ends_round, delivers, ticks_to, is_stopped, is_in_no_epoch, is_busy, is_lost, unless_void, delivers_line, loses_line, cuts_circuit, mends_circuit, stops_line, boots_line, act, acts_line, run_from, run_in}
-use Rattle.lock_laws.specs.of_the_run.Kept.{Among, WasSent}
+use Rattle.site_laws.specs.of_the_run.Disks.{Stops, Fails}
+use Rattle.site_laws.specs.of_the_run.Steps.{is_dropped}
+use Rattle.site_laws.specs.of_the_run.Worlds.{World, Limit, Place, Running, Stopped, Numbered, place_at, is_cut, number_of, passed, loses, happens, happens_at, voids, first_world}
+use Rattle.site_laws.specs.of_the_run.Runs.{packet_at, can_come, arrives_at, arrives, next_packet_of, next_packet, goes_round, ends_round, delivers, ticks_to, is_stopped, is_in_no_epoch, is_busy, is_lost, unless_void, delivers_line, loses_line, cuts_circuit, mends_circuit, stops_line, boots_line, act, acts_line, run_from, run_in}
+use Rattle.site_laws.specs.of_the_run.Kept.{Among, WasSent}
 use Rattle.lawful_trace.specs.Places.{line_at}
 use Rattle.row_laws.specs.ByLine.{IsLine, begins_quietly, cannot_boot, IsVoidIn, Gives, Delivers, KeptIn}
 

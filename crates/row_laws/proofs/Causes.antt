@@ -24,14 +24,14 @@ use Rattle.role_steps.specs.declared.rounds.InEpoch.{InEpoch}
 use Rattle.role_steps.specs.declared.rounds.Round.{Round}
 use Rattle.lawful_trace.specs.of_tree_model.Folds.{Trace, before_line}
 use Rattle.lawful_trace.specs.of_tree_model.Epochs.{is_up, boot_of, epoch_of}
-use Rattle.lock_laws.specs.of_the_run.Steps.{epoch_id}
-use Rattle.lock_laws.specs.of_the_run.Worlds.{World, Running, Numbered, Line, place_at, link_of, links_of}
-use Rattle.lock_laws.specs.of_the_run.Worlds.{boot_of as boot_number}
-use Rattle.lock_laws.specs.of_the_run.Runs.{is_in_no_epoch}
-use Rattle.lock_laws.specs.of_the_run.Kept.{IsOwn, WasSent}
-use Rattle.lock_laws.specs.of_run_laws.Standing.{Standing, nowhere, standing, after_record, after_told}
-use Rattle.lock_laws.specs.of_run_laws.Naming.{Promised, Deeds, Names, DeedsOf, ViewOk, Good}
-use Rattle.lock_laws.proofs.of_run_laws.Run.{found_among, was_sent}
+use Rattle.site_laws.specs.of_the_run.Steps.{epoch_id}
+use Rattle.site_laws.specs.of_the_run.Worlds.{World, Running, Numbered, Line, place_at, link_of, links_of}
+use Rattle.site_laws.specs.of_the_run.Worlds.{boot_of as boot_number}
+use Rattle.site_laws.specs.of_the_run.Runs.{is_in_no_epoch}
+use Rattle.site_laws.specs.of_the_run.Kept.{IsOwn, WasSent}
+use Rattle.site_laws.specs.of_run_laws.Standing.{Standing, nowhere, standing, after_record, after_told}
+use Rattle.site_laws.specs.of_run_laws.Naming.{Promised, Deeds, Names, DeedsOf, ViewOk, Good}
+use Rattle.site_laws.proofs.of_run_laws.Run.{found_among, was_sent}
 use Rattle.lawful_trace.specs.Places.{line_at, starts_at, initiator}
 use Rattle.lawful_trace.specs.SiteRows.{makes_leave}
 use Rattle.lawful_trace.specs.CallRows.{CallLine}

@@ -15,7 +15,7 @@ use Rattle.role_steps.specs.Epochs.{reached, promise_site, candidates, met_by, m
 use Rattle.role_steps.specs.declared.rounds.Promise.{Promise}
 use Rattle.role_steps.specs.declared.rounds.Round.{Round}
 use Rattle.role_steps.proofs.Counted.{CountsFrom, sites_count}
-use Rattle.lock_laws.specs.of_the_run.Kept.{Among}
+use Rattle.site_laws.specs.of_the_run.Kept.{Among}
 use Rattle.row_laws.specs.Events.{ListsItself, PromisesRise}
 
 -- ---- tests ----

@@ -5,8 +5,8 @@ use Rattle.std.specs.List.{list_any}
 use Rattle.schedule_lines.specs.declared.line.Line.TheVariants as line
 use Rattle.schedule_lines.specs.declared.line.ScheduleLine.{ScheduleLine}
 use Rattle.schedule_lines.specs.declared.line.ScheduleLine.TheVariants.{Event as EventLine}
-use Rattle.lock_laws.specs.of_the_run.Worlds.{World, CutCircuit, is_between, is_cut}
-use Rattle.lock_laws.specs.of_the_run.Runs.{cuts_circuit, mends_circuit}
+use Rattle.site_laws.specs.of_the_run.Worlds.{World, CutCircuit, is_between, is_cut}
+use Rattle.site_laws.specs.of_the_run.Runs.{cuts_circuit, mends_circuit}
 use Rattle.lawful_trace.specs.Places.{line_at, are_these, cut_after}
 use Rattle.lawful_trace.specs.Places as lawful
 use Rattle.row_laws.specs.ByLine.{IsLine}

@@ -28,7 +28,7 @@ use Rattle.role_steps.specs.declared.users.WaitingCall.{WaitingCall}
 use Rattle.role_steps.proofs.Sending.{every_append, every_cond, every_map, every_flat_map}
 use Rattle.role_steps.proofs.Counted.{CountsFrom, sites_count}
 use Rattle.role_steps.specs.Requests.{waiting_span}
-use Rattle.lock_laws.proofs.of_the_run.Boots.{every_weaker}
+use Rattle.site_laws.proofs.of_the_run.Boots.{every_weaker}
 use Rattle.row_laws.specs.Inward.{Inward, InwardPacket, RoleRecord, RoleTold, LooksInward, Indoors}
 use Rattle.row_laws.specs.Events.{IsOwnId, HasRound, ListsItself, IsShort, PromisesRise, Causes, SiteRecord, SiteTold, FormingFact, FormingPacket, RoundFact, ListIsShort, ViewForms, Forms}
 use Rattle.row_laws.proofs.Walks.{no_first, sync_plain}

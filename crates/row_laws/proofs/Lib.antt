@@ -21,7 +21,10 @@ pub mod Tales
 pub mod TalesKept
 pub mod Fitting
 pub mod Boots
-pub use Rattle.lock_laws.proofs as of_lock_laws
-pub use Rattle.lock_laws.proofs.of_run_laws as of_run_laws
-pub use Rattle.lock_laws.proofs.of_vector_laws as of_vector_laws
-pub use Rattle.lock_laws.proofs.of_the_run as of_the_run
+pub mod Orderly
+pub mod CallRows
+pub mod OrderlyRows
+pub mod Bounds
+pub use Rattle.site_laws.proofs as of_site_laws
+pub use Rattle.site_laws.proofs.of_run_laws as of_run_laws
+pub use Rattle.site_laws.proofs.of_the_run as of_the_run

@@ -5,10 +5,10 @@ use Rattle.role_steps.proofs.of_plain_facts.Numbers.{apart_test, equal, less}
 use Rattle.role_steps.specs.Own.{Every}
 use Rattle.role_steps.specs.Tables.{row, with_row, without_row}
 use Rattle.role_steps.proofs.Rows.{row_other, row_same}
-use Rattle.lock_laws.specs.of_the_run.Disks.{Armed as Script}
-use Rattle.lock_laws.specs.of_the_run.Worlds.{World, armed_site, script_of, arms}
-use Rattle.lock_laws.proofs.of_the_run.Boots.{every_weaker}
-use Rattle.lock_laws.proofs.of_the_run.InsideSync.{every_row, every_without}
+use Rattle.site_laws.specs.of_the_run.Disks.{Armed as Script}
+use Rattle.site_laws.specs.of_the_run.Worlds.{World, armed_site, script_of, arms}
+use Rattle.site_laws.proofs.of_the_run.Boots.{every_weaker}
+use Rattle.site_laws.proofs.of_the_run.InsideSync.{every_row, every_without}
 use Rattle.row_laws.specs.Arms.{Rises}
 
 not_above : (a s : ℕ) → s < a → (a == s) ≡ true → ⊥

@@ -13,15 +13,15 @@ use Rattle.trace_book.specs.declared.record.Record.{Record}
 use Rattle.trace_book.specs.declared.record.Record.TheVariants as says
 use Rattle.role_steps.specs.Views.{Told, Shown, Promises}
 use Rattle.lawful_trace.specs.of_tree_model.Epochs.{has_joined, last_joined, is_above_joined, members_of}
-use Rattle.lock_laws.specs.of_the_run.Joins.{Joined, OneList}
-use Rattle.lock_laws.specs.of_the_run.Worlds.{Line}
-use Rattle.lock_laws.specs.of_the_run.Runs.{run_in}
-use Rattle.lock_laws.proofs.of_the_run.OneList.{one_list}
-use Rattle.lock_laws.specs.of_run_laws.Standing.{GoesOn, EpochsGoOn, IsUp, StaysUp, joins_line, JoinsRise}
-use Rattle.lock_laws.proofs.of_run_laws.Rises.{run_joins_rise}
-use Rattle.lock_laws.specs.of_vector_laws.Written.{past_of}
-use Rattle.lock_laws.specs.Joins.{WasJoined, FirstJoin, JoinsAreOnce}
-use Rattle.lock_laws.proofs.JoinsRun.{run_joins_once}
+use Rattle.site_laws.specs.of_the_run.Joins.{Joined, OneList}
+use Rattle.site_laws.specs.of_the_run.Worlds.{Line}
+use Rattle.site_laws.specs.of_the_run.Runs.{run_in}
+use Rattle.site_laws.proofs.of_the_run.OneList.{one_list}
+use Rattle.site_laws.specs.of_run_laws.Standing.{GoesOn, EpochsGoOn, IsUp, StaysUp, joins_line, JoinsRise}
+use Rattle.site_laws.proofs.of_run_laws.Rises.{run_joins_rise}
+use Rattle.site_laws.specs.Vectors.Written.{past_of}
+use Rattle.site_laws.specs.Locks.Joins.{WasJoined, FirstJoin, JoinsAreOnce}
+use Rattle.site_laws.proofs.Locks.JoinsRun.{run_joins_once}
 use Rattle.row_laws.specs.Shown.{with_told, shown, trace_of, EachRecord}
 use Rattle.row_laws.specs.Rows.{SiteRecordRow, IsSiteRow}
 use Rattle.row_laws.specs.Course.{UpRecord, ToldRow, EachTold}

@@ -6,14 +6,14 @@ use Rattle.locus_ids.specs.Sizes.{sites_max}
 use Rattle.schedule_lines.specs.Ranges.{is_site}
 use Rattle.wire_messages.specs.declared.packet.Packet.{Packet}
 use Rattle.role_steps.specs.Views.{SiteView, Told, Outcome, Receives}
-use Rattle.lock_laws.specs.of_the_run.Disks.{Booted, Whole, CutOff}
-use Rattle.lock_laws.specs.of_the_run.Steps.{step}
-use Rattle.lock_laws.specs.of_the_run.Worlds.{World, Place, links_of, passed, place_at, happened, puts, arms, stops_with, acts, first_world}
-use Rattle.lock_laws.specs.of_the_run.Runs.{boots_as}
-use Rattle.lock_laws.specs.of_the_run.Kept.{Kept}
-use Rattle.lock_laws.proofs.of_the_run.Boots.{at_each}
-use Rattle.lock_laws.proofs.of_the_run.Events.{happened_keeps, acts_keeps, puts_other, puts_same}
-use Rattle.lock_laws.proofs.of_law_walks.FirstWorld.{first_there}
+use Rattle.site_laws.specs.of_the_run.Disks.{Booted, Whole, CutOff}
+use Rattle.site_laws.specs.of_the_run.Steps.{step}
+use Rattle.site_laws.specs.of_the_run.Worlds.{World, Place, links_of, passed, place_at, happened, puts, arms, stops_with, acts, first_world}
+use Rattle.site_laws.specs.of_the_run.Runs.{boots_as}
+use Rattle.site_laws.specs.of_the_run.Kept.{Kept}
+use Rattle.site_laws.proofs.of_the_run.Boots.{at_each}
+use Rattle.site_laws.proofs.of_the_run.Events.{happened_keeps, acts_keeps, puts_other, puts_same}
+use Rattle.site_laws.proofs.of_run_laws.Walks.FirstWorld.{first_there}
 use Rattle.row_laws.specs.Voids.{HasPlaces}
 
 -- ---- the first world ----

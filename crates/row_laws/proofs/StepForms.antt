@@ -13,10 +13,10 @@ use Rattle.role_steps.specs.Epochs.{frame_in, leaves, starts_merge, starts_part,
 use Rattle.role_steps.specs.declared.rounds.InEpoch.{InEpoch}
 use Rattle.role_steps.specs.declared.rounds.Round.{Round}
 use Rattle.role_steps.proofs.Sending.{every_append, every_map}
-use Rattle.lock_laws.specs.of_the_run.Steps.{in_order, is_dropped, takes_framed, takes, tries_at, adopts_in, starts_mends_of, ends_event, whole, repeats_inside, repeats_of, repeats, call_frame, epoch_id, takes_call, step}
-use Rattle.lock_laws.proofs.of_the_run.Boots.{every_weaker}
-use Rattle.lock_laws.proofs.of_the_run.StepSends.{order_sent}
-use Rattle.lock_laws.specs.of_run_laws.Naming.{Deeds, ViewOk}
+use Rattle.site_laws.specs.of_the_run.Steps.{in_order, is_dropped, takes_framed, takes, tries_at, adopts_in, starts_mends_of, ends_event, whole, repeats_inside, repeats_of, repeats, call_frame, epoch_id, takes_call, step}
+use Rattle.site_laws.proofs.of_the_run.Boots.{every_weaker}
+use Rattle.site_laws.proofs.of_the_run.StepSends.{order_sent}
+use Rattle.site_laws.specs.of_run_laws.Naming.{Deeds, ViewOk}
 use Rattle.row_laws.specs.Inward.{RoleTold, LooksInward, Indoors}
 use Rattle.row_laws.specs.Events.{IsPoll, HasRound, ListsItself, IsShort, Causes, SiteTold, FormingFact, FormingPacket, Comes, RoundFact, ListIsShort, ViewForms, Forms, causes_of}
 use Rattle.row_laws.proofs.Walks.{no_first, on_call_rest, inside_inward, adopts_of_indoors, tries_indoors, mends_of_indoors, framed_indoors, quiet_indoors}

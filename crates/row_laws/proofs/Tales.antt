@@ -17,7 +17,7 @@ use Rattle.role_steps.specs.Own.{Every}
 use Rattle.role_steps.specs.Tables.{total}
 use Rattle.role_steps.specs.Views.{Told, Shown}
 use Rattle.lawful_trace.specs.of_tree_model.Folds.{Trace, before_line}
-use Rattle.lock_laws.specs.of_the_run.Worlds.{World, Limit, Line, happened, happened_of, unless_over, limit_passed, packet_size, told_size, told_onto}
+use Rattle.site_laws.specs.of_the_run.Worlds.{World, Limit, Line, happened, happened_of, unless_over, limit_passed, packet_size, told_size, told_onto}
 use Rattle.lawful_trace.specs.Places.{line_at, lines_before}
 use Rattle.lawful_trace.specs.LineRows.{has_no_effect, is_void_after, is_void_line, may_be_void, is_void, tale, must_tell, how_many, is_told_by, is_told}
 use Rattle.row_laws.specs.Shown.{with_told, shown, trace_of}

@@ -22,14 +22,14 @@ use Rattle.role_steps.specs.declared.rounds.InEpoch.{InEpoch}
 use Rattle.role_steps.specs.declared.users.WaitingCall.{WaitingCall}
 use Rattle.role_steps.proofs.Sending.{every_append, every_map}
 use Rattle.lawful_trace.specs.of_tree_model.Epochs.{is_up, epoch_of}
-use Rattle.lock_laws.specs.of_the_run.Disks.{Booted, Whole, CutOff, boots, is_on_disk, cut_disk}
-use Rattle.lock_laws.specs.of_the_run.Steps.{epoch_id, ends_event, whole, step}
-use Rattle.lock_laws.specs.of_the_run.Worlds.{World, Running, Stopped, place_at, links_of, script_of, told_onto, puts, arms, passed, stops_with, cut_told, cause_of, acts_of, acts, disk_of}
-use Rattle.lock_laws.specs.of_the_run.Runs.{is_in_no_epoch, boots_as, packet_record, run_in}
-use Rattle.lock_laws.proofs.of_the_run.Boots.{acts_cases, every_weaker}
-use Rattle.lock_laws.specs.of_run_laws.Naming.{DeedsOf, Good}
-use Rattle.lock_laws.specs.of_vector_laws.Held.{Untouched}
-use Rattle.lock_laws.proofs.of_vector_laws.SiteDisks.{ends_keeps}
+use Rattle.site_laws.specs.of_the_run.Disks.{Booted, Whole, CutOff, boots, is_on_disk, cut_disk}
+use Rattle.site_laws.specs.of_the_run.Steps.{epoch_id, ends_event, whole, step}
+use Rattle.site_laws.specs.of_the_run.Worlds.{World, Running, Stopped, place_at, links_of, script_of, told_onto, puts, arms, passed, stops_with, cut_told, cause_of, acts_of, acts, disk_of}
+use Rattle.site_laws.specs.of_the_run.Runs.{is_in_no_epoch, boots_as, packet_record, run_in}
+use Rattle.site_laws.proofs.of_the_run.Boots.{acts_cases, every_weaker}
+use Rattle.site_laws.specs.of_run_laws.Naming.{DeedsOf, Good}
+use Rattle.site_laws.specs.Vectors.Held.{Untouched}
+use Rattle.site_laws.proofs.Vectors.SiteDisks.{ends_keeps}
 use Rattle.lawful_trace.specs.Places.{line_at}
 use Rattle.lawful_trace.specs.LineRows.{is_apart, has_no_effect, tale, must_tell, is_told}
 use Rattle.row_laws.specs.Shown.{shown, trace_of}

@@ -16,8 +16,8 @@ use Rattle.lawful_trace.specs.of_tree_model.Folds.{Trace, before_line}
 use Rattle.lawful_trace.specs.of_tree_model.Epochs.{is_up, boot_of}
 use Rattle.role_steps.specs.Own.{Every}
 use Rattle.role_steps.specs.Views.{Told, Shown, Promises}
-use Rattle.lock_laws.specs.of_the_run.Worlds.{Line, told_onto}
-use Rattle.lock_laws.specs.of_run_laws.Naming.{Promised, IsDeed, Has}
+use Rattle.site_laws.specs.of_the_run.Worlds.{Line, told_onto}
+use Rattle.site_laws.specs.of_run_laws.Naming.{Promised, IsDeed, Has}
 use Rattle.lawful_trace.specs.Places.{line_at, initiator, starts_at}
 use Rattle.lawful_trace.specs.SiteRows.{makes_leave, is_another, was_polled}
 use Rattle.lawful_trace.specs.CallRows.{CallLine}

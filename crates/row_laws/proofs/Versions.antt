@@ -13,11 +13,11 @@ use Rattle.role_steps.specs.Tables.{row}
 use Rattle.role_steps.specs.Views.{Told, Shown}
 use Rattle.role_steps.specs.declared.copies.FileCopy.{FileCopy}
 use Rattle.lawful_trace.specs.of_tree_model.Folds.{Trace}
-use Rattle.lock_laws.specs.of_the_run.Disks.{Armed as Script}
-use Rattle.lock_laws.specs.of_the_run.Worlds.{World, Line, armed_site, script_of, happened, told_onto}
-use Rattle.lock_laws.proofs.of_the_run.Boots.{at_each}
-use Rattle.lock_laws.proofs.of_the_run.Events.{happened_keeps}
-use Rattle.lock_laws.specs.of_vector_laws.Held.{IsOf}
+use Rattle.site_laws.specs.of_the_run.Disks.{Armed as Script}
+use Rattle.site_laws.specs.of_the_run.Worlds.{World, Line, armed_site, script_of, happened, told_onto}
+use Rattle.site_laws.proofs.of_the_run.Boots.{at_each}
+use Rattle.site_laws.proofs.of_the_run.Events.{happened_keeps}
+use Rattle.site_laws.specs.Vectors.Held.{IsOf}
 use Rattle.lawful_trace.specs.Disks.{calls_of, Armed, Disk, Writing, written_with, writing_commit, writing_adoption, disk_after, disk_at, armed_at, writer_of, is_within_calls, fits_calls, all_fit_calls, keeps_calls}
 use Rattle.row_laws.specs.Shown.{shown, EachRecord}
 use Rattle.row_laws.specs.Rows.{IsArmedFor}

@@ -20,14 +20,14 @@ use Rattle.role_steps.specs.declared.rounds.InEpoch.{InEpoch}
 use Rattle.role_steps.proofs.Sending.{every_map}
 use Rattle.lawful_trace.specs.of_tree_model.Folds.{Trace, before_line}
 use Rattle.lawful_trace.specs.of_tree_model.Epochs.{is_up, epoch_of}
-use Rattle.lock_laws.specs.of_the_run.Disks.{Booted, Whole, CutOff, boots, is_on_disk}
-use Rattle.lock_laws.specs.of_the_run.Steps.{epoch_id, step}
-use Rattle.lock_laws.specs.of_the_run.Worlds.{World, Place, Running, Stopped, Numbered, Line, place_at, is_cut, links_of, script_of, happened, told_onto, puts, arms, passed, stops_with, cause_of, acts, disk_of, first_world}
-use Rattle.lock_laws.specs.of_the_run.Runs.{is_stopped, is_in_no_epoch, boots_as, packet_record, run_in}
-use Rattle.lock_laws.specs.of_the_run.Kept.{Kept}
-use Rattle.lock_laws.proofs.of_the_run.Boots.{acts_cases}
-use Rattle.lock_laws.proofs.of_the_run.Events.{happened_keeps}
-use Rattle.lock_laws.specs.of_run_laws.Naming.{DeedsOf, Good}
+use Rattle.site_laws.specs.of_the_run.Disks.{Booted, Whole, CutOff, boots, is_on_disk}
+use Rattle.site_laws.specs.of_the_run.Steps.{epoch_id, step}
+use Rattle.site_laws.specs.of_the_run.Worlds.{World, Place, Running, Stopped, Numbered, Line, place_at, is_cut, links_of, script_of, happened, told_onto, puts, arms, passed, stops_with, cause_of, acts, disk_of, first_world}
+use Rattle.site_laws.specs.of_the_run.Runs.{is_stopped, is_in_no_epoch, boots_as, packet_record, run_in}
+use Rattle.site_laws.specs.of_the_run.Kept.{Kept}
+use Rattle.site_laws.proofs.of_the_run.Boots.{acts_cases}
+use Rattle.site_laws.proofs.of_the_run.Events.{happened_keeps}
+use Rattle.site_laws.specs.of_run_laws.Naming.{DeedsOf, Good}
 use Rattle.lawful_trace.specs.Places.{line_at, lines_before}
 use Rattle.lawful_trace.specs.Places as lawful
 use Rattle.lawful_trace.specs.LineRows.{is_apart, has_no_effect, is_void_after, is_void_line, may_be_void, IsVoidAsked}

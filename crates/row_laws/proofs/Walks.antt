@@ -18,12 +18,12 @@ use Rattle.role_steps.specs.Epochs.{frame_in}
 use Rattle.role_steps.specs.declared.rounds.InEpoch.{InEpoch}
 use Rattle.role_steps.specs.declared.synchronizing.SyncTable.{SyncTable}
 use Rattle.role_steps.specs.declared.synchronizing.FileRow.{FileRow}
-use Rattle.lock_laws.specs.of_the_run.Steps.{takes_framed, adopts_of, tries_at, starts_mends_of, repeats_inside}
-use Rattle.lock_laws.specs.of_law_walks.Kinds.{IsInside, IsTableRecord, TellsTable, IsAct, TellsStore, IsVersion, IsPlainRecord, TellsPlain}
-use Rattle.lock_laws.specs.of_law_walks.Laws.{Law, TablesKeep, ReadersKeep, StoresKeep, VersionsKeep, SiteKeeps, SiteAnswers, Stays}
-use Rattle.lock_laws.proofs.of_law_walks.Premises.{of_table, store_request, of_store, of_reader, user_request, of_user, table_tells, store_tells, call_tells, body_answers}
-use Rattle.lock_laws.proofs.of_law_walks.RoleWalks.{goes_on_walk}
-use Rattle.lock_laws.proofs.of_law_walks.SiteWalks.{adopts_of_walk, tries_walk, mends_of_walk, framed_walk, repeats_inside_walk}
+use Rattle.site_laws.specs.of_the_run.Steps.{takes_framed, adopts_of, tries_at, starts_mends_of, repeats_inside}
+use Rattle.site_laws.specs.of_run_laws.Walks.Kinds.{IsInside, IsTableRecord, TellsTable, IsAct, TellsStore, IsVersion, IsPlainRecord, TellsPlain}
+use Rattle.site_laws.specs.of_run_laws.Walks.Laws.{Law, TablesKeep, ReadersKeep, StoresKeep, VersionsKeep, SiteKeeps, SiteAnswers, Stays}
+use Rattle.site_laws.proofs.of_run_laws.Walks.Premises.{of_table, store_request, of_store, of_reader, user_request, of_user, table_tells, store_tells, call_tells, body_answers}
+use Rattle.site_laws.proofs.of_run_laws.Walks.RoleWalks.{goes_on_walk}
+use Rattle.site_laws.proofs.of_run_laws.Walks.SiteWalks.{adopts_of_walk, tries_walk, mends_of_walk, framed_walk, repeats_inside_walk}
 use Rattle.row_laws.specs.Inward.{Inward, InwardPacket, RoleRecord, RoleTold, ServedRecord, ServedTold, RoleWrite, Inwardly, LookInward, LooksInward, Indoors}
 
 -- ---- what tables and stores tell is what roles may ----

@@ -6,8 +6,8 @@ use Rattle.trace_book.specs.declared.record.Record.{Record}
 use Rattle.trace_book.specs.declared.record.Record.TheVariants as says
 use Rattle.role_steps.specs.Own.{Every}
 use Rattle.role_steps.specs.Views.{Told, Shown}
-use Rattle.lock_laws.specs.of_the_run.Disks.{Armed as Script, Cut, Stops as Stopping, Fails as Failing}
-use Rattle.lock_laws.specs.of_the_run.Worlds.{World, armed_site, script_of}
+use Rattle.site_laws.specs.of_the_run.Disks.{Armed as Script, Cut, Stops as Stopping, Fails as Failing}
+use Rattle.site_laws.specs.of_the_run.Worlds.{World, armed_site, script_of}
 use Rattle.lawful_trace.specs.Disks.{Armed, Arming, Stops, Fails, calls_of, armed_at, keeps_calls}
 use Rattle.row_laws.specs.Shown.{trace_of, EachRecord}
 use Rattle.row_laws.specs.Rows.{IsArmedFor}

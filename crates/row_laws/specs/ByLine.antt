@@ -7,11 +7,11 @@ use Rattle.schedule_lines.specs.declared.line.Line.TheVariants as line
 use Rattle.schedule_lines.specs.declared.line.ScheduleLine.{ScheduleLine}
 use Rattle.schedule_lines.specs.declared.line.ScheduleLine.TheVariants.{Passed, Header, Event as EventLine}
 use Rattle.role_steps.specs.Views.{SiteView, Event, Calls, Receives, Ticks, Parts, Merges, GivesUp}
-use Rattle.lock_laws.specs.of_the_run.Disks.{Disk, Armed, Stops, Fails, boots}
-use Rattle.lock_laws.specs.of_the_run.Steps.{step}
-use Rattle.lock_laws.specs.of_the_run.Worlds.{World, Place, Running, Stopped, Numbered, place_at, is_cut, links_of, script_of, acts, passed, loses, arms, voids}
-use Rattle.lock_laws.specs.of_the_run.Runs.{is_stopped, is_in_no_epoch, is_busy, cuts_circuit, mends_circuit, asked_stop, boots_as, budget_ends, lists_pending}
-use Rattle.lock_laws.specs.of_the_run.Kept.{WasSent}
+use Rattle.site_laws.specs.of_the_run.Disks.{Disk, Armed, Stops, Fails, boots}
+use Rattle.site_laws.specs.of_the_run.Steps.{step}
+use Rattle.site_laws.specs.of_the_run.Worlds.{World, Place, Running, Stopped, Numbered, place_at, is_cut, links_of, script_of, acts, passed, loses, arms, voids}
+use Rattle.site_laws.specs.of_the_run.Runs.{is_stopped, is_in_no_epoch, is_busy, cuts_circuit, mends_circuit, asked_stop, boots_as, budget_ends, lists_pending}
+use Rattle.site_laws.specs.of_the_run.Kept.{WasSent}
 use Rattle.lawful_trace.specs.Places.{line_at}
 
 -- the line with this number is this event line

@@ -13,7 +13,7 @@ use Rattle.role_steps.specs.Views.{Told, Shown, Promises}
 use Rattle.lawful_trace.specs.of_tree_model.Folds.{Trace, before_line}
 use Rattle.lawful_trace.specs.of_tree_model.Epochs.{is_up, boot_of}
 use Rattle.lawful_trace.specs.of_tree_model.Packs.{boot_in}
-use Rattle.lock_laws.specs.of_the_run.Worlds.{World, Place, Running, Stopped, Numbered, Line, place_at, is_cut}
+use Rattle.site_laws.specs.of_the_run.Worlds.{World, Place, Running, Stopped, Numbered, Line, place_at, is_cut}
 use Rattle.lawful_trace.specs.Places.{line_at, initiator}
 use Rattle.lawful_trace.specs.SiteRows.{MayBoot, StopRow, makes_leave}
 use Rattle.lawful_trace.specs.CallRows.{CallLine}

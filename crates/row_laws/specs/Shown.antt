@@ -3,7 +3,7 @@ use Rattle.std.specs.Prelude.{ℕ, List, [], ◌∷◌}
 use Rattle.trace_book.specs.declared.entry.Entry.{Entry}
 use Rattle.lawful_trace.specs.of_tree_model.Folds.{Trace}
 use Rattle.role_steps.specs.Views.{Told, Shown}
-use Rattle.lock_laws.specs.of_the_run.Worlds.{World, Line}
+use Rattle.site_laws.specs.of_the_run.Worlds.{World, Line}
 
 -- a printed record comes to the trace; what only the laws see falls away
 abbrev pub with_told : ℕ → Told → Trace → Trace

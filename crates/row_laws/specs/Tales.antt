@@ -2,7 +2,7 @@
 use Rattle.std.specs.Prelude.{ℕ, ◌≡◌, ◌≤◌, true, false, List, None}
 use Rattle.schedule_lines.specs.declared.line.ScheduleLine.{ScheduleLine}
 use Rattle.lawful_trace.specs.of_tree_model.Folds.{Trace}
-use Rattle.lock_laws.specs.of_the_run.Worlds.{World}
+use Rattle.site_laws.specs.of_the_run.Worlds.{World}
 use Rattle.lawful_trace.specs.Places.{line_at}
 use Rattle.lawful_trace.specs.LineRows.{is_told}
 use Rattle.row_laws.specs.Shown.{trace_of}

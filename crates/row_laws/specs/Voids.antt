@@ -10,7 +10,7 @@ use Rattle.trace_book.specs.declared.entry.Entry.{Entry}
 use Rattle.trace_book.specs.declared.record.Record.{Record}
 use Rattle.trace_book.specs.declared.record.Record.TheVariants as says
 use Rattle.lawful_trace.specs.of_tree_model.Folds.{Trace}
-use Rattle.lock_laws.specs.of_the_run.Worlds.{World, Place, place_at, is_cut}
+use Rattle.site_laws.specs.of_the_run.Worlds.{World, Place, place_at, is_cut}
 use Rattle.lawful_trace.specs.Places.{line_at}
 use Rattle.lawful_trace.specs.Places as lawful
 use Rattle.lawful_trace.specs.LineRows.{IsVoidAsked}

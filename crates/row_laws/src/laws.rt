@@ -3,7 +3,7 @@ ghost use Rattle.locus_ids.specs.declared.config.Config.{Config};
 ghost use Rattle.schedule_lines.specs.declared.line.ScheduleLine.{ScheduleLine};
 ghost use Rattle.schedule_lines.specs.Cluster.{config_of};
 ghost use Rattle.schedule_lines.specs.Schedule.{AreInOrder};
-ghost use Rattle.lock_laws.specs.of_the_run.Runs.{run, run_in};
+ghost use Rattle.site_laws.specs.of_the_run.Runs.{run, run_in};
 ghost use Rattle.lawful_trace.specs.Disks.{keeps_calls};
 ghost use Rattle.lawful_trace.specs.Lawful.{IsLawful};
 ghost use Rattle.row_laws.specs.Shown.{EachRecord, trace_of};

@@ -3,24 +3,24 @@ use Rattle.std.proofs.Common.{◌≡◌, ◌≤◌, ℕ, zero, suc, ◌+◌, Boo
 use Rattle.std.proofs.lemmas.Bool.Decides.{nat_tests}
 use Rattle.locus_ids.specs.declared.config.Config.{Config}
 use Rattle.locus_ids.specs.declared.ids.FileId.{FileId}
-use Rattle.law_walks.specs.of_schedule_lines.declared.line.ScheduleLine.{ScheduleLine}
+use Rattle.schedule_lines.specs.declared.line.ScheduleLine.{ScheduleLine}
 use Rattle.trace_book.specs.declared.record.Record.{Record}
 use Rattle.trace_book.specs.Text.{entry_text, record_text, number, gap}
-use Rattle.law_walks.specs.of_wire_messages.declared.packet.Packet.{Packet}
-use Rattle.law_walks.specs.of_role_steps.Own.{Sends}
-use Rattle.law_walks.specs.of_role_steps.Tables.{total}
-use Rattle.law_walks.specs.of_role_steps.Views.{SiteView, Told, Shown, Outcome, Receives}
-use Rattle.law_walks.specs.of_the_run.Disks.{Disk, Armed, Cut, BootWrite, ClosesLosing, WritesBody, OpensHalf, ClosesOther, ClosesGate, boot_writes, written, is_left_written, Booted, Whole, CutOff, boots, boots_armed, boots_freely, cut_disk}
-use Rattle.law_walks.specs.of_the_run.Laws.{boot_on, boot_number}
-use Rattle.law_walks.specs.of_the_run.Steps.{step}
-use Rattle.law_walks.specs.of_the_run.Worlds.{World, Place, Running, Stopped, Limit, links_of, place_at, script_of, happened, happened_of, unless_over, limit_passed, told_size, packet_size, disk_of, puts, arms, passed, stops_with, cut_told, acts, first_world}
-use Rattle.law_walks.specs.of_the_run.Runs.{boots_as, run_in}
-use Rattle.law_walks.specs.of_the_run.Kept.{Kept}
-use Rattle.law_walks.proofs.of_the_run.Boots.{at_each, acts_cases}
-use Rattle.law_walks.proofs.of_the_run.Events.{puts_other, puts_same}
-use Rattle.law_walks.proofs.of_the_run.Runs.{every_run}
-use Rattle.law_walks.proofs.of_the_run.StepSends.{step_sends}
-use Rattle.law_walks.proofs.FirstWorld.{first_places}
+use Rattle.wire_messages.specs.declared.packet.Packet.{Packet}
+use Rattle.the_run.specs.of_role_steps.Own.{Sends}
+use Rattle.the_run.specs.of_role_steps.Tables.{total}
+use Rattle.the_run.specs.of_role_steps.Views.{SiteView, Told, Shown, Outcome, Receives}
+use Rattle.the_run.specs.Disks.{Disk, Armed, Cut, BootWrite, ClosesLosing, WritesBody, OpensHalf, ClosesOther, ClosesGate, boot_writes, written, is_left_written, Booted, Whole, CutOff, boots, boots_armed, boots_freely, cut_disk}
+use Rattle.the_run.specs.Laws.{boot_on, boot_number}
+use Rattle.the_run.specs.Steps.{step}
+use Rattle.the_run.specs.Worlds.{World, Place, Running, Stopped, Limit, links_of, place_at, script_of, happened, happened_of, unless_over, limit_passed, told_size, packet_size, disk_of, puts, arms, passed, stops_with, cut_told, acts, first_world}
+use Rattle.the_run.specs.Runs.{boots_as, run_in}
+use Rattle.the_run.specs.Kept.{Kept}
+use Rattle.the_run.proofs.Boots.{at_each, acts_cases}
+use Rattle.the_run.proofs.Events.{puts_other, puts_same}
+use Rattle.the_run.proofs.Runs.{every_run}
+use Rattle.the_run.proofs.StepSends.{step_sends}
+use Rattle.run_laws.proofs.Walks.FirstWorld.{first_places}
 use Rattle.run_laws.specs.Boots.{BootsAreLow, booted_number, NextBootsAreLow}
 
 -- ---- a boot raises the number by one at most ----

@@ -11,30 +11,30 @@ use Rattle.trace_book.specs.declared.descriptor.Beginning.TheVariants as begins
 use Rattle.trace_book.specs.declared.descriptor.Descriptor.{Descriptor}
 use Rattle.trace_book.specs.declared.descriptor.OneVersion.{OneVersion}
 use Rattle.trace_book.specs.declared.reply.Reply.{Reply}
-use Rattle.law_walks.specs.of_call_rules.Descriptors.{beginning, begins_again, begins_change, begins_close, begins_open, begins_read, lowest_free, stale_or}
-use Rattle.law_walks.specs.of_call_rules.Words.{is_too_long}
-use Rattle.law_walks.specs.of_call_rules.Scripts.{where_packed, wants}
-use Rattle.law_walks.specs.of_call_rules.declared.want.Want.TheVariants as want
-use Rattle.law_walks.specs.of_wire_messages.declared.packet.Packet.{Packet}
-use Rattle.law_walks.specs.of_wire_messages.declared.body.Body.{Body}
-use Rattle.law_walks.specs.of_role_steps.Own.{Every}
-use Rattle.law_walks.specs.of_role_steps.Views.{Frame, Users, SiteView, Outcome, quiet, packet}
-use Rattle.law_walks.specs.of_role_steps.Requests.{descriptors_of}
-use Rattle.law_walks.specs.of_role_steps.Using.{asks_want, is_packed, on_call, counted_call, accepted_call}
-use Rattle.law_walks.specs.of_role_steps.Epochs.{frame_in}
-use Rattle.law_walks.specs.of_role_steps.declared.rounds.InEpoch.{InEpoch}
-use Rattle.law_walks.specs.of_role_steps.declared.users.WaitingCall.{WaitingCall}
-use Rattle.law_walks.proofs.of_role_steps.Sending.{OfFrame}
-use Rattle.law_walks.specs.of_the_run.Steps.{takes_framed, adopts_of, tries_at, starts_mends_of, repeats_inside, call_frame, epoch_id, takes_call}
+use Rattle.the_run.specs.of_call_rules.Descriptors.{beginning, begins_again, begins_change, begins_close, begins_open, begins_read, lowest_free, stale_or}
+use Rattle.the_run.specs.of_call_rules.Words.{is_too_long}
+use Rattle.the_run.specs.of_call_rules.Scripts.{where_packed, wants}
+use Rattle.the_run.specs.of_call_rules.declared.want.Want.TheVariants as want
+use Rattle.wire_messages.specs.declared.packet.Packet.{Packet}
+use Rattle.wire_messages.specs.declared.body.Body.{Body}
+use Rattle.the_run.specs.of_role_steps.Own.{Every}
+use Rattle.the_run.specs.of_role_steps.Views.{Frame, Users, SiteView, Outcome, quiet, packet}
+use Rattle.the_run.specs.of_role_steps.Requests.{descriptors_of}
+use Rattle.the_run.specs.of_role_steps.Using.{asks_want, is_packed, on_call, counted_call, accepted_call}
+use Rattle.the_run.specs.of_role_steps.Epochs.{frame_in}
+use Rattle.the_run.specs.of_role_steps.declared.rounds.InEpoch.{InEpoch}
+use Rattle.the_run.specs.of_role_steps.declared.users.WaitingCall.{WaitingCall}
+use Rattle.the_run.proofs.of_role_steps.Sending.{OfFrame}
+use Rattle.the_run.specs.Steps.{takes_framed, adopts_of, tries_at, starts_mends_of, repeats_inside, call_frame, epoch_id, takes_call}
 use Rattle.run_laws.specs.Words.{Talk, Talks, Works}
 use Rattle.run_laws.specs.Naming.{IsInEpoch, Inner}
-use Rattle.law_walks.proofs.of_the_run.Boots.{every_weaker}
-use Rattle.law_walks.specs.Laws.{Law, frame_law, SiteKeeps, SiteAnswers, Stays}
-use Rattle.law_walks.proofs.Premises.{every_unit, frame_keeps, frame_answers}
-use Rattle.law_walks.proofs.RoleWalks.{on_call_walk}
-use Rattle.law_walks.proofs.SiteWalks.{adopts_of_walk, tries_walk, mends_of_walk, framed_walk, repeats_inside_walk}
+use Rattle.the_run.proofs.Boots.{every_weaker}
+use Rattle.run_laws.specs.Walks.Laws.{Law, frame_law, SiteKeeps, SiteAnswers, Stays}
+use Rattle.run_laws.proofs.Walks.Premises.{every_unit, frame_keeps, frame_answers}
+use Rattle.run_laws.proofs.Walks.RoleWalks.{on_call_walk}
+use Rattle.run_laws.proofs.Walks.SiteWalks.{adopts_of_walk, tries_walk, mends_of_walk, framed_walk, repeats_inside_walk}
 use Rattle.run_laws.specs.Words.{Inside, InsideWrite}
-use Rattle.law_walks.specs.of_role_steps.Using.{own_call}
+use Rattle.the_run.specs.of_role_steps.Using.{own_call}
 use Rattle.run_laws.proofs.Telling.{on_call_talks, tells_talk, talk_inside, version_inside}
 
 -- ---- a call outside of an epoch is answered at once ----

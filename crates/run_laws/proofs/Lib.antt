@@ -5,6 +5,9 @@ pub mod Steps
 pub mod Run
 pub mod Rises
 pub mod Boots
-pub use Rattle.law_walks.proofs as of_law_walks
-pub use Rattle.law_walks.proofs.of_the_run as of_the_run
-pub use Rattle.law_walks.proofs.of_role_steps as of_role_steps
+pub mod Walks
+pub mod Epochs
+pub mod FactWalks
+pub use Rattle.the_run.proofs as of_the_run
+pub use Rattle.the_run.proofs.of_role_steps as of_role_steps
+pub use Rattle.the_run.proofs.of_plain_facts as of_plain_facts

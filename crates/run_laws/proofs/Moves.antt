@@ -1,20 +1,20 @@
 -- What is told, in parts, and the parts of every handler for the law of epochs and of what packets name.
 use Rattle.std.proofs.Common.{◌≡◌, ℕ, ◌==◌, Bool, false, cond, List, [], ◌∷◌, ◌++◌, Option, Some, None, refl, sym, ◌∙◌, ap, subst, inl, inr}
-use Rattle.law_walks.proofs.of_plain_facts.Numbers.{equal_self}
+use Rattle.the_run.proofs.of_plain_facts.Numbers.{equal_self}
 use Rattle.locus_ids.specs.declared.ids.EpochId.{EpochId}
 use Rattle.trace_book.specs.declared.record.Record.{Record}
 use Rattle.trace_book.specs.declared.record.Record.TheVariants as says
-use Rattle.law_walks.specs.of_wire_messages.declared.packet.Packet.{Packet}
-use Rattle.law_walks.specs.of_wire_messages.declared.body.Body.{Body}
-use Rattle.law_walks.specs.of_wire_messages.declared.body.Body.TheVariants.{Poll, Promise, Refuse}
-use Rattle.law_walks.specs.of_role_steps.Own.{Every}
-use Rattle.law_walks.specs.of_role_steps.Views.{SiteView, Told, Shown, Promises, DiskWrite, Outcome, quiet, sends, joined_to, and_then, first_written}
-use Rattle.law_walks.specs.of_role_steps.declared.rounds.InEpoch.{InEpoch}
-use Rattle.law_walks.proofs.of_role_steps.Sending.{every_append}
-use Rattle.law_walks.specs.of_the_run.Joins.{NoClaim, Unclaimed, Plain}
-use Rattle.law_walks.specs.of_the_run.Steps.{in_order, epoch_id}
-use Rattle.law_walks.proofs.of_the_run.Boots.{every_weaker}
-use Rattle.law_walks.proofs.of_the_run.StepSends.{order_sent}
+use Rattle.wire_messages.specs.declared.packet.Packet.{Packet}
+use Rattle.wire_messages.specs.declared.body.Body.{Body}
+use Rattle.wire_messages.specs.declared.body.Body.TheVariants.{Poll, Promise, Refuse}
+use Rattle.the_run.specs.of_role_steps.Own.{Every}
+use Rattle.the_run.specs.of_role_steps.Views.{SiteView, Told, Shown, Promises, DiskWrite, Outcome, quiet, sends, joined_to, and_then, first_written}
+use Rattle.the_run.specs.of_role_steps.declared.rounds.InEpoch.{InEpoch}
+use Rattle.the_run.proofs.of_role_steps.Sending.{every_append}
+use Rattle.the_run.specs.Joins.{NoClaim, Unclaimed, Plain}
+use Rattle.the_run.specs.Steps.{in_order, epoch_id}
+use Rattle.the_run.proofs.Boots.{every_weaker}
+use Rattle.the_run.proofs.StepSends.{order_sent}
 use Rattle.run_laws.specs.Words.{InsideRecord, Inside, Works, InsideWrite}
 use Rattle.run_laws.specs.Standing.{Standing, after_record, after_told, standing_of, moves, OwnRecord, OwnMove, OwnMoves}
 use Rattle.run_laws.specs.Naming.{Deed, Promised, Joined, Deeds, Names, Tells, Now, PacketNames, ViewOk, Fine, IsInEpoch, Inner}

@@ -1,18 +1,18 @@
 -- Of two joins of a site in one boot the later one is of a greater id; and packets name the epoch at hand.
 use Rattle.std.proofs.Common.{◌≡◌, ℕ, ◌==◌, Bool, true, false, cond, List, [], ◌∷◌, ◌++◌, Option, Some, None, refl, sym, ◌∙◌, subst, ◌⊎◌, inl, inr, arith}
 use Rattle.std.proofs.lemmas.Bool.Decides.{nat_tests}
-use Rattle.law_walks.proofs.of_plain_facts.Numbers.{equal, equal_self}
-use Rattle.law_walks.proofs.of_plain_facts.Tests.{true_false}
+use Rattle.the_run.proofs.of_plain_facts.Numbers.{equal, equal_self}
+use Rattle.the_run.proofs.of_plain_facts.Tests.{true_false}
 use Rattle.locus_ids.specs.declared.ids.EpochId.{EpochId}
 use Rattle.locus_ids.specs.declared.config.Config.{Config}
-use Rattle.law_walks.specs.of_schedule_lines.declared.line.ScheduleLine.{ScheduleLine}
+use Rattle.schedule_lines.specs.declared.line.ScheduleLine.{ScheduleLine}
 use Rattle.trace_book.specs.declared.record.Record.{Record}
 use Rattle.trace_book.specs.declared.record.Record.TheVariants as says
-use Rattle.law_walks.specs.of_role_steps.Epochs.{is_epoch_below}
-use Rattle.law_walks.specs.of_role_steps.Views.{SiteView, Told, Shown, Promises, Event, Calls, Receives, Ticks, Parts, Merges, GivesUp}
-use Rattle.law_walks.specs.of_role_steps.declared.rounds.InEpoch.{InEpoch}
-use Rattle.law_walks.specs.of_the_run.Worlds.{World, Line}
-use Rattle.law_walks.specs.of_the_run.Runs.{run_in}
+use Rattle.the_run.specs.of_role_steps.Epochs.{is_epoch_below}
+use Rattle.the_run.specs.of_role_steps.Views.{SiteView, Told, Shown, Promises, Event, Calls, Receives, Ticks, Parts, Merges, GivesUp}
+use Rattle.the_run.specs.of_role_steps.declared.rounds.InEpoch.{InEpoch}
+use Rattle.the_run.specs.Worlds.{World, Line}
+use Rattle.the_run.specs.Runs.{run_in}
 use Rattle.run_laws.specs.Standing.{Standing, nowhere, after_record, after_told, standing, MayPromise, MayJoin, GoesOn, EpochsGoOn, IsUp, StaysUp, joins_line, JoinsRise}
 use Rattle.run_laws.specs.Naming.{Deeds, DeedsOf, PacketNames, PacketsNameTheirEpoch, IsEpochOf, StoodWith, MayCome, StepsNameTheirEpoch, ViewOk, Good}
 use Rattle.run_laws.proofs.Steps.{EventNames, step_fine}

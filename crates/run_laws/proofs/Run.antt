@@ -1,32 +1,32 @@
 -- In every run promises, joins and leaves go on lawfully, and each packet names the epoch that it speaks of.
 use Rattle.std.proofs.Common.{◌≡◌, ◌≢◌, ℕ, ◌+◌, ◌==◌, Bool, true, false, cond, List, [], ◌∷◌, map, Option, Some, None, refl, sym, ◌∙◌, ap, subst, inl, inr}
-use Rattle.law_walks.proofs.of_plain_facts.Numbers.{apart_test, equal_self}
-use Rattle.law_walks.proofs.of_plain_facts.Options.{some_same}
-use Rattle.law_walks.proofs.of_plain_facts.Tests.{true_false}
+use Rattle.the_run.proofs.of_plain_facts.Numbers.{apart_test, equal_self}
+use Rattle.the_run.proofs.of_plain_facts.Options.{some_same}
+use Rattle.the_run.proofs.of_plain_facts.Tests.{true_false}
 use Rattle.locus_ids.specs.declared.config.Config.{Config}
-use Rattle.law_walks.specs.of_schedule_lines.declared.line.ScheduleLine.{ScheduleLine}
+use Rattle.schedule_lines.specs.declared.line.ScheduleLine.{ScheduleLine}
 use Rattle.trace_book.specs.declared.record.Record.{Record}
 use Rattle.trace_book.specs.declared.record.Record.TheVariants as says
 use Rattle.trace_book.specs.declared.record.StopCause.TheVariants as cause
-use Rattle.law_walks.specs.of_wire_messages.declared.packet.Packet.{Packet}
-use Rattle.law_walks.specs.of_role_steps.Own.{Every, IsOwn as IsOwnPacket}
-use Rattle.law_walks.specs.of_role_steps.Views.{SiteView, Told, Shown, Promises, DiskWrite, Outcome, Event, Calls, Receives, Ticks, Parts, Merges, GivesUp}
-use Rattle.law_walks.specs.of_role_steps.declared.rounds.InEpoch.{InEpoch}
-use Rattle.law_walks.specs.of_role_steps.declared.rounds.Round.{Round}
-use Rattle.law_walks.specs.of_role_steps.declared.synchronizing.SyncTable.{SyncTable}
-use Rattle.law_walks.proofs.of_role_steps.Sending.{every_append}
-use Rattle.law_walks.specs.of_the_run.Disks.{Disk, Booted, Whole, CutOff, boots, is_on_disk}
-use Rattle.law_walks.specs.of_the_run.Joins.{TableOk}
-use Rattle.law_walks.specs.of_the_run.Steps.{step}
-use Rattle.law_walks.specs.of_the_run.Worlds.{World, Place, Running, Stopped, Numbered, Line, number_of, links_of, place_at, script_of, happened, numbered_from, told_onto, disk_of, puts, arms, passed, stops_with, cut_told, cause_of, acts, fresh, formatted, first_world}
-use Rattle.law_walks.specs.of_the_run.Runs.{boots_as, packet_record, run_in}
-use Rattle.law_walks.specs.of_the_run.Kept.{Among, WasSent, IsOwn, Kept}
-use Rattle.law_walks.proofs.of_the_run.Boots.{at_each, acts_cases, every_newest, every_numbered, every_weaker}
-use Rattle.law_walks.proofs.of_the_run.Events.{happened_keeps, puts_other, puts_same}
-use Rattle.law_walks.proofs.of_the_run.InsideSync.{every_without}
-use Rattle.law_walks.proofs.of_the_run.StepSends.{step_sends}
-use Rattle.law_walks.proofs.of_the_run.Runs.{every_run}
-use Rattle.law_walks.proofs.FirstWorld.{first_views}
+use Rattle.wire_messages.specs.declared.packet.Packet.{Packet}
+use Rattle.the_run.specs.of_role_steps.Own.{Every, IsOwn as IsOwnPacket}
+use Rattle.the_run.specs.of_role_steps.Views.{SiteView, Told, Shown, Promises, DiskWrite, Outcome, Event, Calls, Receives, Ticks, Parts, Merges, GivesUp}
+use Rattle.the_run.specs.of_role_steps.declared.rounds.InEpoch.{InEpoch}
+use Rattle.the_run.specs.of_role_steps.declared.rounds.Round.{Round}
+use Rattle.the_run.specs.of_role_steps.declared.synchronizing.SyncTable.{SyncTable}
+use Rattle.the_run.proofs.of_role_steps.Sending.{every_append}
+use Rattle.the_run.specs.Disks.{Disk, Booted, Whole, CutOff, boots, is_on_disk}
+use Rattle.the_run.specs.Joins.{TableOk}
+use Rattle.the_run.specs.Steps.{step}
+use Rattle.the_run.specs.Worlds.{World, Place, Running, Stopped, Numbered, Line, number_of, links_of, place_at, script_of, happened, numbered_from, told_onto, disk_of, puts, arms, passed, stops_with, cut_told, cause_of, acts, fresh, formatted, first_world}
+use Rattle.the_run.specs.Runs.{boots_as, packet_record, run_in}
+use Rattle.the_run.specs.Kept.{Among, WasSent, IsOwn, Kept}
+use Rattle.the_run.proofs.Boots.{at_each, acts_cases, every_newest, every_numbered, every_weaker}
+use Rattle.the_run.proofs.Events.{happened_keeps, puts_other, puts_same}
+use Rattle.the_run.proofs.InsideSync.{every_without}
+use Rattle.the_run.proofs.StepSends.{step_sends}
+use Rattle.the_run.proofs.Runs.{every_run}
+use Rattle.run_laws.proofs.Walks.FirstWorld.{first_views}
 use Rattle.run_laws.specs.Words.{InsideRecord, InsideWrite}
 use Rattle.run_laws.specs.Standing.{Standing, nowhere, after_record, after_told, standing, GoesOn, RecordGoesOn, EpochsGoOn, standing_of, moves, OwnRecord, OwnMove, OwnMoves}
 use Rattle.run_laws.specs.Naming.{Deeds, Names, Now, DeedsOf, NamesItsEpoch, PacketNames, ViewOk, Fine, Good}

@@ -1,8 +1,8 @@
 -- Each handler of a site promises, joins and leaves lawfully, and each packet that it sends names its epoch.
 use Rattle.std.proofs.Common.{◌≡◌, ℕ, ◌+◌, ◌≤◌, Bool, true, false, cond, ◌&&◌, not, List, [], ◌∷◌, ◌++◌, map, Option, Some, None, refl, sym, ◌∙◌, ap, subst, inl, inr, arith}
 use Rattle.std.proofs.lemmas.Bool.Decides.{nat_tests}
-use Rattle.law_walks.proofs.of_plain_facts.Options.{none_some, some_same}
-use Rattle.law_walks.proofs.of_plain_facts.Tests.{both_true, not_true, true_false}
+use Rattle.the_run.proofs.of_plain_facts.Options.{none_some, some_same}
+use Rattle.the_run.proofs.of_plain_facts.Tests.{both_true, not_true, true_false}
 use Rattle.locus_ids.specs.declared.ids.EpochId.{EpochId}
 use Rattle.locus_ids.specs.declared.sites.Sites.{Sites}
 use Rattle.locus_ids.specs.declared.sites.Members.{Members}
@@ -10,28 +10,28 @@ use Rattle.locus_ids.specs.declared.sites.Links.{Links}
 use Rattle.locus_ids.specs.declared.config.Config.{Config}
 use Rattle.trace_book.specs.Same.{same_epoch}
 use Rattle.trace_book.specs.declared.record.Record.TheVariants as says
-use Rattle.law_walks.specs.of_wire_messages.declared.packet.Packet.{Packet}
-use Rattle.law_walks.specs.of_wire_messages.declared.body.Body.{Body}
-use Rattle.law_walks.specs.of_wire_messages.declared.body.Body.TheVariants as body
-use Rattle.law_walks.specs.of_role_steps.Own.{Every}
-use Rattle.law_walks.specs.of_role_steps.Tables.{without_row}
-use Rattle.law_walks.specs.of_role_steps.Views.{Frame, SiteView, Told, Shown, Promises, Outcome, Event, Calls, Receives, Ticks, Parts, Merges, GivesUp, quiet, sends, tells, and_then, joined_to, to_some, sync_site}
-use Rattle.law_walks.specs.of_role_steps.Using.{reply_record}
-use Rattle.law_walks.specs.of_role_steps.Reports.{new_table}
-use Rattle.law_walks.specs.of_role_steps.Storage.{report_of}
-use Rattle.law_walks.specs.of_role_steps.Epochs.{is_epoch_below, frame_in, leaves_of, leaves, promises, promised_view, reached, new_round, poll_packet, polled_sites, polls, round_id, begins_round, starts_merge, boots_where, merge_boot, part_boot, starts_part_of, starts_part, promise_packet, refuse_packet, on_poll, counts_promise, with_promise, on_promise_of, on_refuse_of, joined_view, report_packets, all_reports, joins, may_install, is_in, joined_packet, on_install, on_joined, passed_over, unanswered, chosen_members, chosen_set, others_of, install_packet, installs_all, decides, decides_if, passes_over_of, passes_over, poll_repeats, install_repeats}
-use Rattle.law_walks.specs.of_role_steps.declared.rounds.InEpoch.{InEpoch}
-use Rattle.law_walks.specs.of_role_steps.declared.rounds.Round.{Round}
-use Rattle.law_walks.specs.of_role_steps.declared.users.WaitingCall.{WaitingCall}
-use Rattle.law_walks.proofs.of_role_steps.Sending.{every_append, every_map, every_flat_map}
-use Rattle.law_walks.specs.of_the_run.Steps.{in_order, is_dropped, takes_framed, takes, tries_at, adopts_in, starts_mends_of, ends_event, whole, repeats_inside, repeats_of, repeats, ticks_after, call_frame, epoch_id, takes_call, step}
-use Rattle.law_walks.specs.of_the_run.Joins.{TableOk, Plain}
-use Rattle.law_walks.proofs.of_the_run.StepSends.{order_sent}
-use Rattle.law_walks.proofs.SiteWalks.{repeats_inside_walk}
-use Rattle.law_walks.proofs.of_the_run.InsideSync.{joins_nothing, plain_keeps}
-use Rattle.law_walks.proofs.of_the_run.InsideRoles.{on_call_still}
-use Rattle.law_walks.proofs.of_the_run.InsideSites.{adopts_of_plain, tries_plain, mends_of_plain, framed_plain}
-use Rattle.law_walks.proofs.of_the_run.Joining.{plain_quiet}
+use Rattle.wire_messages.specs.declared.packet.Packet.{Packet}
+use Rattle.wire_messages.specs.declared.body.Body.{Body}
+use Rattle.wire_messages.specs.declared.body.Body.TheVariants as body
+use Rattle.the_run.specs.of_role_steps.Own.{Every}
+use Rattle.the_run.specs.of_role_steps.Tables.{without_row}
+use Rattle.the_run.specs.of_role_steps.Views.{Frame, SiteView, Told, Shown, Promises, Outcome, Event, Calls, Receives, Ticks, Parts, Merges, GivesUp, quiet, sends, tells, and_then, joined_to, to_some, sync_site}
+use Rattle.the_run.specs.of_role_steps.Using.{reply_record}
+use Rattle.the_run.specs.of_role_steps.Reports.{new_table}
+use Rattle.the_run.specs.of_role_steps.Storage.{report_of}
+use Rattle.the_run.specs.of_role_steps.Epochs.{is_epoch_below, frame_in, leaves_of, leaves, promises, promised_view, reached, new_round, poll_packet, polled_sites, polls, round_id, begins_round, starts_merge, boots_where, merge_boot, part_boot, starts_part_of, starts_part, promise_packet, refuse_packet, on_poll, counts_promise, with_promise, on_promise_of, on_refuse_of, joined_view, report_packets, all_reports, joins, may_install, is_in, joined_packet, on_install, on_joined, passed_over, unanswered, chosen_members, chosen_set, others_of, install_packet, installs_all, decides, decides_if, passes_over_of, passes_over, poll_repeats, install_repeats}
+use Rattle.the_run.specs.of_role_steps.declared.rounds.InEpoch.{InEpoch}
+use Rattle.the_run.specs.of_role_steps.declared.rounds.Round.{Round}
+use Rattle.the_run.specs.of_role_steps.declared.users.WaitingCall.{WaitingCall}
+use Rattle.the_run.proofs.of_role_steps.Sending.{every_append, every_map, every_flat_map}
+use Rattle.the_run.specs.Steps.{in_order, is_dropped, takes_framed, takes, tries_at, adopts_in, starts_mends_of, ends_event, whole, repeats_inside, repeats_of, repeats, ticks_after, call_frame, epoch_id, takes_call, step}
+use Rattle.the_run.specs.Joins.{TableOk, Plain}
+use Rattle.the_run.proofs.StepSends.{order_sent}
+use Rattle.run_laws.proofs.Walks.SiteWalks.{repeats_inside_walk}
+use Rattle.the_run.proofs.InsideSync.{joins_nothing, plain_keeps}
+use Rattle.the_run.proofs.InsideRoles.{on_call_still}
+use Rattle.the_run.proofs.InsideSites.{adopts_of_plain, tries_plain, mends_of_plain, framed_plain}
+use Rattle.the_run.proofs.Joining.{plain_quiet}
 use Rattle.run_laws.specs.Words.{Inside}
 use Rattle.run_laws.specs.Standing.{Standing, after_told, standing_of, moves, OwnMoves}
 use Rattle.run_laws.specs.Naming.{Promised, Joined, Deeds, Names, Now, PacketNames, ViewOk, Fine, IsInEpoch, Inner}

@@ -5,32 +5,32 @@ use Rattle.locus_ids.specs.declared.ids.Serial.{Serial}
 use Rattle.locus_ids.specs.declared.ids.Stamp.{Stamp}
 use Rattle.trace_book.specs.declared.record.Record.{Record}
 use Rattle.trace_book.specs.declared.record.Record.TheVariants as says
-use Rattle.law_walks.specs.of_wire_messages.declared.body.OpenedAs.{OpenedAs}
-use Rattle.law_walks.specs.of_wire_messages.declared.body.MadeVersion.{MadeVersion}
-use Rattle.law_walks.specs.of_wire_messages.declared.body.ReportedCopy.{ReportedCopy}
-use Rattle.law_walks.specs.of_role_steps.Views.{Told, Shown, Promises, DiskWrite, Outcome, Frame}
-use Rattle.law_walks.specs.of_role_steps.Opens.{OpenRequest, on_opened}
-use Rattle.law_walks.specs.of_role_steps.Looks.{LookRequest}
-use Rattle.law_walks.specs.of_role_steps.Reports.{on_open, on_look, on_report, on_closed, on_have}
-use Rattle.law_walks.specs.of_role_steps.declared.synchronizing.SyncTable.{SyncTable}
+use Rattle.wire_messages.specs.declared.body.OpenedAs.{OpenedAs}
+use Rattle.wire_messages.specs.declared.body.MadeVersion.{MadeVersion}
+use Rattle.wire_messages.specs.declared.body.ReportedCopy.{ReportedCopy}
+use Rattle.the_run.specs.of_role_steps.Views.{Told, Shown, Promises, DiskWrite, Outcome, Frame}
+use Rattle.the_run.specs.of_role_steps.Opens.{OpenRequest, on_opened}
+use Rattle.the_run.specs.of_role_steps.Looks.{LookRequest}
+use Rattle.the_run.specs.of_role_steps.Reports.{on_open, on_look, on_report, on_closed, on_have}
+use Rattle.the_run.specs.of_role_steps.declared.synchronizing.SyncTable.{SyncTable}
 use Rattle.run_laws.specs.Words.{InsideRecord, Inside, TalkRecord, Talk, Talks}
 use Rattle.locus_ids.specs.declared.ids.EpochId.{EpochId}
 use Rattle.trace_book.specs.declared.call.Call.{Call}
 use Rattle.trace_book.specs.declared.operation.Outcome.{Outcome as Result}
-use Rattle.law_walks.specs.of_wire_messages.declared.body.CloseAnswer.{CloseAnswer}
-use Rattle.law_walks.specs.of_wire_messages.declared.body.LookAnswer.{LookAnswer}
-use Rattle.law_walks.specs.of_wire_messages.declared.body.Granted.{Granted}
-use Rattle.law_walks.specs.of_role_steps.Views.{Store, Users}
-use Rattle.law_walks.specs.of_role_steps.Storage.{StoreRequest, on_open_ss, on_closed_ok, on_look_ss, on_pull, on_want}
-use Rattle.law_walks.specs.of_role_steps.Pulling.{on_notify, on_page, on_delta}
-use Rattle.law_walks.specs.of_role_steps.Using.{on_call, on_open_done, on_op_done, on_as_held, on_close_done, on_look_done}
-use Rattle.law_walks.specs.of_role_steps.declared.copies.FileCopy.{FileCopy}
-use Rattle.law_walks.specs.of_role_steps.declared.pulls.Pull.{Pull}
-use Rattle.law_walks.specs.Kinds.{IsVersion, IsPlainRecord, TellsPlain}
-use Rattle.law_walks.specs.Laws.{Law, frame_law, TablesKeep, StoresKeep, UsersKeep, SiteAnswers, Part, TablePart}
-use Rattle.law_walks.proofs.Premises.{every_unit, table_tells, store_tells, call_tells, frame_tables, frame_stores, frame_users, frame_answers}
-use Rattle.law_walks.proofs.SyncWalks.{on_opened_walk, on_open_walk, on_look_walk, on_report_walk, on_closed_walk}
-use Rattle.law_walks.proofs.RoleWalks.{on_open_ss_walk, on_closed_ok_walk, on_look_ss_walk, on_pull_walk, on_want_walk, on_notify_walk, on_page_walk, on_delta_walk, on_call_walk, on_open_done_walk, on_op_done_walk, on_as_held_walk, on_close_done_walk, on_look_done_walk}
+use Rattle.wire_messages.specs.declared.body.CloseAnswer.{CloseAnswer}
+use Rattle.wire_messages.specs.declared.body.LookAnswer.{LookAnswer}
+use Rattle.wire_messages.specs.declared.body.Granted.{Granted}
+use Rattle.the_run.specs.of_role_steps.Views.{Store, Users}
+use Rattle.the_run.specs.of_role_steps.Storage.{StoreRequest, on_open_ss, on_closed_ok, on_look_ss, on_pull, on_want}
+use Rattle.the_run.specs.of_role_steps.Pulling.{on_notify, on_page, on_delta}
+use Rattle.the_run.specs.of_role_steps.Using.{on_call, on_open_done, on_op_done, on_as_held, on_close_done, on_look_done}
+use Rattle.the_run.specs.of_role_steps.declared.copies.FileCopy.{FileCopy}
+use Rattle.the_run.specs.of_role_steps.declared.pulls.Pull.{Pull}
+use Rattle.run_laws.specs.Walks.Kinds.{IsVersion, IsPlainRecord, TellsPlain}
+use Rattle.run_laws.specs.Walks.Laws.{Law, frame_law, TablesKeep, StoresKeep, UsersKeep, SiteAnswers, Part, TablePart}
+use Rattle.run_laws.proofs.Walks.Premises.{every_unit, table_tells, store_tells, call_tells, frame_tables, frame_stores, frame_users, frame_answers}
+use Rattle.run_laws.proofs.Walks.SyncWalks.{on_opened_walk, on_open_walk, on_look_walk, on_report_walk, on_closed_walk}
+use Rattle.run_laws.proofs.Walks.RoleWalks.{on_open_ss_walk, on_closed_ok_walk, on_look_ss_walk, on_pull_walk, on_want_walk, on_notify_walk, on_page_walk, on_delta_walk, on_call_walk, on_open_done_walk, on_op_done_walk, on_as_held_walk, on_close_done_walk, on_look_done_walk}
 
 -- ---- what is told without a version ----
 

@@ -1,8 +1,8 @@
 -- How great the boot numbers of sites are.
 use Rattle.std.specs.Prelude.{ℕ, ◌≡◌, ◌≤◌, Some}
-use Rattle.law_walks.specs.of_the_run.Disks.{Disk, Booted, Whole, CutOff, boots}
-use Rattle.law_walks.specs.of_the_run.Laws.{boot_number}
-use Rattle.law_walks.specs.of_the_run.Worlds.{World, Stopped, place_at, script_of}
+use Rattle.the_run.specs.Disks.{Disk, Booted, Whole, CutOff, boots}
+use Rattle.the_run.specs.Laws.{boot_number}
+use Rattle.the_run.specs.Worlds.{World, Stopped, place_at, script_of}
 
 -- no site runs with a greater boot number, nor has one on its disk
 abbrev pub BootsAreLow : World → Type 0

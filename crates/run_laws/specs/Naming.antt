@@ -5,17 +5,17 @@ use Rattle.locus_ids.specs.declared.sites.Links.{Links}
 use Rattle.locus_ids.specs.declared.config.Config.{Config}
 use Rattle.trace_book.specs.declared.record.Record.{Record}
 use Rattle.trace_book.specs.declared.record.Record.TheVariants as says
-use Rattle.law_walks.specs.of_wire_messages.declared.packet.Packet.{Packet}
-use Rattle.law_walks.specs.of_wire_messages.declared.body.Body.{Body}
-use Rattle.law_walks.specs.of_wire_messages.declared.body.Body.TheVariants.{Poll, Promise, Refuse}
-use Rattle.law_walks.specs.of_role_steps.Own.{Every}
-use Rattle.law_walks.specs.of_role_steps.Views.{SiteView, Told, Shown, Promises, Outcome, Event, Receives}
-use Rattle.law_walks.specs.of_role_steps.declared.rounds.InEpoch.{InEpoch}
-use Rattle.law_walks.specs.of_role_steps.declared.rounds.Round.{Round}
-use Rattle.law_walks.specs.of_the_run.Joins.{TableOk}
-use Rattle.law_walks.specs.of_the_run.Kept.{WasSent}
-use Rattle.law_walks.specs.of_the_run.Steps.{step}
-use Rattle.law_walks.specs.of_the_run.Worlds.{World, Running, Line, Numbered, place_at}
+use Rattle.wire_messages.specs.declared.packet.Packet.{Packet}
+use Rattle.wire_messages.specs.declared.body.Body.{Body}
+use Rattle.wire_messages.specs.declared.body.Body.TheVariants.{Poll, Promise, Refuse}
+use Rattle.the_run.specs.of_role_steps.Own.{Every}
+use Rattle.the_run.specs.of_role_steps.Views.{SiteView, Told, Shown, Promises, Outcome, Event, Receives}
+use Rattle.the_run.specs.of_role_steps.declared.rounds.InEpoch.{InEpoch}
+use Rattle.the_run.specs.of_role_steps.declared.rounds.Round.{Round}
+use Rattle.the_run.specs.Joins.{TableOk}
+use Rattle.the_run.specs.Kept.{WasSent}
+use Rattle.the_run.specs.Steps.{step}
+use Rattle.the_run.specs.Worlds.{World, Running, Line, Numbered, place_at}
 use Rattle.run_laws.specs.Words.{Works, InsideWrite}
 use Rattle.run_laws.specs.Standing.{standing, standing_of, moves, OwnMoves, EpochsGoOn}
 

@@ -4,10 +4,10 @@ use Rattle.locus_ids.specs.declared.ids.EpochId.{EpochId}
 use Rattle.locus_ids.specs.declared.sites.Members.{Members}
 use Rattle.trace_book.specs.declared.record.Record.{Record}
 use Rattle.trace_book.specs.declared.record.Record.TheVariants as says
-use Rattle.law_walks.specs.of_role_steps.Epochs.{is_epoch_below}
-use Rattle.law_walks.specs.of_role_steps.Views.{SiteView, Told, Shown, Promises}
-use Rattle.law_walks.specs.of_the_run.Steps.{epoch_id}
-use Rattle.law_walks.specs.of_the_run.Worlds.{Line, no_epoch}
+use Rattle.the_run.specs.of_role_steps.Epochs.{is_epoch_below}
+use Rattle.the_run.specs.of_role_steps.Views.{SiteView, Told, Shown, Promises}
+use Rattle.the_run.specs.Steps.{epoch_id}
+use Rattle.the_run.specs.Worlds.{Line, no_epoch}
 
 pub record Standing : Type 0 where
   pub promised : EpochId  -- promised last

@@ -2,8 +2,8 @@
 use Rattle.std.specs.Prelude.{◌≡◌, Option, Some, None}
 use Rattle.trace_book.specs.declared.record.Record.{Record}
 use Rattle.trace_book.specs.declared.record.Record.TheVariants as says
-use Rattle.law_walks.specs.of_role_steps.Own.{Every}
-use Rattle.law_walks.specs.of_role_steps.Views.{Told, Shown, Promises, DiskWrite, Outcome}
+use Rattle.the_run.specs.of_role_steps.Own.{Every}
+use Rattle.the_run.specs.of_role_steps.Views.{Told, Shown, Promises, DiskWrite, Outcome}
 
 -- the record doesn't say how its site stands: that it boots, stops, joins or leaves
 abbrev pub InsideRecord : Record → Type 0

@@ -1,7 +1,7 @@
 ghost use Rattle.std.specs.Prelude.{List};
 ghost use Rattle.locus_ids.specs.declared.config.Config.{Config};
-ghost use Rattle.law_walks.specs.of_schedule_lines.declared.line.ScheduleLine.{ScheduleLine};
-ghost use Rattle.law_walks.specs.of_the_run.Runs.{run_in};
+ghost use Rattle.schedule_lines.specs.declared.line.ScheduleLine.{ScheduleLine};
+ghost use Rattle.the_run.specs.Runs.{run_in};
 ghost use Rattle.run_laws.specs.Standing.{EpochsGoOn, JoinsRise};
 ghost use Rattle.run_laws.specs.Naming.{PacketsNameTheirEpoch, StepsNameTheirEpoch};
 

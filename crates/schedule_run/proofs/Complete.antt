@@ -13,7 +13,7 @@ use Rattle.line_text.specs.declared.schedule_reader.ScheduleReader.{ScheduleRead
 use Rattle.generated_load.specs.Pieces.{events_of}
 use Rattle.world.specs.of_row_laws.Voids.{LinesFit}
 use Rattle.world.proofs.of_row_laws.Fitting.{schedule_fits}
-use Rattle.world.specs.of_order_laws.Joining.{PacksAreOfSites}
+use Rattle.world.specs.of_tree_laws.Orders.Joining.{PacksAreOfSites}
 use Rattle.world.proofs.of_rest_laws.Packs.{schedule_packs}
 use Rattle.world.proofs.of_rest_laws.StoreStepFirst.{four_groups}
 use Rattle.input_order_laws.proofs.Order.{first_in_order, more_in_order}

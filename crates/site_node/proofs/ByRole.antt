@@ -32,29 +32,12 @@ table_with g inst v = table_of g (first_that (is_opened_in inst) v.tables) v
 
 pub takes_by_role : (f : Frame) (from : ℕ) (b : Body) (v : SiteView) → takes_inside f from b v ≡ role_takes (role_of b) f from b v
 takes_by_role f from (body.Report group copies) v = table_at (on_report f from copies) group v
-takes_by_role f from (body.ReportOk group) v = refl
 takes_by_role f from (body.Open serial call process request file how) v = table_at (on_open f from (record { serial = serial; call = call; process = process; request = request; file = file; how = how })) file.group v
-takes_by_role f from (body.OpenSs inst file mode set kind base vector parents) v = refl
 takes_by_role f from (body.Opened inst answer) v = table_with (on_opened f inst answer) inst v
-takes_by_role f from (body.OpenDone serial answer) v = refl
-takes_by_role f from (body.Op serial n o seen) v = refl
-takes_by_role f from (body.OpDone serial n result) v = refl
-takes_by_role f from (body.ReadHeld serial n at len) v = refl
-takes_by_role f from (body.AsHeld serial n len) v = refl
-takes_by_role f from (body.Close serial) v = refl
 takes_by_role f from (body.Closed inst made) v = table_with (on_closed f from inst made) inst v
-takes_by_role f from (body.ClosedOk inst) v = refl
-takes_by_role f from (body.CloseDone serial answer) v = refl
 takes_by_role f from (body.Look call process request take file what) v = table_at (on_look f from (record { call = call; process = process; request = request; take = take; file = file; what = what })) file.group v
-takes_by_role f from (body.LookSs us call process request take file what serve) v = refl
-takes_by_role f from (body.LookDone call request take answer) v = refl
-takes_by_role f from (body.Notify file kind set size stamp vector holder) v = refl
-takes_by_role f from (body.Pull file stamp page) v = refl
-takes_by_role f from (body.Page file stamp page bytes) v = refl
-takes_by_role f from (body.Want file wanted own) v = refl
-takes_by_role f from (body.Delta file wanted pages) v = refl
 takes_by_role f from (body.Have file stamp) v = table_at (on_have from file stamp) file.group v
-takes_by_role f from _ v = refl
+takes_by_role f from x v = refl
 
 reports_left : (b : Body) (n : SiteNode) (image : List ℕ) → view_of (record n { epochs = answered b n.epochs }) image ≡ without_report b (view_of n image)
 reports_left (body.ReportOk group) n image = refl

@@ -11,20 +11,17 @@ use Rattle.trace_book.specs.declared.call.Call.TheVariants as call
 use Rattle.wire_messages.specs.declared.body.Body.{Body}
 use Rattle.wire_messages.specs.declared.body.Body.TheVariants as body
 use Rattle.wire_messages.specs.declared.packet.Packet.{Packet}
-use Rattle.role_steps.specs.Tables.{row, first_that}
+use Rattle.role_steps.specs.Tables.{first_that}
 use Rattle.role_steps.specs.Views.{Frame, SiteView, Outcome, DiskWrite, quiet, sends, and_then, first_written}
 use Rattle.role_steps.specs.Epochs.{frame_in, is_epoch_below, leaves, leaves_of, promises, reached, promise_packet, refuse_packet, begins_round, boots_where, round_id, merge_boot, part_boot, starts_merge, starts_part, starts_part_of, on_poll, on_promise_of, on_refuse_of, may_install, joins, joined_packet, is_in, on_install, decides_if, passed_over, unanswered, passes_over, passes_over_of}
-use Rattle.role_steps.specs.Reports.{on_report, on_open, on_look, on_closed, on_have}
-use Rattle.role_steps.specs.Opens.{on_opened}
-use Rattle.role_steps.specs.Storage.{copy_of}
-use Rattle.role_steps.specs.Adoption.{table_group}
-use Rattle.role_steps.specs.Mends.{kept_stamps, has_mend_in, row_file, starts_mend, starts_mend_of, starts_mends_in, wants_mend}
+use Rattle.role_steps.specs.Mends.{has_mend_in, row_file, starts_mend, starts_mend_of, starts_mends_in, wants_mend}
 use Rattle.role_steps.specs.declared.rounds.InEpoch.{InEpoch}
 use Rattle.role_steps.specs.declared.rounds.Round.{Round}
 use Rattle.role_steps.specs.declared.synchronizing.FileRow.{FileRow}
 use Rattle.role_steps.specs.declared.synchronizing.SyncTable.{SyncTable}
-use Rattle.the_run.specs.Steps.{adopts_in, at_table_of, call_frame, ends_after, ends_event, epoch_id, is_opened_in, starts_mends_of, takes, takes_call, takes_framed, takes_inside, ticks_after, tries_at, whole}
-use Rattle.site_parts.proofs.of_run_laws.Telling.{on_opened_talks, on_open_talks, on_look_talks, on_report_talks, on_closed_talks, on_have_talks, on_notify_talks, on_page_talks, on_delta_talks, on_call_talks, on_open_done_talks, on_op_done_talks, on_as_held_talks, on_close_done_talks, on_look_done_talks}
+use Rattle.the_run.specs.Steps.{adopts_in, call_frame, ends_after, ends_event, epoch_id, starts_mends_of, takes, takes_call, takes_framed, takes_inside, ticks_after, tries_at, whole}
+use Rattle.site_parts.proofs.of_run_laws.Telling.{on_call_talks}
+use Rattle.site_parts.proofs.of_run_laws.Walks.Untouched.{untouched}
 use Rattle.site_parts.specs.Roles.{role_of}
 use Rattle.site_node.specs.Taking.{is_tried, taken}
 use Rattle.site_parts.specs.declared.roles.Role.{Role}
@@ -114,40 +111,17 @@ ends_none c me links v = let now : SiteView = (passes_over c me links v).view in
 
 -- ---- a packet of the epoch ----
 
-table_none : (g : SyncTable → Outcome SyncTable) (o : Option SyncTable) (v : SiteView) → ((t : SyncTable) → (g t).written ≡ None) → (at_table_of g o v).written ≡ None
-table_none g None v h = refl
-table_none g (Some t) v h = h t
-
 -- no role but the storage site writes
 pub unwritten : (f : Frame) (from : ℕ) (b : Body) (v : SiteView) → (role_of b ≡ role.Store → ⊥) → (takes_inside f from b v).written ≡ None
-unwritten f from (body.Report group copies) v h = table_none (on_report f from copies) (row table_group group v.tables) v (λ t. (on_report_talks f from copies t).1)
-unwritten f from (body.ReportOk group) v h = refl
-unwritten f from (body.Open serial call process request file how) v h = table_none (on_open f from (record { serial = serial; call = call; process = process; request = request; file = file; how = how })) (row table_group file.group v.tables) v (λ t. (on_open_talks f from (record { serial = serial; call = call; process = process; request = request; file = file; how = how }) t).1)
 unwritten f from (body.OpenSs inst file mode set kind base vector parents) v h = absurd (h refl)
-unwritten f from (body.Opened inst answer) v h = table_none (on_opened f inst answer) (first_that (is_opened_in inst) v.tables) v (λ t. (on_opened_talks f inst answer t).1)
-unwritten f from (body.OpenDone serial answer) v h = (on_open_done_talks f (kept_stamps v) serial answer v.users).1
 unwritten f from (body.Op serial n o seen) v h = absurd (h refl)
-unwritten f from (body.OpDone serial n result) v h = (on_op_done_talks f serial n result v.users).1
 unwritten f from (body.ReadHeld serial n at len) v h = absurd (h refl)
-unwritten f from (body.AsHeld serial n len) v h = (on_as_held_talks f serial n v.users).1
 unwritten f from (body.Close serial) v h = absurd (h refl)
-unwritten f from (body.Closed inst made) v h = table_none (on_closed f from inst made) (first_that (is_opened_in inst) v.tables) v (λ t. (on_closed_talks f from inst made t).1)
 unwritten f from (body.ClosedOk inst) v h = absurd (h refl)
-unwritten f from (body.CloseDone serial answer) v h = (on_close_done_talks f serial answer v.users).1
-unwritten f from (body.Look call process request take file what) v h = table_none (on_look f from (record { call = call; process = process; request = request; take = take; file = file; what = what })) (row table_group file.group v.tables) v (λ t. (on_look_talks f from (record { call = call; process = process; request = request; take = take; file = file; what = what }) t).1)
 unwritten f from (body.LookSs us call process request take file what serve) v h = absurd (h refl)
-unwritten f from (body.LookDone call request take answer) v h = (on_look_done_talks f call request take answer v.users).1
-unwritten f from (body.Notify file kind set size stamp vector holder) v h = (on_notify_talks f from (copy_of v.store file) (record { file = file; kind = kind; set = set; size = size; stamp = stamp; vector = vector; holder = holder; base = None; wanted = None; content = [] }) v.pulls).1
 unwritten f from (body.Pull file stamp page) v h = absurd (h refl)
-unwritten f from (body.Page file stamp page bytes) v h = (on_page_talks f file stamp page bytes v.pulls).1
 unwritten f from (body.Want file wanted own) v h = absurd (h refl)
-unwritten f from (body.Delta file wanted pages) v h = (on_delta_talks f (copy_of v.store file) file wanted pages v.pulls).1
-unwritten f from (body.Have file stamp) v h = table_none (on_have from file stamp) (row table_group file.group v.tables) v (λ t. (on_have_talks from file stamp t).1)
-unwritten f from body.Poll v h = refl
-unwritten f from (body.Promise reach) v h = refl
-unwritten f from (body.Refuse promised) v h = refl
-unwritten f from (body.Install members) v h = refl
-unwritten f from body.Joined v h = refl
+unwritten f from x v h = (untouched f from x v (λ k. k)).1
 
 abbrev pub IsNoStore : Role → Type 0
 IsNoStore role.Store = ⊥

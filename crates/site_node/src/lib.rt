@@ -13,6 +13,7 @@ mod joining;
 mod leaving;
 mod node;
 mod pulling;
+mod remembering;
 mod taking;
 mod ticking;
 mod users;

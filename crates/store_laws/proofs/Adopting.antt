@@ -47,8 +47,8 @@ use Rattle.tree_laws.proofs.Names.{same_epoch_own}
 use Rattle.tree_laws.proofs.Owing.{inside_is}
 use Rattle.tree_laws.proofs.Rows.{followed_rows}
 use Rattle.tree_laws.proofs.Versions.{versions_stay}
-use Rattle.sync_laws.specs.of_order_laws.Joining.{PacksAreOfSites}
-use Rattle.sync_laws.proofs.of_order_laws.Standing.{same_file_eq, same_stamp_eq}
+use Rattle.tree_laws.specs.Orders.Joining.{PacksAreOfSites}
+use Rattle.tree_laws.proofs.Orders.Standing.{same_file_eq, same_stamp_eq}
 use Rattle.store_laws.specs.Rests.{AdoptRests, StoreRests}
 use Rattle.store_laws.proofs.Commits.{file_own, keys_same, put_found}
 use Rattle.store_laws.proofs.Differing.{among_all, differ_stays, step_more, steps_stay}

@@ -39,13 +39,13 @@ use Rattle.tree_laws.proofs.Asking.{Same, StepOf, StepRecord, Turns, same_told, 
 use Rattle.tree_laws.proofs.Awaiting.{all_have, by_owner, held_named, IsHeldBy, turn_clear}
 use Rattle.tree_laws.proofs.CarriedOpens.{was_then}
 use Rattle.tree_laws.proofs.OneBoot.{boot_where_inside, one_boot}
-use Rattle.sync_laws.specs.of_order_laws.ProcessOperations.{OpsAre}
-use Rattle.sync_laws.proofs.of_order_laws.ProcessCounted.{ActsRecord, step_acts}
-use Rattle.sync_laws.proofs.of_order_laws.ProcessGranting.{GrantIs, granted_is, held_us}
-use Rattle.sync_laws.proofs.of_order_laws.ProcessOpen.{granted_open, OpenAs}
-use Rattle.sync_laws.proofs.of_order_laws.ProcessOperationsRun.{operations_counted}
-use Rattle.sync_laws.proofs.of_order_laws.ProcessTaken.{back_in}
-use Rattle.sync_laws.proofs.of_order_laws.ProcessUnreleased.{unreleased}
+use Rattle.tree_laws.specs.Orders.ProcessOperations.{OpsAre}
+use Rattle.tree_laws.proofs.Orders.ProcessCounted.{ActsRecord, step_acts}
+use Rattle.tree_laws.proofs.Orders.ProcessGranting.{GrantIs, granted_is, held_us}
+use Rattle.tree_laws.proofs.Orders.ProcessOpen.{granted_open, OpenAs}
+use Rattle.tree_laws.proofs.Orders.ProcessOperationsRun.{operations_counted}
+use Rattle.tree_laws.proofs.Orders.ProcessTaken.{back_in}
+use Rattle.tree_laws.proofs.Orders.ProcessUnreleased.{unreleased}
 use Rattle.store_laws.proofs.AnswerAskers.{With, close_had, one_has, op_had, Rests, rests_or_clear}
 use Rattle.store_laws.proofs.AnswerDone.{act_next, done_low, done_named, open_before, ops_rise}
 

@@ -30,10 +30,10 @@ use Rattle.tree_laws.proofs.Counting.{asked_same}
 use Rattle.tree_laws.proofs.Descriptors.{IsUser}
 use Rattle.tree_laws.proofs.Fresh.{IsNamed}
 use Rattle.tree_laws.proofs.OfOwn.{asks_of_own}
-use Rattle.sync_laws.proofs.of_order_laws.ProcessBegun.{comes_from}
-use Rattle.sync_laws.proofs.of_order_laws.ProcessCurrent.{same_or_turns}
-use Rattle.sync_laws.proofs.of_order_laws.ProcessHad.{begun_user}
-use Rattle.sync_laws.proofs.of_order_laws.ProcessOperations.{accept_turn}
+use Rattle.tree_laws.proofs.Orders.ProcessBegun.{comes_from}
+use Rattle.tree_laws.proofs.Orders.ProcessCurrent.{same_or_turns}
+use Rattle.tree_laws.proofs.Orders.ProcessHad.{begun_user}
+use Rattle.tree_laws.proofs.Orders.ProcessOperations.{accept_turn}
 
 abbrev pub With : ℕ → Told → List Line → List Line
 With n x older = record { number = n; told = x } ∷ older

@@ -32,8 +32,8 @@ use Rattle.tree_laws.specs.Serials.{ops_asked}
 use Rattle.tree_laws.proofs.Counting.{IsNow}
 use Rattle.tree_laws.proofs.Descriptors.{opening_is}
 use Rattle.tree_laws.proofs.Names.{same_call_eq, same_call_own, same_epoch_own, same_serial_own}
-use Rattle.sync_laws.proofs.of_order_laws.ProcessGranting.{GrantIs, granted_is}
-use Rattle.sync_laws.proofs.of_order_laws.ProcessOnce.{counts_up, granted_split, GrantsNow}
+use Rattle.tree_laws.proofs.Orders.ProcessGranting.{GrantIs, granted_is}
+use Rattle.tree_laws.proofs.Orders.ProcessOnce.{counts_up, granted_split, GrantsNow}
 use Rattle.store_laws.proofs.ScriptNaming.{named_opens, Opens, RereadsIn, named_reads}
 use Rattle.store_laws.proofs.AnswerAskers.{With}
 use Rattle.store_laws.proofs.AnswerUnasked.{boot_unasked}
@@ -42,7 +42,7 @@ use Rattle.trace_book.specs.declared.call.OpenMode.{OpenMode}
 use Rattle.trace_book.specs.declared.operation.Outcome.{Outcome}
 use Rattle.tree_laws.proofs.Naming.{all_opening, open_inside}
 use Rattle.tree_laws.proofs.CarriedLooks.{one_epoch}
-use Rattle.sync_laws.proofs.of_order_laws.ProcessOneDescriptor.{waiting_unnamed}
+use Rattle.tree_laws.proofs.Orders.ProcessOneDescriptor.{waiting_unnamed}
 use Rattle.store_laws.proofs.AnswerNaming.{granted_opens, no_uses}
 use Rattle.call_rules.specs.declared.answer.Answer.TheVariants as answer
 use Rattle.trace_book.specs.declared.call.Call.TheVariants as call

@@ -37,10 +37,10 @@ use Rattle.tree_laws.proofs.Fresh.{calls_are_low, IsNamed, next_is_new, numbered
 use Rattle.tree_laws.proofs.Having.{named_or_untaken, Untaken}
 use Rattle.tree_laws.proofs.Names.{same_call_eq, same_call_own, same_epoch_own, same_serial_own}
 use Rattle.tree_laws.proofs.Scripts.{named_stays, begun_stays}
-use Rattle.sync_laws.proofs.of_order_laws.ProcessBegun.{asked_fits, Fits}
-use Rattle.sync_laws.proofs.of_order_laws.ProcessGranting.{GrantIs, granted_is, user_us}
-use Rattle.sync_laws.proofs.of_order_laws.ProcessHad.{begun_user}
-use Rattle.sync_laws.proofs.of_order_laws.ProcessOperations.{accept_turn, IsTurn, op_is, take_turn}
+use Rattle.tree_laws.proofs.Orders.ProcessBegun.{asked_fits, Fits}
+use Rattle.tree_laws.proofs.Orders.ProcessGranting.{GrantIs, granted_is, user_us}
+use Rattle.tree_laws.proofs.Orders.ProcessHad.{begun_user}
+use Rattle.tree_laws.proofs.Orders.ProcessOperations.{accept_turn, IsTurn, op_is, take_turn}
 use Rattle.store_laws.proofs.ScriptNaming.{Opens, RereadsIn, script_by}
 use Rattle.store_laws.proofs.AnswerAskers.{With}
 use Rattle.store_laws.proofs.AnswerScripting.{AsksNoOp, opener_no_op, script_is, use_asks, user_no_more, first_no_op, later_no_op, again_asks}

@@ -31,9 +31,9 @@ use Rattle.tree_laws.proofs.Kinship.{Ends, GoesOnTold, open_stays, StaysOpen, tr
 use Rattle.tree_laws.proofs.Opened.{ActsOn, CommitsOn, found_named, GrantsIt}
 use Rattle.tree_laws.proofs.Owing.{found_every}
 use Rattle.tree_laws.proofs.Seeing.{are_granted}
-use Rattle.sync_laws.proofs.of_order_laws.ProcessCounted.{acted_more, acts_now}
-use Rattle.user_laws.proofs.of_holding_laws.Distinct.{open_now}
-use Rattle.user_laws.proofs.of_holding_laws.Released.{released_shut}
+use Rattle.tree_laws.proofs.Orders.ProcessCounted.{acted_more, acts_now}
+use Rattle.store_laws.proofs.Holdings.Distinct.{open_now}
+use Rattle.store_laws.proofs.Holdings.Released.{released_shut}
 use Rattle.store_laws.proofs.AnswerAskers.{With}
 
 -- what is open in a tree was granted to its call

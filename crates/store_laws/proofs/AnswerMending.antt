@@ -38,19 +38,19 @@ use Rattle.tree_laws.proofs.Names.{same_call_own}
 use Rattle.tree_laws.proofs.Rows.{followed_rows}
 use Rattle.tree_laws.proofs.Scripts.{in_stays}
 use Rattle.tree_laws.proofs.Serials.{asks_opens}
-use Rattle.sync_laws.proofs.of_order_laws.ProcessBegun.{comes_from}
-use Rattle.sync_laws.proofs.of_order_laws.ProcessCurrent.{same_or_turns}
-use Rattle.sync_laws.proofs.of_order_laws.ProcessGranting.{released_named}
-use Rattle.sync_laws.proofs.of_order_laws.ProcessHad.{begun_user}
-use Rattle.sync_laws.proofs.of_order_laws.ProcessOpen.{granted_open, OpenAs}
-use Rattle.sync_laws.specs.of_order_laws.Joining.{PacksAreOfSites}
-use Rattle.sync_laws.specs.of_order_laws.Keeping.{PassesBy}
-use Rattle.sync_laws.proofs.of_order_laws.Keeping.{IsNew, kept_by}
-use Rattle.user_laws.specs.of_holding_laws.Below.{LawsBelow}
-use Rattle.user_laws.proofs.of_holding_laws.Begun.{open_in_group}
-use Rattle.user_laws.proofs.of_holding_laws.Below.{commits_new, laws_before}
-use Rattle.user_laws.proofs.of_holding_laws.Kept.{open_keeps}
-use Rattle.user_laws.proofs.of_holding_laws.Made.{CommitsAreNew}
+use Rattle.tree_laws.proofs.Orders.ProcessBegun.{comes_from}
+use Rattle.tree_laws.proofs.Orders.ProcessCurrent.{same_or_turns}
+use Rattle.tree_laws.proofs.Orders.ProcessGranting.{released_named}
+use Rattle.tree_laws.proofs.Orders.ProcessHad.{begun_user}
+use Rattle.tree_laws.proofs.Orders.ProcessOpen.{granted_open, OpenAs}
+use Rattle.tree_laws.specs.Orders.Joining.{PacksAreOfSites}
+use Rattle.tree_laws.specs.Orders.Keeping.{PassesBy}
+use Rattle.tree_laws.proofs.Orders.Keeping.{IsNew, kept_by}
+use Rattle.store_laws.specs.Holdings.Below.{LawsBelow}
+use Rattle.store_laws.proofs.Holdings.Begun.{open_in_group}
+use Rattle.store_laws.proofs.Holdings.Below.{commits_new, laws_before}
+use Rattle.store_laws.proofs.Holdings.Kept.{open_keeps}
+use Rattle.store_laws.proofs.Holdings.Made.{CommitsAreNew}
 use Rattle.store_laws.proofs.AnswerAnswering.{releaser_in}
 use Rattle.store_laws.proofs.AnswerAskers.{close_had, With}
 use Rattle.store_laws.proofs.AnswerDone.{open_grant}

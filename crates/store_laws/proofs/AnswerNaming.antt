@@ -41,9 +41,9 @@ use Rattle.tree_laws.proofs.OneBoot.{one_boot}
 use Rattle.tree_laws.proofs.Owners.{granted_named}
 use Rattle.tree_laws.proofs.Scripts.{named_stays, begun_stays}
 use Rattle.tree_laws.proofs.Serials.{asks_opens}
-use Rattle.sync_laws.proofs.of_order_laws.ProcessBegun.{comes_from}
-use Rattle.sync_laws.proofs.of_order_laws.ProcessGranting.{GrantIs, granted_is, held_us}
-use Rattle.sync_laws.proofs.of_order_laws.ProcessOnce.{one_epoch_of}
+use Rattle.tree_laws.proofs.Orders.ProcessBegun.{comes_from}
+use Rattle.tree_laws.proofs.Orders.ProcessGranting.{GrantIs, granted_is, held_us}
+use Rattle.tree_laws.proofs.Orders.ProcessOnce.{one_epoch_of}
 use Rattle.store_laws.proofs.ScriptNaming.{named_opens, Opens, RereadsIn, named_reads}
 use Rattle.store_laws.proofs.AnswerAskers.{With, op_had}
 use Rattle.store_laws.proofs.AnswerUnasked.{opens_request}

@@ -28,10 +28,10 @@ use Rattle.tree_laws.proofs.Answered.{asker_unnamed}
 use Rattle.tree_laws.proofs.Counting.{IsNow}
 use Rattle.tree_laws.proofs.Descriptors.{IsUser}
 use Rattle.tree_laws.proofs.OneBoot.{boot_where_inside, one_boot}
-use Rattle.sync_laws.proofs.of_order_laws.ProcessBegun.{comes_from}
-use Rattle.sync_laws.proofs.of_order_laws.ProcessGranting.{GrantIs, granted_is, user_us}
-use Rattle.sync_laws.proofs.of_order_laws.ProcessHad.{begun_user}
-use Rattle.sync_laws.proofs.of_order_laws.ProcessOwner.{owner_act}
+use Rattle.tree_laws.proofs.Orders.ProcessBegun.{comes_from}
+use Rattle.tree_laws.proofs.Orders.ProcessGranting.{GrantIs, granted_is, user_us}
+use Rattle.tree_laws.proofs.Orders.ProcessHad.{begun_user}
+use Rattle.tree_laws.proofs.Orders.ProcessOwner.{owner_act}
 use Rattle.store_laws.proofs.AnswerAskers.{op_had}
 use Rattle.store_laws.proofs.ScriptFitting.{AllFit, Fits, ReadWords}
 use Rattle.store_laws.proofs.ScriptNaming.{RereadsIn, script_by}

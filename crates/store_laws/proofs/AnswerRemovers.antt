@@ -34,9 +34,9 @@ use Rattle.tree_laws.specs.Serials.{asked_now}
 use Rattle.tree_laws.proofs.Alone.{asking, numbered_every}
 use Rattle.tree_laws.proofs.Answered.{asker_unnamed}
 use Rattle.tree_laws.proofs.Descriptors.{are_users, IsUser}
-use Rattle.sync_laws.proofs.of_order_laws.ProcessBegun.{comes_from}
-use Rattle.sync_laws.proofs.of_order_laws.ProcessGrantedHere.{granted_here}
-use Rattle.user_laws.proofs.of_holding_laws.Distinct.{open_group}
+use Rattle.tree_laws.proofs.Orders.ProcessBegun.{comes_from}
+use Rattle.tree_laws.proofs.Orders.ProcessGrantedHere.{granted_here}
+use Rattle.store_laws.proofs.Holdings.Distinct.{open_group}
 use Rattle.store_laws.proofs.AnswerAskers.{op_had}
 use Rattle.store_laws.proofs.AnswerDone.{open_grant}
 use Rattle.store_laws.proofs.AnswerScripting.{asked_so}

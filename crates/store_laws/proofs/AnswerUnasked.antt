@@ -38,11 +38,11 @@ use Rattle.tree_laws.proofs.OneBoot.{boot_where_inside, one_boot}
 use Rattle.tree_laws.proofs.Owners.{granted_named, granted_same}
 use Rattle.tree_laws.proofs.Scripts.{in_stays}
 use Rattle.tree_laws.proofs.Serials.{unnamed}
-use Rattle.sync_laws.proofs.of_order_laws.ProcessBegun.{comes_from}
-use Rattle.sync_laws.proofs.of_order_laws.ProcessGranting.{GrantIs, granted_is, held_us}
-use Rattle.sync_laws.proofs.of_order_laws.ProcessHad.{begun_user}
-use Rattle.sync_laws.proofs.of_order_laws.ProcessOnce.{unnamed_in_boot}
-use Rattle.sync_laws.proofs.of_order_laws.ProcessOperations.{accept_turn, IsTurn, op_is, take_turn}
+use Rattle.tree_laws.proofs.Orders.ProcessBegun.{comes_from}
+use Rattle.tree_laws.proofs.Orders.ProcessGranting.{GrantIs, granted_is, held_us}
+use Rattle.tree_laws.proofs.Orders.ProcessHad.{begun_user}
+use Rattle.tree_laws.proofs.Orders.ProcessOnce.{unnamed_in_boot}
+use Rattle.tree_laws.proofs.Orders.ProcessOperations.{accept_turn, IsTurn, op_is, take_turn}
 use Rattle.store_laws.proofs.AnswerAskers.{With, op_had}
 
 -- ---- an open that is asked ----

@@ -50,14 +50,14 @@ use Rattle.tree_laws.proofs.CarriedLooks.{More}
 use Rattle.tree_laws.proofs.CarriedVersions.{joins_stay}
 use Rattle.lawful_trace.specs.TreeRows.{IsCallIn}
 use Rattle.tree_laws.proofs.Versions.{versions_stay}
-use Rattle.sync_laws.specs.of_order_laws.Joining.{PacksAreOfSites}
+use Rattle.tree_laws.specs.Orders.Joining.{PacksAreOfSites}
 use Rattle.tree_laws.proofs.Rows.{followed_rows}
 use Rattle.store_laws.proofs.Holding.{held_stands}
 use Rattle.store_laws.proofs.Differing.{steps_stay}
 use Rattle.store_laws.specs.Rests.{AllStays, IsAsGranted, IsUnbegun, StoreRests}
 use Rattle.store_laws.proofs.Begun.{granted_named, named_of}
 use Rattle.store_laws.proofs.Places.{AreOne, granted_once, plain_place}
-use Rattle.user_laws.proofs.OpenGrants.{only_some}
+use Rattle.store_laws.proofs.Users.OpenGrants.{only_some}
 use Rattle.store_laws.proofs.Staying.{instance_more}
 use Rattle.store_laws.proofs.Tabled.{apart_latest, every_latest, latest_has, latest_same}
 

@@ -15,7 +15,7 @@ use Rattle.tree_laws.specs.Stores.{IsMaker, PlainLies}
 use Rattle.tree_laws.proofs.Grants.{open_named}
 use Rattle.tree_laws.proofs.Kinship.{tree_group_is}
 use Rattle.tree_laws.proofs.Serials.{unnamed}
-use Rattle.sync_laws.proofs.of_order_laws.Keeping.{changes_alone}
+use Rattle.tree_laws.proofs.Orders.Keeping.{changes_alone}
 use Rattle.store_laws.proofs.Beginning.{given_parts}
 use Rattle.store_laws.proofs.Holding.{versions_same}
 use Rattle.store_laws.proofs.Makers.{lies_stay}
@@ -73,9 +73,9 @@ use Rattle.tree_laws.proofs.Names.{same_epoch_own}
 use Rattle.tree_laws.proofs.Owing.{inside_is}
 use Rattle.tree_laws.proofs.Rows.{followed_rows}
 use Rattle.tree_laws.proofs.Versions.{versions_stay}
-use Rattle.sync_laws.specs.of_order_laws.Joining.{PacksAreOfSites}
-use Rattle.sync_laws.proofs.of_order_laws.Alone.{rows_apart}
-use Rattle.sync_laws.proofs.of_order_laws.Standing.{newest, same_file_eq}
+use Rattle.tree_laws.specs.Orders.Joining.{PacksAreOfSites}
+use Rattle.tree_laws.proofs.Orders.Alone.{rows_apart}
+use Rattle.tree_laws.proofs.Orders.Standing.{newest, same_file_eq}
 use Rattle.store_laws.specs.Rests.{StoreRests}
 use Rattle.store_laws.proofs.Holding.{held_stands}
 use Rattle.store_laws.proofs.Raising.{first_writer, next_numbered, one_writes, vector_written, writer_changed, zeros}

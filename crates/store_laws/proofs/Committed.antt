@@ -23,7 +23,7 @@ use Rattle.tree_laws.specs.Following.{MayTell, IsFollowed}
 use Rattle.tree_laws.specs.Frames.{AllStay}
 use Rattle.tree_laws.specs.Past.{WasBegun, WasShut}
 use Rattle.tree_laws.specs.Stores.{AnsweredFact, CopiesAreHeld, HoldsMade, InstanceFact, WorksAs}
-use Rattle.sync_laws.specs.of_order_laws.Joining.{PacksAreOfSites}
+use Rattle.tree_laws.specs.Orders.Joining.{PacksAreOfSites}
 use Rattle.tree_laws.proofs.CarriedSizes.{begun_size_stays}
 use Rattle.tree_laws.proofs.Versions.{versions_stay}
 use Rattle.store_laws.proofs.Remembering.{steps_committed}

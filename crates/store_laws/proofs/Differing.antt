@@ -24,9 +24,9 @@ use Rattle.tree_laws.specs.Deltas.{AgreeBut, DifferIn, StepFact, StepOver, Steps
 use Rattle.tree_laws.specs.Frames.{VersionsStay}
 use Rattle.tree_laws.specs.Instances.{Stands}
 use Rattle.tree_laws.specs.Printed.{entries}
-use Rattle.work_laws.specs.of_stored_versions.Changes.{IsKept}
-use Rattle.work_laws.proofs.PageLists.{has_in, kept_there, kept_through, page_length}
-use Rattle.sync_laws.proofs.of_order_laws.Standing.{same_stamp_eq}
+use Rattle.stored_versions.specs.Changes.{IsKept}
+use Rattle.store_laws.proofs.Works.PageLists.{has_in, kept_there, kept_through, page_length}
+use Rattle.tree_laws.proofs.Orders.Standing.{same_stamp_eq}
 use Rattle.store_laws.proofs.Tabled.{every_row, file_of_key, row_found}
 
 -- ---- lists of pages ----

@@ -30,7 +30,7 @@ use Rattle.tree_laws.specs.Packets.{CloseFact, ClosesNow, MaybeMade}
 use Rattle.tree_laws.specs.Past.{EndRecord, Printed, WasNamed, WasReleased, WasShut}
 use Rattle.tree_laws.specs.Stores.{InstanceFact, IsSettled, RunsAs, StageFact, WorksAs}
 use Rattle.tree_laws.proofs.Grants.{open_named}
-use Rattle.sync_laws.specs.of_order_laws.Joining.{PacksAreOfSites}
+use Rattle.tree_laws.specs.Orders.Joining.{PacksAreOfSites}
 use Rattle.store_laws.specs.Rests.{AllStays, MayWrite, StoreRests}
 use Rattle.store_laws.proofs.Closes.{closed_sent, done_sent, found_instance}
 use Rattle.store_laws.proofs.Committed.{begun_after, frame_after, may, others_after, unshut_after, written_so}

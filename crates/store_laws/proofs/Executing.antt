@@ -58,7 +58,7 @@ use Rattle.tree_laws.specs.Packets.{OpFact, PacketFact, SeesFor, SeesTarget}
 use Rattle.tree_laws.specs.Past.{ActRecord, Printed, WasDone, WasNamed, WasShut}
 use Rattle.tree_laws.specs.Stores.{AnsweredFact, InstanceFact, IsSettled, RunsAs, StageFact, WorksAs, copy_for}
 use Rattle.tree_laws.proofs.Grants.{open_named}
-use Rattle.sync_laws.specs.of_order_laws.Joining.{PacksAreOfSites}
+use Rattle.tree_laws.specs.Orders.Joining.{PacksAreOfSites}
 use Rattle.store_laws.specs.Rests.{AllStays, IsSpentMend, MayWrite, MendsAs, OpRests, StoreRests, UnspentTold}
 use Rattle.store_laws.proofs.Closes.{found_instance}
 use Rattle.store_laws.proofs.Commits.{works_now}

@@ -28,8 +28,8 @@ use Rattle.tree_laws.proofs.CarriedLooks.{More}
 use Rattle.tree_laws.proofs.CarriedVersions.{same_version_of}
 use Rattle.tree_laws.proofs.Rows.{followed_rows}
 use Rattle.tree_laws.proofs.Versions.{versions_stay}
-use Rattle.sync_laws.proofs.of_order_laws.Knowing.{versions_stand}
-use Rattle.sync_laws.proofs.of_order_laws.Standing.{same_file_eq, newest, roots_stand}
+use Rattle.tree_laws.proofs.Orders.Knowing.{versions_stand}
+use Rattle.tree_laws.proofs.Orders.Standing.{same_file_eq, newest, roots_stand}
 use Rattle.store_laws.specs.Pulling.{AdoptsFile, MakesVersion}
 
 -- ---- what is held stands ----

@@ -61,8 +61,11 @@ pub mod AnswerCounting
 pub mod AnswerCounted
 pub mod AnswerOwning
 pub mod StorageResting
-pub use Rattle.sync_laws.proofs as of_sync_laws
-pub use Rattle.sync_laws.proofs.of_order_laws as of_order_laws
-pub use Rattle.user_laws.proofs as of_user_laws
-pub use Rattle.user_laws.proofs.of_holding_laws as of_holding_laws
-pub use Rattle.work_laws.proofs as of_work_laws
+pub mod Holdings
+pub mod Works
+pub mod Users
+pub mod OneTree
+pub use Rattle.tree_laws.proofs as of_tree_laws
+pub use Rattle.row_laws.proofs as of_row_laws
+pub use Rattle.row_laws.proofs.of_site_laws as of_site_laws
+pub use Rattle.row_laws.proofs.of_run_laws as of_run_laws

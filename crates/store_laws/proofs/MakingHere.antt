@@ -33,7 +33,7 @@ use Rattle.tree_laws.specs.Past.{WasBegun, WasNamed, WasShut}
 use Rattle.tree_laws.specs.Stores.{InstanceFact}
 use Rattle.tree_laws.proofs.Making.{begun_place}
 use Rattle.tree_laws.proofs.Serials.{unnamed}
-use Rattle.sync_laws.specs.of_order_laws.Joining.{PacksAreOfSites}
+use Rattle.tree_laws.specs.Orders.Joining.{PacksAreOfSites}
 use Rattle.tree_laws.proofs.Versions.{versions_stay}
 use Rattle.store_laws.proofs.Begun.{granted_named}
 use Rattle.store_laws.proofs.Differing.{steps_stay}

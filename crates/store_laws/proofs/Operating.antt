@@ -52,7 +52,7 @@ use Rattle.tree_laws.proofs.Hearing.{asks_next}
 use Rattle.tree_laws.proofs.Kinship.{tree_epoch_is}
 use Rattle.tree_laws.proofs.Names.{same_epoch_own}
 use Rattle.tree_laws.proofs.Versions.{versions_stay}
-use Rattle.sync_laws.specs.of_order_laws.Joining.{PacksAreOfSites}
+use Rattle.tree_laws.specs.Orders.Joining.{PacksAreOfSites}
 use Rattle.tree_laws.proofs.CarriedSizes.{begun_size_stays}
 use Rattle.store_laws.proofs.Differing.{steps_stay}
 use Rattle.store_laws.proofs.Closes.{lies_with}

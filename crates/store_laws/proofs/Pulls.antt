@@ -42,8 +42,8 @@ use Rattle.tree_laws.proofs.CarriedVersions.{same_version_of, version_stays}
 use Rattle.tree_laws.proofs.Kinship.{started_stays}
 use Rattle.tree_laws.proofs.Rows.{followed_rows}
 use Rattle.tree_laws.proofs.Versions.{versions_stay}
-use Rattle.sync_laws.proofs.of_order_laws.Standing.{same_stamp_eq}
-use Rattle.sync_laws.proofs.Members.{inside_joined}
+use Rattle.tree_laws.proofs.Orders.Standing.{same_stamp_eq}
+use Rattle.tree_laws.proofs.Syncs.Members.{inside_joined}
 use Rattle.store_laws.specs.Pulling.{AdoptsFile, MakesVersion, NewAreNotBelow}
 use Rattle.store_laws.specs.Rests.{StoreRests}
 use Rattle.store_laws.proofs.Holding.{HeldAfter, fresh_made, held_after, held_stands}

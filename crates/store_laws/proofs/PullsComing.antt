@@ -32,8 +32,8 @@ use Rattle.tree_laws.specs.Doing.{FrameFact, PullsFact, PullsFine}
 use Rattle.tree_laws.specs.Following.{IsFollowed}
 use Rattle.tree_laws.specs.Packets.{PageFact}
 use Rattle.tree_laws.specs.Stores.{PullFact}
-use Rattle.sync_laws.proofs.of_order_laws.Standing.{same_stamp_eq}
-use Rattle.sync_laws.proofs.Members.{inside_joined}
+use Rattle.tree_laws.proofs.Orders.Standing.{same_stamp_eq}
+use Rattle.tree_laws.proofs.Syncs.Members.{inside_joined}
 use Rattle.store_laws.specs.Rests.{StoreRests}
 use Rattle.store_laws.proofs.PulledPages.{above_at, below_at, page_front, page_next}
 use Rattle.store_laws.proofs.Tabled.{file_of_key, row_found}

@@ -24,9 +24,9 @@ use Rattle.tree_model.specs.Histories.{history}
 use Rattle.tree_laws.specs.Printed.{entries}
 use Rattle.tree_laws.specs.Packets.{JoinsParents}
 use Rattle.tree_laws.proofs.Owing.{writer_writes}
-use Rattle.sync_laws.specs.of_order_laws.Alone.{AreAlone, MayStandBy}
-use Rattle.sync_laws.proofs.of_order_laws.Lists.{all_found}
-use Rattle.sync_laws.proofs.of_order_laws.Standing.{same_file_eq}
+use Rattle.tree_laws.specs.Orders.Alone.{AreAlone, MayStandBy}
+use Rattle.tree_laws.proofs.Orders.Lists.{all_found}
+use Rattle.tree_laws.proofs.Orders.Standing.{same_file_eq}
 
 -- ---- the only one that writes ----
 

@@ -29,9 +29,9 @@ use Rattle.tree_laws.specs.Instances.{held_in, Stands}
 use Rattle.tree_laws.specs.Past.{WasShut}
 use Rattle.tree_laws.specs.Stores.{InstanceFact, WorksAs}
 use Rattle.tree_laws.proofs.Versions.{versions_stay}
-use Rattle.work_laws.specs.Working.{FitsOver}
-use Rattle.sync_laws.specs.of_order_laws.Joining.{PacksAreOfSites}
-use Rattle.sync_laws.proofs.of_order_laws.Standing.{same_file_eq}
+use Rattle.store_laws.specs.Works.Working.{FitsOver}
+use Rattle.tree_laws.specs.Orders.Joining.{PacksAreOfSites}
+use Rattle.tree_laws.proofs.Orders.Standing.{same_file_eq}
 use Rattle.store_laws.specs.Rests.{StoreRests}
 use Rattle.store_laws.proofs.Commits.{content_now, may_commit, narrow_now, stands_now}
 use Rattle.store_laws.proofs.Differing.{agree_more, agree_working, step_more, steps_stay}

@@ -38,10 +38,10 @@ use Rattle.tree_laws.proofs.Kinship.{StaysOpen, Ends, open_stays}
 use Rattle.tree_laws.proofs.Opened.{EndsIt, ActsOn, CommitsOn, GoesOn}
 use Rattle.tree_laws.proofs.Owing.{InGroup, in_group, found_every}
 use Rattle.tree_laws.proofs.Rows.{followed_rows}
-use Rattle.sync_laws.specs.of_order_laws.Joining.{PacksAreOfSites}
-use Rattle.sync_laws.specs.of_order_laws.Keeping.{PassesBy}
-use Rattle.sync_laws.proofs.of_order_laws.Keeping.{versions_kept}
-use Rattle.sync_laws.proofs.of_order_laws.Standing.{same_file_eq}
+use Rattle.tree_laws.specs.Orders.Joining.{PacksAreOfSites}
+use Rattle.tree_laws.specs.Orders.Keeping.{PassesBy}
+use Rattle.tree_laws.proofs.Orders.Keeping.{versions_kept}
+use Rattle.tree_laws.proofs.Orders.Standing.{same_file_eq}
 use Rattle.store_laws.specs.Aside.{IsAside, RecordAside}
 
 -- ---- the group of what is open ----

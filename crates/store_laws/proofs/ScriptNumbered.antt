@@ -58,8 +58,8 @@ use Rattle.tree_laws.proofs.Hearing.{asks_next}
 use Rattle.tree_laws.proofs.Naming.{steady_left}
 use Rattle.tree_laws.proofs.Owing.{GrantHas, grants_have}
 use Rattle.tree_laws.proofs.Reopening.{FromSteady, reopens_from}
-use Rattle.sync_laws.proofs.of_order_laws.ProcessOneDescriptor.{left_record}
-use Rattle.sync_laws.proofs.of_order_laws.Standing.{same_file_eq}
+use Rattle.tree_laws.proofs.Orders.ProcessOneDescriptor.{left_record}
+use Rattle.tree_laws.proofs.Orders.Standing.{same_file_eq}
 use Rattle.store_laws.proofs.ScriptFitting.{IsSound, OpensAs, ReadWords}
 use Rattle.store_laws.proofs.ScriptFitted.{asked_sound}
 use Rattle.store_laws.proofs.ScriptNaming.{BeganOpening, asks_begins, script_by}

@@ -59,8 +59,8 @@ use Rattle.tree_laws.proofs.Having.{Untaken, named_or_untaken}
 use Rattle.tree_laws.proofs.Hearing.{take_all, take_own}
 use Rattle.tree_laws.proofs.Names.{same_call_eq, same_serial_own}
 use Rattle.tree_laws.proofs.Scripts.{named_stays}
-use Rattle.user_laws.specs.Rests.{HasTaken, IsOpenedAs, gives_now}
-use Rattle.user_laws.proofs.OpenGrants.{TellsVersion, tells_version}
+use Rattle.store_laws.specs.Users.Rests.{HasTaken, IsOpenedAs, gives_now}
+use Rattle.store_laws.proofs.Users.OpenGrants.{TellsVersion, tells_version}
 use Rattle.store_laws.proofs.ScriptEndingCalls.{has_by}
 use Rattle.store_laws.proofs.ScriptFitted.{Began, began, began_right, waits_fits}
 use Rattle.store_laws.proofs.ScriptFitting.{Fits, IsSound, LookFits, OpensWords, ReadWords, UsesWords}

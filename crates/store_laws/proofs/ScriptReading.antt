@@ -29,7 +29,7 @@ use Rattle.tree_laws.specs.Following.{IsFollowed}
 use Rattle.tree_laws.specs.Holding.{Instances, had_after, has_instances, with_begun}
 use Rattle.tree_laws.specs.Processes.{IsMend}
 use Rattle.tree_laws.specs.Printed.{entries}
-use Rattle.user_laws.specs.Rests.{HasTaken, IsReadAgain, gives_now}
+use Rattle.store_laws.specs.Users.Rests.{HasTaken, IsReadAgain, gives_now}
 use Rattle.store_laws.proofs.ScriptEndingCalls.{has_by}
 use Rattle.store_laws.proofs.ScriptFitted.{began, began_right, log_fits}
 use Rattle.store_laws.proofs.ScriptFitting.{AllFit, Fits, IsSound, ReadWords, UsesWords}

@@ -21,7 +21,7 @@ use Rattle.tree_laws.proofs.OwnWalks.{begun_own}
 use Rattle.tree_laws.specs.Following.{IsFollowed}
 use Rattle.tree_laws.specs.Printed.{entries}
 use Rattle.tree_laws.proofs.Waiting.{accepted, found_among}
-use Rattle.user_laws.specs.Rests.{HasTaken, gives_now}
+use Rattle.store_laws.specs.Users.Rests.{HasTaken, gives_now}
 use Rattle.store_laws.proofs.ScriptFitted.{Began, began, script_sound}
 use Rattle.store_laws.proofs.ScriptFitting.{IsSound}
 use Rattle.store_laws.proofs.ScriptFree.{opens_free}

@@ -22,7 +22,7 @@ use Rattle.tree_laws.specs.Calls.{is_request}
 use Rattle.tree_laws.specs.Following.{IsFollowed}
 use Rattle.tree_laws.specs.Instances.{AsksOpen, IsOpening}
 use Rattle.tree_laws.specs.Printed.{entries}
-use Rattle.sync_laws.specs.Opening.{IsPlainOpening}
+use Rattle.tree_laws.specs.Syncs.Opening.{IsPlainOpening}
 use Rattle.store_laws.proofs.ScriptFitting.{IsSound, OpensAs}
 use Rattle.store_laws.proofs.ScriptFitted.{asked_sound}
 use Rattle.store_laws.proofs.ScriptNumbered.{mend_numbered, read_numbered}

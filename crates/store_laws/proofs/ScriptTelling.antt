@@ -59,7 +59,7 @@ use Rattle.tree_laws.specs.Printed.{entries}
 use Rattle.tree_laws.specs.Serials.{asked_now}
 use Rattle.tree_laws.proofs.Asking.{StepRecord}
 use Rattle.tree_laws.proofs.Awaiting.{by_own, by_owner, last_same}
-use Rattle.user_laws.proofs.OpenGrants.{TellsVersion, tells_version}
+use Rattle.store_laws.proofs.Users.OpenGrants.{TellsVersion, tells_version}
 use Rattle.store_laws.proofs.ScriptFitting.{NotChanged, LookFits, OpenFits, MakeFits, MendFits, DoFits, CloseFits, Fits}
 use Rattle.store_laws.proofs.ScriptResults.{FoundRight, ResultRight, act_right, found_right, refusal_right}
 

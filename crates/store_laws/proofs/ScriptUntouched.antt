@@ -38,9 +38,9 @@ use Rattle.tree_laws.proofs.Grants.{Had, before_record}
 use Rattle.tree_laws.proofs.Kinship.{Ends, GoesOnTold, StaysOpen, open_stays, tree_epoch_is}
 use Rattle.tree_laws.proofs.Opened.{ActsOn, CommitsOn, GrantsIt}
 use Rattle.tree_laws.proofs.Owing.{commits_owe}
-use Rattle.sync_laws.proofs.of_order_laws.ProcessOpen.{granted_begins}
-use Rattle.user_laws.proofs.of_holding_laws.Distinct.{open_now}
-use Rattle.user_laws.proofs.of_holding_laws.Released.{released_shut}
+use Rattle.tree_laws.proofs.Orders.ProcessOpen.{granted_begins}
+use Rattle.store_laws.proofs.Holdings.Distinct.{open_now}
+use Rattle.store_laws.proofs.Holdings.Released.{released_shut}
 
 abbrev With : ℕ → Told → List Line → List Line
 With n x older = record { number = n; told = x } ∷ older

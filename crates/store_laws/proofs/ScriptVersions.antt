@@ -23,7 +23,7 @@ use Rattle.tree_model.specs.Calls.{opening_after, opening_of, version_after, ver
 use Rattle.tree_model.specs.Folds.{Trace}
 use Rattle.lawful_trace.specs.Progress.{Answers, granted_answer}
 use Rattle.tree_laws.proofs.Awaiting.{OpensIt}
-use Rattle.user_laws.proofs.OpenGrants.{TellsVersion}
+use Rattle.store_laws.proofs.Users.OpenGrants.{TellsVersion}
 use Rattle.store_laws.proofs.ScriptLasting.{opened_from, opened_same}
 
 -- of the versions on which it was opened those count on which it was opened to read

@@ -35,9 +35,9 @@ use Rattle.tree_laws.specs.Past.{WasLooked, Printed, LookRecord}
 use Rattle.tree_laws.specs.Printed.{entries}
 use Rattle.tree_laws.specs.Serials.{asked_now}
 use Rattle.tree_laws.specs.Users.{brought_of, taken_whole}
-use Rattle.sync_laws.proofs.of_order_laws.Standing.{same_stamp_eq}
-use Rattle.user_laws.proofs.of_holding_laws.MendMends.{LooksWhole, whole_looked}
-use Rattle.user_laws.proofs.of_holding_laws.MendWants.{IsPlainLook, give_up_so, after_mend_so}
+use Rattle.tree_laws.proofs.Orders.Standing.{same_stamp_eq}
+use Rattle.store_laws.proofs.Holdings.MendMends.{LooksWhole, whole_looked}
+use Rattle.store_laws.proofs.Holdings.MendWants.{IsPlainLook, give_up_so, after_mend_so}
 
 -- ---- the contents that a mend has brought ----
 

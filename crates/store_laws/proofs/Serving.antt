@@ -44,8 +44,8 @@ use Rattle.tree_laws.specs.Past.{LookRecord, Printed, WasLooked}
 use Rattle.tree_laws.specs.Stores.{CopiesAreHeld, copy_for}
 use Rattle.tree_laws.proofs.Histories.{stands_more}
 use Rattle.tree_laws.proofs.Rows.{followed_rows}
-use Rattle.sync_laws.proofs.of_order_laws.Knowing.{versions_stand}
-use Rattle.sync_laws.proofs.of_order_laws.Standing.{same_stamp_eq}
+use Rattle.tree_laws.proofs.Orders.Knowing.{versions_stand}
+use Rattle.tree_laws.proofs.Orders.Standing.{same_stamp_eq}
 use Rattle.store_laws.specs.Rests.{StoreRests}
 use Rattle.store_laws.proofs.Holding.{held_stands}
 

@@ -46,7 +46,7 @@ use Rattle.tree_laws.specs.Stores.{AnsweredFact, AreApart, ClosesAs, CopiesAreHe
 use Rattle.tree_laws.proofs.CarriedVersions.{joins_stay, maybe_stays}
 use Rattle.tree_laws.proofs.Rows.{followed_rows}
 use Rattle.tree_laws.proofs.Versions.{versions_stay}
-use Rattle.sync_laws.specs.of_order_laws.Joining.{PacksAreOfSites}
+use Rattle.tree_laws.specs.Orders.Joining.{PacksAreOfSites}
 use Rattle.tree_laws.proofs.CarriedSizes.{begun_size_stays}
 use Rattle.tree_laws.specs.Deltas.{StepsFact}
 use Rattle.tree_laws.specs.Packets.{BegunSize}

@@ -25,7 +25,7 @@ use Rattle.tree_laws.proofs.CarriedLooks.{More}
 use Rattle.tree_laws.proofs.CarriedVersions.{joins_stay}
 use Rattle.tree_laws.proofs.Seeing.{owners_stay}
 use Rattle.tree_laws.proofs.Versions.{versions_stay}
-use Rattle.sync_laws.specs.of_order_laws.Joining.{PacksAreOfSites}
+use Rattle.tree_laws.specs.Orders.Joining.{PacksAreOfSites}
 use Rattle.tree_laws.proofs.CarriedSizes.{begun_size_stays}
 use Rattle.store_laws.proofs.Differing.{steps_stay}
 use Rattle.store_laws.specs.Aside.{IsAside, RecordAside}

@@ -20,20 +20,20 @@ use Rattle.tree_laws.specs.Doing.{FrameFact, StoreHeld}
 use Rattle.tree_laws.specs.Following.{IsFollowed}
 use Rattle.tree_laws.specs.Past.{WasBegun}
 use Rattle.tree_laws.proofs.Rows.{followed_rows}
-use Rattle.user_laws.specs.of_holding_laws.Below.{LawsBelow}
-use Rattle.user_laws.specs.of_holding_laws.Granted.{IsAsGranted as WaitsSo}
-use Rattle.user_laws.specs.of_holding_laws.Held.{StandsOnHeld as StandsSo}
-use Rattle.user_laws.proofs.of_holding_laws.Begun.{waits_as_granted}
-use Rattle.user_laws.proofs.of_holding_laws.Below.{commits_new, packs_hold}
-use Rattle.user_laws.proofs.of_holding_laws.OneVersionFirsts.{open_make_first}
-use Rattle.user_laws.proofs.of_holding_laws.Holding.{sites_hold, stands_on_held}
-use Rattle.user_laws.proofs.of_holding_laws.OneVersionHomes.{home_holds}
-use Rattle.user_laws.proofs.of_holding_laws.Released.{released_shut}
-use Rattle.user_laws.proofs.of_holding_laws.RoomRoom.{room_same}
-use Rattle.work_laws.specs.Working.{Works}
-use Rattle.work_laws.proofs.Working.{trace_works}
-use Rattle.sync_laws.proofs.of_order_laws.Lists.{all_found}
-use Rattle.sync_laws.proofs.Members.{members_name_boots, table_boot}
+use Rattle.store_laws.specs.Holdings.Below.{LawsBelow}
+use Rattle.store_laws.specs.Holdings.Granted.{IsAsGranted as WaitsSo}
+use Rattle.store_laws.specs.Holdings.Held.{StandsOnHeld as StandsSo}
+use Rattle.store_laws.proofs.Holdings.Begun.{waits_as_granted}
+use Rattle.store_laws.proofs.Holdings.Below.{commits_new, packs_hold}
+use Rattle.store_laws.proofs.Holdings.OneVersionFirsts.{open_make_first}
+use Rattle.store_laws.proofs.Holdings.Holding.{sites_hold, stands_on_held}
+use Rattle.store_laws.proofs.Holdings.OneVersionHomes.{home_holds}
+use Rattle.store_laws.proofs.Holdings.Released.{released_shut}
+use Rattle.store_laws.proofs.Holdings.RoomRoom.{room_same}
+use Rattle.store_laws.specs.Works.Working.{Works}
+use Rattle.store_laws.proofs.Works.Working.{trace_works}
+use Rattle.tree_laws.proofs.Orders.Lists.{all_found}
+use Rattle.tree_laws.proofs.Syncs.Members.{members_name_boots, table_boot}
 use Rattle.store_laws.specs.Rests.{IsAsGranted, StandsOnHeld, StoreRests}
 use Rattle.store_laws.specs.StoragePlain.{PlainRests}
 

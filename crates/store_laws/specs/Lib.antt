@@ -2,8 +2,12 @@ pub mod Aside
 pub mod Rests
 pub mod Pulling
 pub mod StoragePlain
-pub use Rattle.sync_laws.specs as of_sync_laws
-pub use Rattle.sync_laws.specs.of_order_laws as of_order_laws
-pub use Rattle.user_laws.specs as of_user_laws
-pub use Rattle.user_laws.specs.of_holding_laws as of_holding_laws
-pub use Rattle.work_laws.specs as of_work_laws
+pub mod Holdings
+pub mod Works
+pub mod Users
+pub mod OneTree
+pub use Rattle.tree_laws.specs as of_tree_laws
+pub use Rattle.stored_versions.specs as of_stored_versions
+pub use Rattle.row_laws.specs as of_row_laws
+pub use Rattle.row_laws.specs.of_site_laws as of_site_laws
+pub use Rattle.row_laws.specs.of_run_laws as of_run_laws

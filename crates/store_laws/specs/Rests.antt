@@ -50,7 +50,7 @@ use Rattle.tree_laws.specs.Following.{MayTell}
 use Rattle.tree_laws.specs.Frames.{AllStay}
 use Rattle.tree_laws.specs.Instances.{held_in, instance_now, IsOpenAt, Stands}
 use Rattle.tree_laws.specs.Past.{WasGranted, WasReleased, WasBegun}
-use Rattle.work_laws.specs.Working.{Works}
+use Rattle.store_laws.specs.Works.Working.{Works}
 
 -- nobody has begun the instance
 abbrev pub IsUnbegun : List Line → EpochId → Serial → Type 0

@@ -22,8 +22,8 @@ ghost use Rattle.tree_laws.specs.Instances.{instance_now};
 ghost use Rattle.tree_laws.specs.Past.{WasDone};
 ghost use Rattle.tree_laws.specs.Printed.{entries};
 ghost use Rattle.tree_laws.specs.Serials.{ops_asked};
-ghost use Rattle.user_laws.specs.of_holding_laws.Below.{LawsBelow};
-ghost use Rattle.user_laws.specs.Rests.{ActRests, CloseRests, LooksStand, OpenRests};
+ghost use Rattle.store_laws.specs.Holdings.Below.{LawsBelow};
+ghost use Rattle.store_laws.specs.Users.Rests.{ActRests, CloseRests, LooksStand, OpenRests};
 
 /// An answer that comes to its site waits for the call that asks for it. An operation that was done under the number that a call of
 /// the site's epoch asks now is what waits for that call; the end of an instance whose close is asked now waits for who asks it; and

@@ -51,7 +51,7 @@ ghost use Rattle.tree_laws.specs.Printed.{entries};
 ghost use Rattle.tree_laws.specs.Instances.{AsksOpen, IsUsed, Stands};
 ghost use Rattle.tree_laws.specs.Past.{WasReleased, WasShut};
 ghost use Rattle.tree_laws.specs.Packets.{CloseFact, NotifyFact, OpFact, OpenSsFact, PacketFact, PageFact, ServeFact};
-ghost use Rattle.sync_laws.specs.of_order_laws.Joining.{PacksAreOfSites};
+ghost use Rattle.tree_laws.specs.Orders.Joining.{PacksAreOfSites};
 ghost use Rattle.store_laws.specs.Rests.{AdoptRests, AllStays, MayWrite, MendsAs, OpRests, StoreRests, UnspentTold};
 
 /// What a storage site has by the trace stays when a line is told that isn't of its storage, neither of its instances nor an adoption: its disk holds what the site holds

@@ -25,7 +25,7 @@ ghost use Rattle.tree_model.specs.declared.accepted.Waiting.{Waiting};
 ghost use Rattle.tree_model.specs.declared.instance.Instance.{Instance};
 ghost use Rattle.tree_model.specs.Calls.{call_named, opening_of};
 ghost use Rattle.tree_model.specs.Opening.{site_named};
-ghost use Rattle.sync_laws.specs.Opening.{IsPlainOpening};
+ghost use Rattle.tree_laws.specs.Syncs.Opening.{IsPlainOpening};
 ghost use Rattle.tree_laws.specs.Calls.{log};
 ghost use Rattle.tree_laws.specs.Instances.{AsksOpen, instance_now};
 ghost use Rattle.tree_laws.specs.Following.{IsFollowed};
@@ -34,7 +34,7 @@ ghost use Rattle.tree_laws.specs.Printed.{entries};
 ghost use Rattle.tree_laws.specs.Serials.{asked_now};
 ghost use Rattle.tree_laws.specs.Users.{taken_whole};
 ghost use Rattle.role_steps.specs.Using.{last_opened, mode_asked, no_serial};
-ghost use Rattle.user_laws.specs.Rests.{HasTaken, IsOpenedAs, IsReadAgain, gives_now};
+ghost use Rattle.store_laws.specs.Users.Rests.{HasTaken, IsOpenedAs, IsReadAgain, gives_now};
 
 /// Where each told line comes as it may, whole contents are looked at by mends alone, of the versions that were kept when they opened
 /// their directory, one after another; and each such look was served the version that it asked.

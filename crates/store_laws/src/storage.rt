@@ -22,7 +22,7 @@ ghost use Rattle.the_run.specs.Worlds.{Line};
 ghost use Rattle.tree_laws.specs.Doing.{FrameFact, StoreFine, StoreHeld};
 ghost use Rattle.tree_laws.specs.Following.{IsFollowed};
 ghost use Rattle.tree_laws.specs.Packets.{OpFact};
-ghost use Rattle.user_laws.specs.of_holding_laws.Below.{LawsBelow};
+ghost use Rattle.store_laws.specs.Holdings.Below.{LawsBelow};
 ghost use Rattle.store_laws.specs.Rests.{AllStays, MayWrite, MendsAs, OpRests, StoreRests, UnspentTold};
 ghost use Rattle.store_laws.specs.StoragePlain.{PlainRests};
 

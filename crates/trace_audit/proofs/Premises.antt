@@ -17,13 +17,13 @@ use Rattle.past_laws.proofs.CallsLists.{each_found}
 use Rattle.past_laws.proofs.Changing.{any_finds, Finds}
 use Rattle.past_laws.proofs.Finding.{found_only}
 use Rattle.past_laws.proofs.Names.{false_true}
-use Rattle.tidy_laws.specs.Tidy.{IsTidy}
-use Rattle.tidy_laws.specs.Users.{HasTurns}
-use Rattle.tidy_laws.proofs.Acting.{few_act, few_end}
-use Rattle.tidy_laws.proofs.Lists.{each_first}
-use Rattle.tidy_laws.proofs.Steps.{grants_unopened_there}
-use Rattle.tidy_laws.proofs.TiesParts.{epoch_id}
-use Rattle.tidy_laws.proofs.TurnsNext.{TurnsStand}
+use Rattle.audit_laws.specs.Tidy.Tidy.{IsTidy}
+use Rattle.audit_laws.specs.Tidy.Users.{HasTurns}
+use Rattle.audit_laws.proofs.Tidy.Acting.{few_act, few_end}
+use Rattle.audit_laws.proofs.Tidy.Lists.{each_first}
+use Rattle.audit_laws.proofs.Tidy.Steps.{grants_unopened_there}
+use Rattle.audit_laws.proofs.Tidy.TiesParts.{epoch_id}
+use Rattle.audit_laws.proofs.Tidy.TurnsNext.{TurnsStand}
 use Rattle.audit_rows.specs.of_audit_told_calls.of_audit_epochs.Places.{has_open}
 
 -- no two calls end one instance

@@ -5,8 +5,8 @@ use Rattle.locus_ids.specs.declared.ids.EpochId.{EpochId}
 use Rattle.locus_ids.specs.declared.ids.FileId.{FileId}
 use Rattle.locus_ids.specs.declared.ids.Serial.{Serial}
 use Rattle.promises.specs.Past.{Past, epoch_at, is_named}
-use Rattle.tidy_laws.specs.Tidy.{IsTidy}
-use Rattle.tidy_laws.specs.Steps.{OneAct, OneCommit, OneEnd}
+use Rattle.audit_laws.specs.Tidy.Tidy.{IsTidy}
+use Rattle.audit_laws.specs.Tidy.Steps.{OneAct, OneCommit, OneEnd}
 use Rattle.audit_rows.specs.of_audit_told_calls.of_audit_past.Writing.{IsActor, IsEnder, IsOpen, IsWritten}
 
 alone : {X : Type 0} (xs : List X) (x : X) → xs ≡ x ∷ [] → length xs ≤ 1

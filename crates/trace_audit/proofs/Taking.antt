@@ -6,8 +6,8 @@ use Rattle.trace_book.specs.declared.record.Record.{Record}
 use Rattle.promises.specs.Past.{Past}
 use Rattle.promises.specs.After.{after}
 use Rattle.promises.specs.Rows.{may_follow}
-use Rattle.tidy_laws.specs.Tidy.{IsTidy}
-use Rattle.tidy_laws.proofs.Tidy.{tidy_next}
+use Rattle.audit_laws.specs.Tidy.Tidy.{IsTidy}
+use Rattle.audit_laws.proofs.Tidy.Tidy.{tidy_next}
 use Rattle.audit_rules.specs.Meant.{meant}
 use Rattle.audit_rules.specs.Consistent.{Audited, audited, Broken}
 use Rattle.audit_rules.specs.Turns.{is_in_turn}

@@ -24,8 +24,8 @@ use Rattle.plain_facts.proofs.Tests.{and_true}
 use Rattle.past_laws.proofs.BackActs.{kind_back}
 use Rattle.past_laws.proofs.BackSame.{refusal_back}
 use Rattle.past_laws.proofs.Names.{both_parts, false_true, none_some, number_eq, some_same, stamp_eq}
-use Rattle.tidy_laws.specs.Steps.{OneEnd}
-use Rattle.tidy_laws.proofs.TiesParts.{epoch_id}
+use Rattle.audit_laws.specs.Tidy.Steps.{OneEnd}
+use Rattle.audit_laws.proofs.Tidy.TiesParts.{epoch_id}
 use Rattle.audit_rules.specs.Turns.{is_in_turn}
 use Rattle.audit_tree.specs.Acting.{acted_on}
 use Rattle.audit_tree.specs.Adding.{acted_with, added_on}

@@ -2,7 +2,7 @@
 use Rattle.std.specs.Prelude.{ℕ, ◌≡◌, Bool, true, cond}
 use Rattle.locus_ids.specs.declared.config.Config.{Config}
 use Rattle.promises.specs.Past.{Past}
-use Rattle.tidy_laws.specs.Tidy.{IsTidy}
+use Rattle.audit_laws.specs.Tidy.Tidy.{IsTidy}
 use Rattle.audit_rules.specs.Consistent.{Audited, Sound, Broken}
 use Rattle.trace_audit.specs.declared.verdict.Verdict.{Verdict}
 use Rattle.trace_audit.specs.declared.verdict.Verdict.TheVariants as says

@@ -1,6 +1,6 @@
 ghost use Rattle.std.specs.Prelude.{IfOk};
 ghost use Rattle.trace_book.specs.declared.record.Record.TheVariants as rec;
-ghost use Rattle.tidy_laws.specs.Tidy.{IsTidy};
+ghost use Rattle.audit_laws.specs.Tidy.Tidy.{IsTidy};
 ghost use Rattle.trace_audit.specs.Steps.{Judges};
 
 use audit_rows::{CallTold, LookTold, Replied, Told, may_answer, may_call, may_look};

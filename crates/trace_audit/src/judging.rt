@@ -1,5 +1,5 @@
 ghost use Rattle.std.specs.Prelude.{IfOk};
-ghost use Rattle.tidy_laws.specs.Tidy.{IsTidy};
+ghost use Rattle.audit_laws.specs.Tidy.Tidy.{IsTidy};
 ghost use Rattle.audit_rules.specs.Meant.{meant};
 ghost use Rattle.trace_audit.specs.Steps.{Judges};
 

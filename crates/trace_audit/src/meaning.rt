@@ -1,5 +1,5 @@
 ghost use Rattle.std.specs.Prelude.{◌≡◌, OnOk};
-ghost use Rattle.tidy_laws.specs.Tidy.{IsTidy};
+ghost use Rattle.audit_laws.specs.Tidy.Tidy.{IsTidy};
 ghost use Rattle.audit_rules.specs.Meant.{meant};
 
 use audit_rows::{Told, look_meant, reply_meant};

@@ -1,7 +1,7 @@
 // A record is judged by what is known of its kind. What is kept of it is taken out of it.
 ghost use Rattle.std.specs.Prelude.{◌≡◌, IfOk};
 ghost use Rattle.locus_ids.specs.declared.config.Config.{Config};
-ghost use Rattle.tidy_laws.specs.Tidy.{IsTidy};
+ghost use Rattle.audit_laws.specs.Tidy.Tidy.{IsTidy};
 ghost use Rattle.trace_audit.specs.Kinds.{kind_of};
 ghost use Rattle.trace_audit.specs.Steps.{Judges};
 ghost use Rattle.trace_audit.specs.declared.kinds.RecordKind.TheVariants.{OfCall, OfCommit, OfGrant, OfLook, OfNothing, OfOperation, OfRefusal, OfRelease, OfSite};

@@ -2,7 +2,7 @@ ghost use Rattle.std.specs.Prelude.{ℕ, IfOk};
 ghost use Rattle.locus_ids.specs.declared.config.Config.{Config};
 ghost use Rattle.trace_book.specs.declared.packet_kind.PacketKind.{PacketKind};
 ghost use Rattle.trace_book.specs.declared.record.Record.TheVariants as rec;
-ghost use Rattle.tidy_laws.specs.Tidy.{IsTidy};
+ghost use Rattle.audit_laws.specs.Tidy.Tidy.{IsTidy};
 ghost use Rattle.trace_audit.specs.Steps.{Judges};
 
 use audit_rows::{Told, may_adopt, may_boot, may_join, may_leave, may_start, may_stop};

@@ -7,7 +7,7 @@ ghost use Rattle.tree_model.specs.Same.{is_given};
 ghost use Rattle.promises.specs.Past.{CallSoFar, Epoch, Instance, ends, is_named};
 ghost use Rattle.promises.specs.After.{is_epoch};
 ghost use Rattle.promises.specs.Rows.{may_commit};
-ghost use Rattle.tidy_laws.specs.Tidy.{IsTidy};
+ghost use Rattle.audit_laws.specs.Tidy.Tidy.{IsTidy};
 ghost use Rattle.audit_rows.specs.of_audit_told_calls.Once.{OneEach};
 ghost use Rattle.trace_audit.specs.Steps.{Judges};
 

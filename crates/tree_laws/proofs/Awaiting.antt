@@ -30,10 +30,10 @@ use Rattle.call_rules.specs.declared.answer.Answer.{Answer}
 use Rattle.call_rules.specs.declared.answer.Answer.TheVariants as answer
 use Rattle.call_rules.specs.declared.want.Want.{Want}
 use Rattle.call_rules.specs.declared.want.Want.TheVariants as want
-use Rattle.lawful_trace.specs.of_tree_model.of_dir_format.declared.looking.LookResult.{LookResult}
-use Rattle.lawful_trace.specs.of_tree_model.of_dir_format.declared.looking.LookResult.TheVariants as looked
-use Rattle.lawful_trace.specs.of_tree_model.of_dir_format.Contents.{entries_of}
-use Rattle.lawful_trace.specs.of_tree_model.of_dir_format.Lookups.{lookup}
+use Rattle.lawful_trace.specs.of_dir_format.declared.looking.LookResult.{LookResult}
+use Rattle.lawful_trace.specs.of_dir_format.declared.looking.LookResult.TheVariants as looked
+use Rattle.lawful_trace.specs.of_dir_format.Contents.{entries_of}
+use Rattle.lawful_trace.specs.of_dir_format.Lookups.{lookup}
 use Rattle.the_run.specs.of_role_steps.Views.{Told, Shown, Promises, Takes, LooksAgain, Begins, Shuts, Reserves}
 use Rattle.the_run.specs.Worlds.{Line}
 use Rattle.lawful_trace.specs.of_tree_model.declared.instance.Instance.{Instance}

@@ -11,7 +11,7 @@ use Rattle.locus_ids.specs.declared.ids.Serial.{Serial}
 use Rattle.locus_ids.specs.declared.ids.Stamp.{Stamp}
 use Rattle.commit_graph.specs.Versions.{same_file, same_stamp}
 use Rattle.commit_graph.specs.declared.history.Version.{Version}
-use Rattle.lawful_trace.specs.of_tree_model.of_file_effects.declared.work.Work.{Work}
+use Rattle.lawful_trace.specs.of_file_effects.declared.work.Work.{Work}
 use Rattle.trace_book.specs.declared.operation.Op.{Op}
 use Rattle.trace_book.specs.declared.record.Record.{Record}
 use Rattle.trace_book.specs.declared.record.Record.TheVariants as says

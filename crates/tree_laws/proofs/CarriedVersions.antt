@@ -1,6 +1,6 @@
 -- What packets carry of versions stays when a line is added, as far as the order of versions gives it.
 use Rattle.std.proofs.Common.{◌≡◌, ℕ, max, List, [], ◌∷◌, length, Option, Some, None, sym, ◌∙◌, ap, subst, ◌⊎◌, inl, inr}
-use Rattle.lawful_trace.specs.of_tree_model.of_version_vector.Counters.{part}
+use Rattle.version_vector.specs.Counters.{part}
 use Rattle.locus_ids.specs.declared.config.Config.{Config}
 use Rattle.locus_ids.specs.declared.ids.EpochId.{EpochId}
 use Rattle.locus_ids.specs.declared.ids.FileId.{FileId}

@@ -45,7 +45,9 @@ pub mod Awaiting
 pub mod OfOwn
 pub mod Stepping
 pub mod Mending
-pub use Rattle.cache_laws.proofs as of_cache_laws
+pub mod Caches
+pub mod Orders
+pub mod Syncs
 pub use Rattle.lawful_trace.proofs as of_lawful_trace
 pub use Rattle.the_run.proofs as of_the_run
 pub use Rattle.the_run.proofs.of_plain_facts as of_plain_facts

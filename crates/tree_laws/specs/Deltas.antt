@@ -7,7 +7,7 @@ use Rattle.locus_ids.specs.declared.ids.FileId.{FileId}
 use Rattle.locus_ids.specs.declared.ids.Stamp.{Stamp}
 use Rattle.commit_graph.specs.Versions.{content_of}
 use Rattle.commit_graph.specs.Vectors.{vector_of}
-use Rattle.lawful_trace.specs.of_tree_model.of_file_content.Pages.{page_of, pages_from, pages_of}
+use Rattle.tree_model.specs.of_file_content.Pages.{page_of, pages_from, pages_of}
 use Rattle.lawful_trace.specs.of_tree_model.Epochs.{has_joined}
 use Rattle.lawful_trace.specs.of_tree_model.Files.{HeldVersion, held_version}
 use Rattle.lawful_trace.specs.of_tree_model.Histories.{history}

@@ -16,7 +16,7 @@ use Rattle.the_run.specs.Worlds.{Line, told_onto}
 use Rattle.lawful_trace.specs.of_tree_model.Epochs.{boot_of, epoch_of, is_up, members_of}
 use Rattle.lawful_trace.specs.of_tree_model.Folds.{Trace}
 use Rattle.lawful_trace.specs.of_tree_model.Files.{committing}
-use Rattle.lawful_trace.specs.of_tree_model.of_file_content.Pages.{pages_of, pages_from, has_page}
+use Rattle.tree_model.specs.of_file_content.Pages.{pages_of, pages_from, has_page}
 use Rattle.lawful_trace.specs.Disks.{pages_held, pages_now, writing_commit}
 use Rattle.tree_laws.specs.Printed.{entries}
 use Rattle.tree_laws.specs.Past.{WasBegun}

@@ -13,7 +13,9 @@ pub mod Frames
 pub mod Processes
 pub mod Holding
 pub mod Doing
-pub use Rattle.cache_laws.specs as of_cache_laws
+pub mod Caches
+pub mod Orders
+pub mod Syncs
 pub use Rattle.lawful_trace.specs as of_lawful_trace
 pub use Rattle.the_run.specs as of_the_run
 pub use Rattle.the_run.specs.of_role_steps as of_role_steps

@@ -17,10 +17,10 @@ use Rattle.locus_ids.specs.declared.ids.Stamp.{Stamp}
 use Rattle.locus_ids.specs.declared.refusal.Refusal.{Refusal}
 use Rattle.locus_ids.specs.declared.refusal.Refusal.TheVariants as refusal
 use Rattle.locus_ids.specs.Sizes.{sites_max}
-use Rattle.lawful_trace.specs.of_tree_model.of_version_vector.Counters.{part}
+use Rattle.version_vector.specs.Counters.{part}
 use Rattle.commit_graph.specs.Versions.{content_of}
 use Rattle.commit_graph.specs.Vectors.{vector_of}
-use Rattle.lawful_trace.specs.of_tree_model.of_file_content.Pages.{page_of}
+use Rattle.tree_model.specs.of_file_content.Pages.{page_of}
 use Rattle.trace_book.specs.declared.operation.Op.{Op}
 use Rattle.trace_book.specs.declared.operation.Op.TheVariants as op
 use Rattle.trace_book.specs.declared.operation.Outcome.{Outcome}
@@ -45,7 +45,7 @@ use Rattle.the_run.specs.of_wire_messages.declared.body.Opening.{Opening}
 use Rattle.the_run.specs.of_wire_messages.declared.body.Opening.TheVariants as how
 use Rattle.the_run.specs.of_wire_messages.declared.body.ReportedCopy.{ReportedCopy}
 use Rattle.the_run.specs.of_wire_messages.declared.packet.Packet.{Packet}
-use Rattle.the_run.specs.of_role_steps.of_dir_format.Entries.{nothing_seen}
+use Rattle.dir_format.specs.Entries.{nothing_seen}
 use Rattle.the_run.specs.of_role_steps.Opens.{stamp_or_none}
 use Rattle.the_run.specs.of_role_steps.Own.{Every}
 use Rattle.the_run.specs.of_role_steps.Reports.{stamp_made}

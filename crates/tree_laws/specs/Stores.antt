@@ -15,8 +15,8 @@ use Rattle.trace_book.specs.declared.operation.Op.{Op}
 use Rattle.trace_book.specs.declared.operation.Outcome.{Outcome}
 use Rattle.the_run.specs.of_wire_messages.declared.body.CloseAnswer.{CloseAnswer}
 use Rattle.the_run.specs.of_wire_messages.declared.body.MadeVersion.{MadeVersion}
-use Rattle.lawful_trace.specs.of_tree_model.of_file_content.Pages.{page_of, pages_of}
-use Rattle.lawful_trace.specs.of_tree_model.of_file_effects.Works.{begun}
+use Rattle.tree_model.specs.of_file_content.Pages.{page_of, pages_of}
+use Rattle.lawful_trace.specs.of_file_effects.Works.{begun}
 use Rattle.the_run.specs.of_role_steps.Own.{Every}
 use Rattle.the_run.specs.of_role_steps.Pulling.{ascend_from, pages_got, wanted_pages}
 use Rattle.the_run.specs.of_role_steps.Reports.{stamp_made}

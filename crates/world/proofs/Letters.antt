@@ -205,6 +205,13 @@ arrive_shown n k p x y z is ec ep ek eb h u c taken w o e sh =
     let step : Shows c taken (arrives_at c n u.packet (place_at w u.packet.to) (passed k w)) z = subst (λ (q : Packet). Shows c taken (arrives_at c n q (place_at w q.to) (passed k w)) z) packet got in
     subst (λ (j : ℕ). Shows c taken (arrives_at c n u.packet (place_at w u.packet.to) (passed j w)) z) (sym number) step
 
+-- one that wasn't sent doesn't arrive
+pub arrive_unsent : (n k : ℕ) (x : WorldState) → is_sent k x.book.post ≡ false → (u : Numbered) (c : Config) (taken : Taken) (w : World) → w.over ≡ None → packet_at w k ≡ Some u → Shows c taken w x → Shows c taken (arrives c n u w) x
+arrive_unsent n k x no u c taken w o e sh =
+    let there : sent_at k x.book.post ≡ Some u = sym (packet_same c taken w x o sh k) ∙ e in
+    let yes : is_sent k x.book.post ≡ true = ap is_some there in
+    absurd (cc)
+
 -- the fault of a packet that arrives
 pub arrive_wants : (k : ℕ) (p : Packet) (x y : WorldState) (fault : WorldFault) → Some p ≡ packet_in (sent_at k x.book.post) → y.config ≡ x.config → y.places ≡ x.places → y.circuits ≡ x.circuits → y.book ≡ record x.book { post = passes k x.book.post } → WantsMemory (λ c w. CanHappen c p.to (Receives p) w) y fault
     → (u : Numbered) → WantsMemoryWithin (λ c w. (packet_at w k ≡ Some u) × CanHappen c u.packet.to (Receives u.packet) w) x fault

@@ -7,10 +7,10 @@ use Rattle.schedule_lines.specs.declared.line.ScheduleLine.TheVariants.{Event}
 use Rattle.the_run.specs.Worlds.{World, first_world}
 use Rattle.the_run.specs.Runs.{act, run_in}
 use Rattle.the_run.proofs.Growing.{run_splits}
-use Rattle.copy_laws.specs.Hold.{VersionsStand}
-use Rattle.copy_laws.proofs.Hold.{run_versions}
+use Rattle.rest_laws.specs.CopiesKept.Hold.{VersionsStand}
+use Rattle.rest_laws.proofs.CopiesKept.Hold.{run_versions}
 use Rattle.complete_laws.specs.of_row_laws.Voids.{LinesFit}
-use Rattle.complete_laws.specs.of_order_laws.Joining.{PacksAreOfSites}
+use Rattle.complete_laws.specs.of_tree_laws.Orders.Joining.{PacksAreOfSites}
 use Rattle.complete_laws.specs.Lines.{CanDo}
 use Rattle.complete_laws.proofs.Lines.{can_do}
 use Rattle.world.specs.States.{WorldState}

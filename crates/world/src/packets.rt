@@ -127,9 +127,13 @@ impl World {
         ensures step { OnOk result ((x : Numbered) (c : Config) (taken : Taken) (w : RunWorld) → w.over ≡ None → packet_at w number ≡ Some x → Shows c taken w (state_of self.old) → Shows c taken (arrives c line x w) (state_of self.new)) }
         ensures fit { IfErr result (λ fault. (x : Numbered) → WantsMemoryWithin (λ c w. (packet_at w number ≡ Some x) × CanHappen c x.packet.to (Receives x.packet) w) (state_of self.old) fault) }
     {
-        let found = self.book.mail().packet(self.alloc, number)?;
-        let Some(packet) = found else {
+        let mail = self.book.mail();
+        if !mail.is_sent(number) {
             return Ok(());
+        }
+        // What was sent is a packet: only memory may be wanting.
+        let Ok(packet) = mail.packet(self.alloc, number) else {
+            return Err(WorldFault::NoMemory);
         };
         self.book.pass(number);
         self.hand_over(line, packet)?;

@@ -13,10 +13,10 @@ ghost use Rattle.world.specs.Shown.{Taken, nothing_taken, all_taken, Shows, Foll
 ghost use Rattle.std.specs.List.{AllByRecursion};
 ghost use Rattle.packet_order.specs.Counts.{FitsIfCounted};
 ghost use Rattle.complete_laws.specs.of_row_laws.Voids.{LinesFit};
-ghost use Rattle.complete_laws.specs.of_order_laws.Joining.{PacksAreOfSites};
+ghost use Rattle.complete_laws.specs.of_tree_laws.Orders.Joining.{PacksAreOfSites};
 ghost use Rattle.world.specs.Faults.{MayCome};
-ghost use Rattle.copy_laws.specs.Contents.{CopiesHaveContents};
-ghost use Rattle.copy_laws.specs.Hold.{VersionsStand};
+ghost use Rattle.rest_laws.specs.CopiesKept.Contents.{CopiesHaveContents};
+ghost use Rattle.rest_laws.specs.CopiesKept.Hold.{VersionsStand};
 
 use crate::WorldFault;
 use crate::open::OpenCircuits;

@@ -4,8 +4,8 @@ use Rattle.schedule_lines.specs.Cluster.{config_of}
 use Rattle.the_run.specs.Runs.{run}
 use Rattle.row_laws.specs.Shown.{trace_of}
 use Rattle.row_laws.proofs.Fitting.{schedule_fits}
-use Rattle.few_kept_laws.proofs.of_rest_laws.Packs.{schedule_packs}
-use Rattle.few_kept_laws.proofs.of_rest_laws.StoreStepFirst.{four_groups}
+use Rattle.text_laws.proofs.of_rest_laws.Packs.{schedule_packs}
+use Rattle.text_laws.proofs.of_rest_laws.StoreStepFirst.{four_groups}
 use Rattle.audit_answers.specs.Answers.{is_broken}
 use Rattle.audited_runs.proofs.EveryRun.{run_known}
 use Rattle.audited_runs.proofs.Texts.{run_texts}

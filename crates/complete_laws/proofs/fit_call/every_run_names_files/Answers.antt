@@ -1,6 +1,6 @@
 use Rattle.the_run.specs.Runs.{run_in}
-use Rattle.calm_laws.proofs.of_fit_laws.Tables.{past_of_run}
-use Rattle.calm_laws.proofs.of_fit_laws.EntryOpen.{instances_name, versions_name}
+use Rattle.calm_laws.proofs.of_rest_laws.Fits.Tables.{past_of_run}
+use Rattle.calm_laws.proofs.of_rest_laws.Fits.EntryOpen.{instances_name, versions_name}
 use Rattle.complete_laws.proofs.fit_call.every_run_names_files.Goals as goal
 
 pub returns : goal.returns

@@ -1,8 +1,8 @@
 use Rattle.std.proofs.Common.{ℕ, Err, ap, refl, ◌∙◌, inl, inr}
 use Rattle.std.proofs.lemmas.Bool.{false≢true}
 use Rattle.the_run.specs.Runs.{run}
-use Rattle.audited_runs.specs.of_headline_promise_laws.of_headline_laws.TheRun.{TheRun}
-use Rattle.audited_runs.proofs.of_headline_promise_laws.of_headline_laws.Whole.{the_run}
+use Rattle.audited_runs.specs.of_headline_laws.TheRun.{TheRun}
+use Rattle.audited_runs.proofs.of_headline_laws.Whole.{the_run}
 use Rattle.locus_main.proofs.Keeps.{keeps_all, command_runs}
 use Rattle.the_run.specs.Commands.{load_lines, load_text}
 use Rattle.generated_load.specs.Draws.{draws_of}

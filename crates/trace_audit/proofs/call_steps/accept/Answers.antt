@@ -1,7 +1,7 @@
 -- A call that may come next is the next of its site, and is told.
 use Rattle.std.proofs.Common.{refl, sym, ◌∙◌}
 use Rattle.trace_book.specs.declared.record.Record.TheVariants as rec
-use Rattle.tidy_laws.proofs.Steps.{accepts_next}
+use Rattle.audit_laws.proofs.Tidy.Steps.{accepts_next}
 use Rattle.trace_audit.proofs.TreeSteps.{may_so}
 use Rattle.trace_audit.proofs.call_steps.accept.Goals as goal
 

@@ -1,6 +1,6 @@
 -- A commit that may come next has its writer.
 use Rattle.std.proofs.Common.{sym, ◌∙◌}
-use Rattle.tidy_laws.proofs.Makings.{commits_one}
+use Rattle.audit_laws.proofs.Tidy.Makings.{commits_one}
 use Rattle.trace_audit.proofs.Standing.{is_written}
 use Rattle.trace_audit.proofs.tree_steps.commit.Goals as goal
 

@@ -3,7 +3,7 @@ use Rattle.std.proofs.Common.{refl, sym, subst, ◌∙◌}
 use Rattle.locus_ids.specs.declared.ids.CallId.{CallId}
 use Rattle.trace_book.specs.declared.record.Record.TheVariants as rec
 use Rattle.audit_rows.specs.of_audit_told_calls.of_audit_past.Writing.{IsEnder}
-use Rattle.tidy_laws.proofs.Steps.{ends_one}
+use Rattle.audit_laws.proofs.Tidy.Steps.{ends_one}
 use Rattle.trace_audit.proofs.Premises.{ends_once}
 use Rattle.trace_audit.proofs.Standing.{end_ender, end_open}
 use Rattle.trace_audit.proofs.TreeSteps.{ender_so, ender_there, may_so}

@@ -1,5 +1,5 @@
 use Rattle.std.proofs.Common.{[], ◌∷◌, ◌++◌, refl, sym, ◌∙◌}
-use Rattle.copy_laws.proofs.Contents.{run_contents}
+use Rattle.rest_laws.proofs.CopiesKept.Contents.{run_contents}
 use Rattle.schedule_lines.specs.declared.line.ScheduleLine.TheVariants.{Event}
 use Rattle.the_run.specs.Runs.{act}
 use Rattle.world.specs.States.{state_of}

@@ -1,5 +1,0 @@
-use Rattle.call_text_laws.proofs.Scripts.{wants_text}
-use Rattle.call_text_laws.proofs.laws.calls_want_texts.Goals as goal
-
-pub returns : goal.returns
-returns g mounts packed free process words begins answers m f w b h = wants_text mounts packed free process words begins answers m f w b h

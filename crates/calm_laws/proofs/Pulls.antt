@@ -1,0 +1,4 @@
+pub mod Ascending
+pub mod Under
+pub mod Falling
+pub mod Served

@@ -1,0 +1,11 @@
+pub mod Answerless
+pub mod Closing
+pub mod Tables
+pub mod Reporting
+pub mod Users
+pub mod Views
+pub mod Sites
+pub mod Forming
+pub mod Steps
+pub mod Lasting
+pub mod Run

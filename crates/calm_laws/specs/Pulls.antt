@@ -1,0 +1,3 @@
+pub mod Pulls
+pub mod Known
+pub mod Held

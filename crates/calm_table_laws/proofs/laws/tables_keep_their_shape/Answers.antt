@@ -1,5 +1,0 @@
-use Rattle.calm_table_laws.proofs.ShapesRun.{run_shaped}
-use Rattle.calm_table_laws.proofs.laws.tables_keep_their_shape.Goals as goal
-
-pub returns : goal.returns
-returns c = λ config lines. run_shaped config lines

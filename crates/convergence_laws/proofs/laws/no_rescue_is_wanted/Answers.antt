@@ -1,6 +1,0 @@
-use Rattle.calm_laws.proofs.CalmAnswerAnswered.{calm_left}
-use Rattle.convergence_laws.proofs.DirectoriesRescued.{rescued_in_three}
-use Rattle.convergence_laws.proofs.laws.no_rescue_is_wanted.Goals as goal
-
-pub returns : goal.returns
-returns c = λ config. rescued_in_three config (calm_left config)

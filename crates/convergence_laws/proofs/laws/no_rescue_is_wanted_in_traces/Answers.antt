@@ -1,8 +1,0 @@
-use Rattle.schedule_lines.specs.Cluster.{config_of}
-use Rattle.calm_laws.proofs.CalmAnswerAnswered.{calm_left}
-use Rattle.convergence_laws.proofs.DirectoriesRescued.{rescued_in_three}
-use Rattle.convergence_laws.proofs.TraceRescued.{rescue_by_trace}
-use Rattle.convergence_laws.proofs.laws.no_rescue_is_wanted_in_traces.Goals as goal
-
-pub returns : goal.returns
-returns c = λ lines order within. rescue_by_trace lines order within (calm_left (config_of lines)) (rescued_in_three (config_of lines) (calm_left (config_of lines)))

@@ -1,9 +1,0 @@
-use Rattle.convergence_laws.proofs.Rested.{rested_in_order, rested_within, is_rested}
-use Rattle.convergence_laws.proofs.laws.some_files_are_at_rest.Goals as goal
-
-pub returns : goal.returns
-returns c = record {
-  in_order = rested_in_order;
-  within = rested_within;
-  rested = is_rested;
-}

@@ -1,6 +1,0 @@
-use Rattle.calm_laws.proofs.CalmAnswerAnswered.{calm_left}
-use Rattle.convergence_laws.proofs.DirectoriesRescued.{rescued}
-use Rattle.convergence_laws.proofs.laws.undisturbed_directories_want_no_rescue.Goals as goal
-
-pub returns : goal.returns
-returns c = λ config. rescued config (calm_left config)

@@ -1,5 +1,0 @@
-use Rattle.copy_laws.proofs.Hold.{run_versions_and_copies}
-use Rattle.copy_laws.proofs.laws.versions_and_copies_hold.Goals as goal
-
-pub returns : goal.returns
-returns c = λ config lines fit packs few. run_versions_and_copies config lines fit packs few

@@ -1,5 +1,0 @@
-use Rattle.fit_laws.proofs.EntryOpen.{inserter_made}
-use Rattle.fit_laws.proofs.entry.who_inserts_has_made.Goals as goal
-
-pub returns : goal.returns
-returns c = inserter_made

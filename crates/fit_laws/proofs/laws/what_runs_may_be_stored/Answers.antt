@@ -1,5 +1,0 @@
-use Rattle.fit_laws.proofs.Running.{run_storable}
-use Rattle.fit_laws.proofs.laws.what_runs_may_be_stored.Goals as goal
-
-pub returns : goal.returns
-returns c = λ config lines fit packs few s v e here inside. run_storable config lines fit packs few s v e here inside

@@ -1,0 +1,13 @@
+pub mod Traced
+pub mod Writing
+pub mod Placed
+pub mod Stepping
+pub mod Versions
+pub mod Boots
+pub mod Agreeing
+pub mod Events
+pub mod Course
+pub mod Armed
+pub mod Sampled
+pub mod Lawful
+pub mod Early

@@ -1,0 +1,13 @@
+pub mod Disks
+pub mod Rounds
+pub mod CutGates
+pub mod CutDisks
+pub mod CutBoots
+pub mod CutWrites
+pub mod CutPlaced
+pub mod CutShaped
+pub mod CutTraced
+pub mod CutEvents
+pub mod CutLines
+pub mod CutCourse
+pub mod CutRun

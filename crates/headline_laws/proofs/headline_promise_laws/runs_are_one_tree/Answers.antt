@@ -1,0 +1,9 @@
+use Rattle.schedule_lines.specs.Cluster.{config_of}
+use Rattle.the_run.specs.Runs.{run}
+use Rattle.row_laws.specs.Shown.{trace_of}
+use Rattle.past_laws.proofs.Agreeing.{one_tree}
+use Rattle.headline_laws.proofs.HeadlinePromises.Comes.{run_comes_so, run_is_named}
+use Rattle.headline_laws.proofs.headline_promise_laws.runs_are_one_tree.Goals as goal
+
+pub returns : goal.returns
+returns c lines order = one_tree (config_of lines) (run_is_named lines order) (trace_of (run lines)) (run_comes_so lines order)

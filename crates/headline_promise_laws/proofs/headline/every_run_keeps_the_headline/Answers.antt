@@ -1,5 +1,0 @@
-use Rattle.headline_promise_laws.proofs.Headlines.{run_keeps_headline}
-use Rattle.headline_promise_laws.proofs.headline.every_run_keeps_the_headline.Goals as goal
-
-pub returns : goal.returns
-returns c lines order = run_keeps_headline lines order

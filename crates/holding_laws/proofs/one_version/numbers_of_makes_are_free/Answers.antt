@@ -1,5 +1,0 @@
-use Rattle.holding_laws.proofs.OneVersionMakes.{free_number}
-use Rattle.holding_laws.proofs.one_version.numbers_of_makes_are_free.Goals as goal
-
-pub returns : goal.returns
-returns c = λ config trace followed packs ss e i f begun unnamed. free_number config trace packs followed ss e i f begun unnamed

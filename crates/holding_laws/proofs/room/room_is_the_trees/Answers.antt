@@ -1,5 +1,0 @@
-use Rattle.holding_laws.proofs.RoomRoom.{room_same}
-use Rattle.holding_laws.proofs.room.room_is_the_trees.Goals as goal
-
-pub returns : goal.returns
-returns c = λ config trace f s followed rests frame store group. room_same config trace f s followed rests frame store group

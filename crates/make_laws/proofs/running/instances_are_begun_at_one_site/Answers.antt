@@ -1,5 +1,0 @@
-use Rattle.make_laws.proofs.RunningOneSite.{run_one_site}
-use Rattle.make_laws.proofs.running.instances_are_begun_at_one_site.Goals as goal
-
-pub returns : goal.returns
-returns c = λ config lines. run_one_site config lines

@@ -1,5 +1,0 @@
-use Rattle.make_laws.proofs.RunningRunTold.{run_instances}
-use Rattle.make_laws.proofs.running.instances_run.Goals as goal
-
-pub returns : goal.returns
-returns c = λ config lines. run_instances config lines

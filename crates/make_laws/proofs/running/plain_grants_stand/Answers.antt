@@ -1,5 +1,0 @@
-use Rattle.make_laws.proofs.RunningRefusals.{run_plain_grants}
-use Rattle.make_laws.proofs.running.plain_grants_stand.Goals as goal
-
-pub returns : goal.returns
-returns c = λ config lines. run_plain_grants config lines

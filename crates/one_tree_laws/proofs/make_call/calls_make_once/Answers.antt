@@ -1,8 +1,0 @@
-use Rattle.one_tree_laws.proofs.MakeCallOnce.{calls_make_once, one_make}
-use Rattle.one_tree_laws.proofs.make_call.calls_make_once.Goals as goal
-
-pub returns : goal.returns
-returns c = record {
-  asked = λ config trace h e d i j group set was asks. one_make config trace h e d i j group set was asks;
-  begun = λ config trace h e d i j a b. calls_make_once config trace h e d i j a b;
-}

@@ -1,5 +1,0 @@
-use Rattle.one_tree_laws.proofs.NumberLacking.{full_lacks}
-use Rattle.one_tree_laws.proofs.number.full_sites_lack_numbers.Goals as goal
-
-pub returns : goal.returns
-returns c = λ config trace followed laws e ss i group set k now full. full_lacks config trace followed laws e ss i group set k now full

@@ -1,5 +1,0 @@
-use Rattle.one_tree_laws.proofs.RemoveRemovers.{sees_target}
-use Rattle.one_tree_laws.proofs.remove.removes_have_seen.Goals as goal
-
-pub returns : goal.returns
-returns c = λ config trace f w u i name ino h now k asks. sees_target config trace f w u i name ino h now k asks

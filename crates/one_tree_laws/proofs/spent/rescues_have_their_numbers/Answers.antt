@@ -1,5 +1,0 @@
-use Rattle.one_tree_laws.proofs.SpentRescues.{never_spent}
-use Rattle.one_tree_laws.proofs.spent.rescues_have_their_numbers.Goals as goal
-
-pub returns : goal.returns
-returns c = λ ds kept. never_spent ds kept

@@ -1,5 +1,0 @@
-use Rattle.one_tree_laws.proofs.ToldVectorOnly.{same_version}
-use Rattle.one_tree_laws.proofs.told_vector.stamps_name_versions.Goals as goal
-
-pub returns : goal.returns
-returns c = λ config trace f past v w k h e. same_version config trace f past v w k h e

@@ -1,5 +1,0 @@
-use Rattle.one_tree_laws.proofs.ToldVectorTelling.{vectors_tell_newer}
-use Rattle.one_tree_laws.proofs.told_vector.vectors_tell_which_is_newer.Goals as goal
-
-pub returns : goal.returns
-returns c = λ config trace past. vectors_tell_newer config trace past

@@ -1,5 +1,0 @@
-use Rattle.order_laws.proofs.ProcessCurrent.{answer_waits}
-use Rattle.order_laws.proofs.process.answers_wait_for_their_calls.Goals as goal
-
-pub returns : goal.returns
-returns c = λ config trace d request times a h was same again. answer_waits config trace h d request times a was same again

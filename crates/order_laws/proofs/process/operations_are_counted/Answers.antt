@@ -1,5 +1,0 @@
-use Rattle.order_laws.proofs.ProcessOperationsRun.{operations_counted}
-use Rattle.order_laws.proofs.process.operations_are_counted.Goals as goal
-
-pub returns : goal.returns
-returns c = λ config trace e i g at h granted now live found. operations_counted config trace h e i g granted now live at found

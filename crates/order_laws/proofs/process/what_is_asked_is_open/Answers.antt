@@ -1,9 +1,0 @@
-use Rattle.order_laws.proofs.ProcessOpen.{asked_open}
-use Rattle.order_laws.proofs.ProcessUnreleased.{descriptors_stand}
-use Rattle.order_laws.proofs.process.what_is_asked_is_open.Goals as goal
-
-pub returns : goal.returns
-returns c = record {
-  asked = λ config trace e d i h inside asks. asked_open config trace e d i h inside asks;
-  described = λ config trace s process fd x h stands was. descriptors_stand config trace h s process fd x stands was;
-}

@@ -1,4 +1,0 @@
-pub mod Fits
-pub mod Agreeing
-pub mod Leaving
-pub use Rattle.row_laws.specs as of_row_laws

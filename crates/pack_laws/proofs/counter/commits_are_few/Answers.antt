@@ -1,5 +1,0 @@
-use Rattle.pack_laws.proofs.CounterText.{run_few}
-use Rattle.pack_laws.proofs.counter.commits_are_few.Goals as goal
-
-pub returns : goal.returns
-returns c = λ config lines. run_few config lines

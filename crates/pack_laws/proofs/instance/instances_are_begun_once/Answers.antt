@@ -1,5 +1,0 @@
-use Rattle.pack_laws.proofs.InstanceAgree.{run_begun_once}
-use Rattle.pack_laws.proofs.instance.instances_are_begun_once.Goals as goal
-
-pub returns : goal.returns
-returns c = λ config lines. run_begun_once config lines

@@ -1,5 +1,0 @@
-use Rattle.pack_laws.proofs.InstanceAgree.{run_places}
-use Rattle.pack_laws.proofs.instance.instances_have_one_site.Goals as goal
-
-pub returns : goal.returns
-returns c = λ config lines. run_places config lines

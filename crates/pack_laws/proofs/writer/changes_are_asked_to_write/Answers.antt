@@ -1,5 +1,0 @@
-use Rattle.pack_laws.proofs.WriterAsksRun.{run_changes}
-use Rattle.pack_laws.proofs.writer.changes_are_asked_to_write.Goals as goal
-
-pub returns : goal.returns
-returns c = λ config lines. run_changes config lines

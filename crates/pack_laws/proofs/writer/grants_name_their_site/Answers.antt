@@ -1,5 +1,0 @@
-use Rattle.pack_laws.proofs.WriterPlacesRun.{run_sites}
-use Rattle.pack_laws.proofs.writer.grants_name_their_site.Goals as goal
-
-pub returns : goal.returns
-returns c = λ config lines. run_sites config lines

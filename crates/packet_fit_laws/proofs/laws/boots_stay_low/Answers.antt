@@ -1,5 +1,0 @@
-use Rattle.run_laws.proofs.Boots.{run_boots_low, run_next_low}
-use Rattle.packet_fit_laws.proofs.laws.boots_stay_low.Goals as goal
-
-pub returns : goal.returns
-returns c = λ config lines. (run_boots_low config lines, run_next_low config lines)

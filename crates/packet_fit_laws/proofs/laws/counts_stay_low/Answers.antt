@@ -1,5 +1,0 @@
-use Rattle.packet_fit_laws.proofs.CountsRun.{run_counts_low}
-use Rattle.packet_fit_laws.proofs.laws.counts_stay_low.Goals as goal
-
-pub returns : goal.returns
-returns c = λ config lines. run_counts_low config lines

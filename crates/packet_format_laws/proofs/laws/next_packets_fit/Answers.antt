@@ -1,5 +1,0 @@
-use Rattle.packet_format_laws.proofs.Run.{run_packets}
-use Rattle.packet_format_laws.proofs.laws.next_packets_fit.Goals as goal
-
-pub returns : goal.returns
-returns c = λ config lines fit packs few s v e here may fact. run_packets config lines fit packs few s v e here may fact

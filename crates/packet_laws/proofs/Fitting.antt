@@ -1,0 +1,10 @@
+pub mod Meeting
+pub mod SitesMeet
+pub mod Lists
+pub mod Places
+pub mod Forming
+pub mod Costs
+pub mod Epochs
+pub mod FormingRun
+pub mod Counts
+pub mod CountsRun

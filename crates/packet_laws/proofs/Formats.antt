@@ -1,0 +1,4 @@
+pub mod Packs
+pub mod Rows
+pub mod Standing
+pub mod Run

@@ -1,0 +1,15 @@
+pub mod Told
+pub mod Circuits
+pub mod Reached
+pub mod Placed
+pub mod Spans
+pub mod Blocked
+pub mod Walk
+pub mod Closing
+pub mod Course
+pub mod Listed
+pub mod Polled
+pub mod Forms
+pub mod Leaving
+pub mod Leavers
+pub mod OwnLeaves

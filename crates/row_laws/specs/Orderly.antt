@@ -1,0 +1,10 @@
+pub mod Numbers
+pub mod Effects
+pub mod Rounds
+pub mod Quiet
+pub mod Settling
+pub mod Rounded
+pub mod Turn
+pub mod Agreeing
+pub mod Blocks
+pub mod Calm

@@ -1,0 +1,17 @@
+pub mod Disks
+pub mod StoreDisks
+pub mod SiteDisks
+pub mod Held
+pub mod Facts
+pub mod SyncFacts
+pub mod SyncEvents
+pub mod RolesSend
+pub mod StoreFacts
+pub mod SiteFacts
+pub mod FormingFacts
+pub mod StepFacts
+pub mod FactsRun
+pub mod HistoryNumbers
+pub mod HistoryHistory
+pub mod HistorySited
+pub mod HistoryCovers

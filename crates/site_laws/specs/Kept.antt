@@ -1,0 +1,10 @@
+pub mod StampCommits
+pub mod StampLaws
+pub mod StampCovering
+pub mod VersionVersions
+pub mod Printed
+pub mod Keeping
+pub mod Known
+pub mod Roots
+pub mod Vectors
+pub mod Kept

@@ -1,0 +1,10 @@
+pub mod RunningStores
+pub mod RunningRunning
+pub mod Fresh
+pub mod Holding
+pub mod Made
+pub mod Tables
+pub mod Locked
+pub mod First
+pub mod Reporting
+pub mod Naming

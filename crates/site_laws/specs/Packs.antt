@@ -1,0 +1,11 @@
+pub mod InstanceBook
+pub mod InstanceFacts
+pub mod InstanceLaws
+pub mod InodeFits
+pub mod WriterAsking
+pub mod WriterGranting
+pub mod WriterWriters
+pub mod Making
+pub mod Packs
+pub mod Packed
+pub mod CounterNumbers

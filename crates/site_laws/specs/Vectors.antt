@@ -1,0 +1,4 @@
+pub mod Held
+pub mod Written
+pub mod Facts
+pub mod HistoryCommits

@@ -1,0 +1,4 @@
+pub mod Leaving
+pub mod Booting
+pub mod Turning
+pub mod Rests

@@ -1,8 +1,0 @@
-use Rattle.sync_laws.proofs.Members.{inside_joined, members_name_boots}
-use Rattle.sync_laws.proofs.laws.epochs_name_boots.Goals as goal
-
-pub returns : goal.returns
-returns c = record {
-  calls = λ config trace h e d m k are. members_name_boots config trace h e d m k are;
-  joined = λ config trace h s e k. inside_joined config trace h s e k;
-}

@@ -1,5 +1,0 @@
-use Rattle.sync_laws.proofs.Looks.{look_fine}
-use Rattle.sync_laws.proofs.laws.looks_are_served.Goals as goal
-
-pub returns : goal.returns
-returns c = λ config n trace f t us l serving group_is k. look_fine config n trace f t serving us l group_is k

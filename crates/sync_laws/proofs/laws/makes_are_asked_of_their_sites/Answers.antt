@@ -1,5 +1,0 @@
-use Rattle.sync_laws.proofs.Makes.{make_fine}
-use Rattle.sync_laws.proofs.laws.makes_are_asked_of_their_sites.Goals as goal
-
-pub returns : goal.returns
-returns c = λ config n trace f t us serial number process request file set k serving said group_is fact. make_fine config n trace f t serving said us serial number process request file set k group_is fact

@@ -1,5 +1,0 @@
-use Rattle.sync_laws.proofs.Notices.{repeats_fine}
-use Rattle.sync_laws.proofs.laws.notices_are_of_kept_versions.Goals as goal
-
-pub returns : goal.returns
-returns c = λ config trace f t k. repeats_fine config trace f t k

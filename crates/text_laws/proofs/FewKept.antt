@@ -1,0 +1,3 @@
+pub mod Ascending
+pub mod Chained
+pub mod Few

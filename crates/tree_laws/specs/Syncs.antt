@@ -1,0 +1,4 @@
+pub mod Staying
+pub mod Opening
+pub mod Making
+pub mod Serving

@@ -1,5 +1,0 @@
-use Rattle.user_laws.proofs.OnHeld.{held_fine}
-use Rattle.user_laws.proofs.laws.held_reads_are_taken.Goals as goal
-
-pub returns : goal.returns
-returns c = λ config n trace f u serial number len h frame k acts reads l staying. held_fine config n trace f u serial number len h frame k acts reads l staying

@@ -1,5 +1,0 @@
-use Rattle.user_laws.proofs.Leaving.{repeats_fine}
-use Rattle.user_laws.proofs.laws.repeats_carry_their_facts.Goals as goal
-
-pub returns : goal.returns
-returns c = λ config trace f u k. repeats_fine config trace f u k

@@ -1,5 +1,0 @@
-use Rattle.user_laws.proofs.Replying.{may_reply}
-use Rattle.user_laws.proofs.laws.replies_come_as_they_may.Goals as goal
-
-pub returns : goal.returns
-returns c = λ config trace f w u h frame rests k r e. may_reply config trace f w u h frame rests k r e

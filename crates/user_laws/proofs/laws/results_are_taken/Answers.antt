@@ -1,5 +1,0 @@
-use Rattle.user_laws.proofs.OnOp.{op_done_fine}
-use Rattle.user_laws.proofs.laws.results_are_taken.Goals as goal
-
-pub returns : goal.returns
-returns c = λ config n trace f u serial number r h frame k acts reads l staying. op_done_fine config n trace f u serial number r h frame k acts reads l staying

@@ -1,8 +1,0 @@
-use Rattle.user_laws.proofs.Booting.{first_users, booted_users}
-use Rattle.user_laws.proofs.laws.users_begin_so.Goals as goal
-
-pub returns : goal.returns
-returns c = record {
-  first = λ config me. first_users config me;
-  boots = λ config n me boot older h may. booted_users config n me boot older h may;
-}

@@ -1,5 +1,0 @@
-use Rattle.user_laws.proofs.Leaving.{users_leave_fine}
-use Rattle.user_laws.proofs.laws.users_leave_rightly.Goals as goal
-
-pub returns : goal.returns
-returns c = λ config n older f u k. users_leave_fine config n older f u k

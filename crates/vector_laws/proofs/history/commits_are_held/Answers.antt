@@ -1,5 +1,0 @@
-use Rattle.vector_laws.proofs.HistoryCovers.{run_held}
-use Rattle.vector_laws.proofs.history.commits_are_held.Goals as goal
-
-pub returns : goal.returns
-returns c = λ config lines agree once fit. run_held config lines agree once fit

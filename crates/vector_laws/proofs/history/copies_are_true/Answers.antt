@@ -1,5 +1,0 @@
-use Rattle.vector_laws.proofs.HistorySited.{run_true_copies}
-use Rattle.vector_laws.proofs.history.copies_are_true.Goals as goal
-
-pub returns : goal.returns
-returns c = λ config lines agree once. run_true_copies config lines agree once

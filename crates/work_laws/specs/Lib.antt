@@ -1,2 +1,0 @@
-pub mod Working
-pub use Rattle.stored_versions.specs as of_stored_versions
