@@ -106,11 +106,8 @@ read_well packs old new r seen stands how same c t h = record {
 }
 
 -- whatever it gave
-pub read_as : {S T : Type 0} (packs : PacksState) (old new : Moment) (x : S) (y : T) → WasRead packs old new (Ok x) → WasRead packs old new (Ok y)
-read_as packs old new x y h = record { seen = h.seen; stands = h.stands; how = h.how; same = h.same; passes = h.passes; later = h.later; cause = tt }
-
 pub read_alone : {T : Type 0} (packs : PacksState) (old new : Moment) (x : T) → WasRead packs old new (Ok x) → WasRead {T = Unit {0}} packs old new (Ok tt)
-read_alone packs old new x h = read_as packs old new x tt h
+read_alone packs old new x h = record { seen = h.seen; stands = h.stands; how = h.how; same = h.same; passes = h.passes; later = h.later; cause = tt }
 
 -- one reading after another
 module _ {D : Type 0} (moment : D → Moment) where

@@ -1,37 +1,21 @@
--- Groups in which no mend is wanted, whatever is open and whatever is hopeless: by their files and by the site's copies alone.
-use Rattle.std.specs.Prelude.{◌≡◌, Bool, true, false, List, [], ◌∷◌, filter, None}
-use Rattle.std.specs.List.{AllByRecursion, list_all}
+-- Groups in which no mend is wanted.
+use Rattle.std.specs.Prelude.{◌≡◌, true, List, None}
+use Rattle.std.specs.List.{AllByRecursion, list_any}
 use Rattle.locus_ids.specs.declared.ids.FileId.{FileId}
-use Rattle.site_frame.specs.of_role_steps.Views.{SiteView, file_key}
-use Rattle.site_frame.specs.of_role_steps.Tables.{first_that, row}
-use Rattle.site_frame.specs.of_role_steps.Storage.{copy_key}
-use Rattle.site_frame.specs.of_role_steps.Mends.{is_dir, may_mend, row_file, wants_rescue_of}
-use Rattle.site_frame.specs.of_role_steps.declared.copies.FileCopy.{FileCopy}
-use Rattle.site_frame.specs.of_role_steps.declared.synchronizing.FileRow.{FileRow}
+use Rattle.commit_graph.specs.Versions.{same_file}
+use Rattle.site_frame.specs.of_role_steps.Views.{SiteView, Users}
+use Rattle.site_frame.specs.of_role_steps.Tables.{first_that}
+use Rattle.site_frame.specs.of_role_steps.Mends.{wants_mend}
 use Rattle.site_frame.specs.of_role_steps.declared.synchronizing.SyncTable.{SyncTable}
-use Rattle.site_frame.specs.of_role_steps.declared.synchronizing.VersionRow.{VersionRow}
 
--- a directory of these kept versions wants a mend
-abbrev pub is_wanted : List FileCopy → SyncTable → FileId → List VersionRow → Bool
-is_wanted copies t file [] = false
-is_wanted copies t file (one ∷ []) = wants_rescue_of t one.stamp (row copy_key (file_key file) copies)
-is_wanted copies t file (one ∷ other ∷ others) = true
-
--- the file is a directory that wants one
-abbrev pub is_wanting : List FileCopy → SyncTable → FileRow → Bool
-is_wanting copies t r = elim (is_dir r.kind) [
-  | true ↦ is_wanted copies t (row_file t r) r.kept
-  | false ↦ false
-]
-
--- no directory of the group does, where the group has started
-abbrev pub WantsNone : List FileCopy → SyncTable → Type 0
-WantsNone copies t = t.started ≡ true → first_that (is_wanting copies t) t.files ≡ None
+-- no directory of the group wants a mend, where the group has started
+abbrev pub WantsNone : SiteView → SyncTable → Type 0
+WantsNone v t = t.started ≡ true → first_that (wants_mend v t) t.files ≡ None
 
 -- nor one of any group
-abbrev pub IsAtRest : List FileCopy → List SyncTable → Type 0
-IsAtRest copies ts = AllByRecursion (WantsNone copies) ts
+abbrev pub IsAtRest : SiteView → List SyncTable → Type 0
+IsAtRest v ts = AllByRecursion (WantsNone v) ts
 
--- each directory of the group may be mended
-abbrev pub are_free : SiteView → SyncTable → Bool
-are_free v t = list_all (λ (r : FileRow). may_mend v t (row_file t r)) (filter (λ (r : FileRow). is_dir r.kind) t.files)
+-- no mend that was hopeless is hoped for
+abbrev pub HopesLess : Users → Users → Type 0
+HopesLess old new = (file : FileId) → list_any (same_file file) old.hopeless ≡ true → list_any (same_file file) new.hopeless ≡ true

@@ -1,22 +1,20 @@
 // The mends that start, group by group.
-ghost use Rattle.std.specs.Prelude.{◌≡◌, true, [], Err, IfOk, OnOk};
+ghost use Rattle.std.specs.Prelude.{◌≡◌, [], Err, IfOk, OnOk};
 ghost use Rattle.std.specs.List.{AllByRecursion};
 ghost use Rattle.site_frame.specs.of_role_steps.Views.{SiteView};
 ghost use Rattle.site_frame.specs.of_role_steps.Epochs.{with_users};
 ghost use Rattle.site_frame.specs.of_role_steps.Tables.{first_that};
 ghost use Rattle.site_frame.specs.of_role_steps.Mends.{starts_mend, starts_mends_in, wants_mend};
 ghost use Rattle.site_frame.specs.of_role_steps.Versions.{file_row};
-ghost use Rattle.site_packs.specs.Copies.{copies_on};
-ghost use Rattle.site_packs.specs.Packs.{Stand, groups_of};
+ghost use Rattle.site_packs.specs.Packs.{Stand};
 ghost use Rattle.site_tables.specs.of_using_site.Steps.{Gives};
 ghost use Rattle.site_tables.specs.Inodes.{AreInodes};
 ghost use Rattle.css_versions.specs.Lists.{found_first, found_rows};
 ghost use Rattle.site_mends.specs.declared.fault.MendFault.TheVariants.{Unfit};
 ghost use Rattle.site_mends.specs.Mending.{file_in, IsSeen, WasRead};
-ghost use Rattle.site_mends.specs.Resting.{IsAtRest, WantsNone};
 
 use crate::MendFault;
-use crate::wanting::{are_free, file_of, wants_mend};
+use crate::wanting::{file_of, wants_mend};
 use css_versions::Listed;
 use disk_model::Disk;
 use locus_ids::FileId;
@@ -27,8 +25,7 @@ use site_tables::using_site::UsingSite;
 use std::alloc::Global;
 use wire_messages::Outbox;
 
-/// Starts a mend in each of these groups that wants one, ascending. True: no group wants one, whatever is open and whatever is hopeless.
-/// `Unfit` comes only where a number in a table is no inode's.
+/// Starts a mend in each of these groups that wants one, ascending. `Unfit` comes only where a number in a table is no inode's.
 pub fn start_mends<D: Disk>(
     alloc: Global,
     tables: &[Css],
@@ -37,23 +34,21 @@ pub fn start_mends<D: Disk>(
     users: &mut UsingSite,
     disk: &mut D,
     out: &mut Outbox,
-) -> Result<bool, MendFault>
+) -> Result<(), MendFault>
     requires { Stand packs.now (D.moment disk.old) }
     ensures gives { OnOk result ((v : SiteView) → IsSeen v packs.now (D.moment disk.old).seen users.old → Gives (starts_mends_in frame.now tables.now v) (with_users v users.new) out.old out.new) }
-    ensures rests { IfOk result (λ none. none ≡ true → IsAtRest (copies_on (groups_of packs.now) (D.moment disk.old).seen) tables.now) }
     ensures disk { WasRead packs.now (D.moment disk.old) (D.moment disk.new) result }
     ensures unfit { result ≡ Err Unfit → AllByRecursion AreInodes tables.now → ⊥ }
 {
     let [table, later @ ..] = tables else {
-        return Ok(true);
+        return Ok(());
     };
-    let first = start_mend(alloc, table, frame, packs, users, disk, out)?;
-    let others = start_mends(alloc, later, frame, packs, users, disk, out)?;
-    Ok(first && others)
+    start_mend(alloc, table, frame, packs, users, disk, out)?;
+    start_mends(alloc, later, frame, packs, users, disk, out)?;
+    Ok(())
 }
 
-/// Starts a mend in a group, where none waits: that of the least inode which wants one. True: the group wants none, whatever is open
-/// and whatever is hopeless.
+/// Starts a mend in a group, where none waits: that of the least inode which wants one.
 fn start_mend<D: Disk>(
     alloc: Global,
     table: &Css,
@@ -62,24 +57,20 @@ fn start_mend<D: Disk>(
     users: &mut UsingSite,
     disk: &mut D,
     out: &mut Outbox,
-) -> Result<bool, MendFault>
+) -> Result<(), MendFault>
     requires { Stand packs.now (D.moment disk.old) }
     ensures gives { OnOk result ((v : SiteView) → IsSeen v packs.now (D.moment disk.old).seen users.old → Gives (starts_mend frame.now table.now v) (with_users v users.new) out.old out.new) }
-    ensures rests { IfOk result (λ none. none ≡ true → WantsNone (copies_on (groups_of packs.now) (D.moment disk.old).seen) table.now) }
     ensures disk { WasRead packs.now (D.moment disk.old) (D.moment disk.new) result }
     ensures unfit { result ≡ Err Unfit → AreInodes table.now → ⊥ }
 {
-    if !table.started() {
-        return Ok(true);
-    }
-    if users.has_mend_in(table.group()) {
-        return Ok(false);
+    if !table.started() || users.has_mend_in(table.group()) {
+        return Ok(());
     }
     match first_wanting(alloc, table, packs, users, disk)? {
-        None => Ok(are_free(table, users)),
+        None => Ok(()),
         Some(file) => {
             users.start_mend(frame, file, out)?;
-            Ok(false)
+            Ok(())
         }
     }
 }

@@ -1,12 +1,11 @@
 // Which directories want a mend.
-ghost use Rattle.std.specs.Prelude.{◌≡◌, true, Err, IfOk};
+ghost use Rattle.std.specs.Prelude.{◌≡◌, Err, IfOk};
 ghost use Rattle.site_frame.specs.of_role_steps.Views.{SiteView};
 ghost use Rattle.site_frame.specs.of_role_steps.Mends.{may_mend, row_file, wants_mend};
 ghost use Rattle.site_packs.specs.Packs.{Stand};
 ghost use Rattle.site_tables.specs.Inodes.{AreInodes};
 ghost use Rattle.site_mends.specs.declared.fault.MendFault.TheVariants.{Unfit};
 ghost use Rattle.site_mends.specs.Mending.{IsSeen, WasRead};
-ghost use Rattle.site_mends.specs.Resting.{are_free};
 
 use crate::MendFault;
 use crate::rescues::wants_rescue;
@@ -60,21 +59,4 @@ fn may_mend(table: &Css, file: FileId, users: &UsingSite) -> bool
     ensures { (v : SiteView) → v.users ≡ users.now → result ≡ may_mend v table.now file }
 {
     !(table.is_open(file) || users.is_hopeless(file))
-}
-
-/// Each directory of the group may be mended.
-pub(crate) fn are_free(table: &Css, users: &UsingSite) -> bool
-    ensures { (v : SiteView) → v.users ≡ users.now → result ≡ true → are_free v table.now ≡ true }
-{
-    let group = table.group();
-    for one in table.directories() {
-        let file = FileId {
-            group,
-            ino: one.ino,
-        };
-        if !may_mend(table, file, users) {
-            return false;
-        }
-    }
-    true
 }

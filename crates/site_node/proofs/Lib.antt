@@ -1,7 +1,6 @@
 pub mod Moving
 pub mod Takes
 pub mod Starts
-pub mod Resting
 pub mod Parts
 pub mod Outside
 pub mod ByRole

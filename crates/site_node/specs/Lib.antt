@@ -3,7 +3,6 @@ pub mod Roles
 pub mod Taking
 pub mod Adopting
 pub mod Mending
-pub mod Resting
 pub mod Repeats
 pub mod Writing
 pub mod Fitting

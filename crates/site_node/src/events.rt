@@ -8,7 +8,6 @@ ghost use Rattle.site_node.specs.Views.{Moves, steps_at, view_of};
 ghost use Rattle.site_node.specs.Writing.{EventWrites};
 ghost use Rattle.site_parts.specs.declared.fault.NodeFault.TheVariants.{Cut, NoMemory, NoNumber, Unfit};
 ghost use Rattle.site_node.specs.Fitting.{CanAct};
-ghost use Rattle.site_node.specs.Resting.{Remembers};
 ghost use Rattle.site_node.specs.Taking.{IsSpent, is_tried};
 
 use crate::SiteNode;
@@ -29,18 +28,15 @@ impl SiteNode {
         words: Call,
         out: &mut Dispatch,
     ) -> Result<(), NodeFault>
-        requires stand { Stand self.old.packs (D.moment disk.old) }
-        requires rests { Remembers self.old (D.moment disk.old).seen }
+        requires { Stand self.old.packs (D.moment disk.old) }
         ensures step { OnOk result (Moves (steps_at self.old links.now (Calls process words)) self.old (D.moment disk.old) self.new (D.moment disk.new) out.old out.new) }
-        ensures rests { OnOk result (Remembers self.new (D.moment disk.new).seen) }
         ensures disk { EventWrites (steps_at self.old links.now (Calls process words) (view_of self.old (D.moment disk.old).seen)).written self.old.packs (D.moment disk.old) (D.moment disk.new) out.old out.new result }
         ensures numbered { IfErr result (λ fault. fault ≢ NoNumber) }
         ensures unfit { result ≡ Err Unfit → CanAct self.old.frame.config self.old.frame.me (groups_of self.old.packs) self.old.packs.site links.now (view_of self.old (D.moment disk.old).seen) (Calls process words) → ⊥ }
     {
-        let rested = self.rests;
         let mut own = Outbox::new(self.alloc);
         self.take_call(process, words, &mut own)?;
-        self.end_event(disk, links, rested, &mut own)?;
+        self.end_event(disk, links, &mut own)?;
         out.add_in_order(own)?;
         Ok(())
     }
@@ -53,10 +49,8 @@ impl SiteNode {
         packet: Packet,
         out: &mut Dispatch,
     ) -> Result<(), NodeFault>
-        requires stand { Stand self.old.packs (D.moment disk.old) }
-        requires rests { Remembers self.old (D.moment disk.old).seen }
+        requires { Stand self.old.packs (D.moment disk.old) }
         ensures step { OnOk result (Moves (steps_at self.old links.now (Receives packet)) self.old (D.moment disk.old) self.new (D.moment disk.new) out.old out.new) }
-        ensures rests { OnOk result (Remembers self.new (D.moment disk.new).seen) }
         ensures disk { EventWrites (steps_at self.old links.now (Receives packet) (view_of self.old (D.moment disk.old).seen)).written self.old.packs (D.moment disk.old) (D.moment disk.new) out.old out.new result }
         ensures spent { IfErr result (λ fault. fault ≡ NoNumber → IsSpent packet.body) }
         ensures unfit { result ≡ Err Unfit → CanAct self.old.frame.config self.old.frame.me (groups_of self.old.packs) self.old.packs.site links.now (view_of self.old (D.moment disk.old).seen) (Receives packet) → ⊥ }
@@ -66,7 +60,6 @@ impl SiteNode {
             return Ok(());
         }
         let tries = tries_at(&packet.body);
-        let rested = self.stays_at_rest(&packet.body);
         let mut own = Outbox::new(self.alloc);
         if let Err(fault) = self.take(disk, links, packet, &mut own) {
             return Err(cut_off(fault, own, out));
@@ -75,7 +68,7 @@ impl SiteNode {
         if let Err(fault) = self.try_adoption(disk, tries, &mut adopted) {
             return Err(cut_off(fault, adopted, out));
         }
-        self.end_event(disk, links, rested, &mut own)?;
+        self.end_event(disk, links, &mut own)?;
         out.add(adopted)?;
         out.add_in_order(own)?;
         Ok(())
@@ -88,15 +81,12 @@ impl SiteNode {
         links: &Links,
         out: &mut Dispatch,
     ) -> Result<(), NodeFault>
-        requires stand { Stand self.old.packs (D.moment disk.old) }
-        requires rests { Remembers self.old (D.moment disk.old).seen }
+        requires { Stand self.old.packs (D.moment disk.old) }
         ensures step { OnOk result (Moves (steps_at self.old links.now Ticks) self.old (D.moment disk.old) self.new (D.moment disk.new) out.old out.new) }
-        ensures rests { OnOk result (Remembers self.new (D.moment disk.new).seen) }
         ensures disk { EventWrites (steps_at self.old links.now Ticks (view_of self.old (D.moment disk.old).seen)).written self.old.packs (D.moment disk.old) (D.moment disk.new) out.old out.new result }
         ensures numbered { IfErr result (λ fault. fault ≢ NoNumber) }
         ensures unfit { result ≡ Err Unfit → CanAct self.old.frame.config self.old.frame.me (groups_of self.old.packs) self.old.packs.site links.now (view_of self.old (D.moment disk.old).seen) Ticks → ⊥ }
     {
-        let rested = self.rests_at_tick();
         let mut adopted = Outbox::new(self.alloc);
         if let Err(fault) = self.adopt(disk, &mut adopted) {
             return Err(cut_off(fault, adopted, out));
@@ -104,7 +94,7 @@ impl SiteNode {
         out.add(adopted)?;
         self.repeat(out)?;
         let mut last = Outbox::new(self.alloc);
-        self.end_event(disk, links, rested, &mut last)?;
+        self.end_event(disk, links, &mut last)?;
         out.add_in_order(last)?;
         Ok(())
     }
@@ -116,17 +106,15 @@ impl SiteNode {
         links: &Links,
         out: &mut Dispatch,
     ) -> Result<(), NodeFault>
-        requires stand { Stand self.old.packs (D.moment disk.old) }
-        requires rests { Remembers self.old (D.moment disk.old).seen }
+        requires { Stand self.old.packs (D.moment disk.old) }
         ensures step { OnOk result (Moves (steps_at self.old links.now Parts) self.old (D.moment disk.old) self.new (D.moment disk.new) out.old out.new) }
-        ensures rests { OnOk result (Remembers self.new (D.moment disk.new).seen) }
         ensures disk { EventWrites (steps_at self.old links.now Parts (view_of self.old (D.moment disk.old).seen)).written self.old.packs (D.moment disk.old) (D.moment disk.new) out.old out.new result }
         ensures spent { IfErr result (λ fault. fault ≡ NoNumber → self.old.epochs.promised.number ≡ 4294967295) }
         ensures unfit { result ≡ Err Unfit → CanAct self.old.frame.config self.old.frame.me (groups_of self.old.packs) self.old.packs.site links.now (view_of self.old (D.moment disk.old).seen) Parts → ⊥ }
     {
         let mut own = Outbox::new(self.alloc);
         self.start_part(links, &mut own)?;
-        self.end_event(disk, links, false, &mut own)?;
+        self.end_event(disk, links, &mut own)?;
         out.add_in_order(own)?;
         Ok(())
     }
@@ -138,17 +126,15 @@ impl SiteNode {
         links: &Links,
         out: &mut Dispatch,
     ) -> Result<(), NodeFault>
-        requires stand { Stand self.old.packs (D.moment disk.old) }
-        requires rests { Remembers self.old (D.moment disk.old).seen }
+        requires { Stand self.old.packs (D.moment disk.old) }
         ensures step { OnOk result (Moves (steps_at self.old links.now Merges) self.old (D.moment disk.old) self.new (D.moment disk.new) out.old out.new) }
-        ensures rests { OnOk result (Remembers self.new (D.moment disk.new).seen) }
         ensures disk { EventWrites (steps_at self.old links.now Merges (view_of self.old (D.moment disk.old).seen)).written self.old.packs (D.moment disk.old) (D.moment disk.new) out.old out.new result }
         ensures spent { IfErr result (λ fault. fault ≡ NoNumber → self.old.epochs.promised.number ≡ 4294967295) }
         ensures unfit { result ≡ Err Unfit → CanAct self.old.frame.config self.old.frame.me (groups_of self.old.packs) self.old.packs.site links.now (view_of self.old (D.moment disk.old).seen) Merges → ⊥ }
     {
         let mut own = Outbox::new(self.alloc);
         self.start_merge(links, &mut own)?;
-        self.end_event(disk, links, false, &mut own)?;
+        self.end_event(disk, links, &mut own)?;
         out.add_in_order(own)?;
         Ok(())
     }
@@ -160,17 +146,15 @@ impl SiteNode {
         links: &Links,
         out: &mut Dispatch,
     ) -> Result<(), NodeFault>
-        requires stand { Stand self.old.packs (D.moment disk.old) }
-        requires rests { Remembers self.old (D.moment disk.old).seen }
+        requires { Stand self.old.packs (D.moment disk.old) }
         ensures step { OnOk result (Moves (steps_at self.old links.now GivesUp) self.old (D.moment disk.old) self.new (D.moment disk.new) out.old out.new) }
-        ensures rests { OnOk result (Remembers self.new (D.moment disk.new).seen) }
         ensures disk { EventWrites (steps_at self.old links.now GivesUp (view_of self.old (D.moment disk.old).seen)).written self.old.packs (D.moment disk.old) (D.moment disk.new) out.old out.new result }
         ensures numbered { IfErr result (λ fault. fault ≢ NoNumber) }
         ensures unfit { result ≡ Err Unfit → CanAct self.old.frame.config self.old.frame.me (groups_of self.old.packs) self.old.packs.site links.now (view_of self.old (D.moment disk.old).seen) GivesUp → ⊥ }
     {
         let mut own = Outbox::new(self.alloc);
         self.leave(&mut own)?;
-        self.end_event(disk, links, false, &mut own)?;
+        self.end_event(disk, links, &mut own)?;
         out.add_in_order(own)?;
         Ok(())
     }

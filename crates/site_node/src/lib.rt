@@ -13,7 +13,6 @@ mod joining;
 mod leaving;
 mod node;
 mod pulling;
-mod remembering;
 mod taking;
 mod ticking;
 mod users;

@@ -1,4 +1,4 @@
-ghost use Rattle.std.specs.Prelude.{◌≡◌, ◌==◌, ℕ, false, List, []};
+ghost use Rattle.std.specs.Prelude.{◌≡◌, ◌==◌, ℕ, List, []};
 ghost use Rattle.std.specs.Option.{is_some};
 ghost use Rattle.std.specs.List.{list_any};
 ghost use Rattle.role_steps.specs.declared.users.WaitingCall.{WaitingCall};
@@ -35,8 +35,6 @@ pub struct SiteNode {
     pub(crate) packs: SitePacks,
     pub(crate) users: UsingSite,
     pub(crate) pulls: Puller,
-    /// It is known that no group wants a mend, whatever is open and whatever is hopeless.
-    pub(crate) rests: bool,
 }
 
 /// Taken apart in one place: where one is dropped, the prover sees one call.
@@ -51,7 +49,6 @@ impl Drop for SiteNode {
             packs: _,
             users: _,
             pulls: _,
-            rests: _,
         } = self;
     }
 }
@@ -63,7 +60,6 @@ impl SiteNode {
         ensures config { result.frame.config ≡ config }
         ensures site { result.frame.me ≡ me }
         ensures packs { result.packs ≡ packs }
-        ensures rests { result.rests ≡ false }
     {
         let frame = SiteFrame {
             config,
@@ -85,7 +81,6 @@ impl SiteNode {
             packs,
             users: UsingSite::new(alloc),
             pulls: Puller::new(alloc),
-            rests: false,
         }
     }
 

@@ -7,5 +7,4 @@ pub mod Reported
 pub mod Numbers
 pub mod Fits
 pub use Rattle.run_laws.proofs as of_run_laws
-pub use Rattle.site_mends.proofs as of_site_mends
 pub use Rattle.site_mends.proofs.of_site_tables as of_site_tables

@@ -11,7 +11,6 @@ use Rattle.disk_model.specs.Images.{IsImage}
 use Rattle.disk_model.specs.ScriptDisk.{seen, unsynced, moment, SameBytes}
 use Rattle.site_packs.specs.Packs.{AreLive, AreShown}
 use Rattle.site_disk.specs.Image.{label_on, one_half}
-use Rattle.site_node.specs.Resting.{Remembers}
 use Rattle.site_node.specs.declared.node.SiteNode.{SiteNode}
 use Rattle.site_place.specs.declared.script.DiskScript.{DiskScript}
 use Rattle.site_place.specs.Counts.{armed_by_script, armed_disk, waiting}
@@ -29,7 +28,6 @@ runs_same config me (Some n) old new same runs = record {
     shown = subst (λ (l : List ℕ). AreShown n.packs.packs l) (sym same.read) runs.stands.shown;
     live = subst (λ (l : List ℕ). AreLive n.packs l) (sym same.read) runs.stands.live;
   };
-  rests = subst (λ (l : List ℕ). Remembers n l) (sym same.read) runs.rests;
   groups = runs.groups;
   home = runs.home;
   cluster = runs.cluster;

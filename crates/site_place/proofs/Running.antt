@@ -1,6 +1,5 @@
 -- When a site runs over its disk.
-use Rattle.std.proofs.Common.{◌≡◌, ℕ, ◌≤◌, false, List, length, replicate, refl, sym, ◌∙◌, ap, subst, arith}
-use Rattle.std.proofs.lemmas.Bool.{false≢true}
+use Rattle.std.proofs.Common.{◌≡◌, ℕ, ◌≤◌, List, length, replicate, refl, sym, ◌∙◌, ap, subst, arith}
 use Rattle.std.proofs.lemmas.List.{length-replicate}
 use Rattle.locus_ids.specs.declared.config.Config.{Config}
 use Rattle.disk_model.specs.Disk.{Moment}
@@ -13,7 +12,6 @@ use Rattle.site_disk.specs.Image.{disk_length, label_on, one_half}
 use Rattle.the_run.specs.Worlds.{fresh}
 use Rattle.the_run.proofs.StepSends.{step_sends}
 use Rattle.site_node.specs.declared.node.SiteNode.{SiteNode}
-use Rattle.site_node.specs.Resting.{Remembers}
 use Rattle.site_node.specs.Views.{view_of, Moves, steps_at}
 use Rattle.site_place.specs.Standing.{IsRunning}
 
@@ -25,13 +23,12 @@ long_enough config me n image is zeros =
     subst (λ (m : ℕ). k ≤ m) (sym long) enough
 
 -- a site that has just booted
-pub runs_fresh : (config : Config) (me boot : ℕ) (n : SiteNode) (p : PacksState) (copies : List FileCopy) (now : Moment) → Stand p now → groups_of p ≡ groups_at config me → p.site ≡ me → n.packs ≡ p → n.rests ≡ false → n.frame.config ≡ config → n.frame.me ≡ me
+pub runs_fresh : (config : Config) (me boot : ℕ) (n : SiteNode) (p : PacksState) (copies : List FileCopy) (now : Moment) → Stand p now → groups_of p ≡ groups_at config me → p.site ≡ me → n.packs ≡ p → n.frame.config ≡ config → n.frame.me ≡ me
     → view_of n now.seen ≡ fresh boot copies → label_on now.seen ≡ one_half boot → IsRunning config me n now
-runs_fresh config me boot n p copies now stands groups home packs rests cluster own view label =
+runs_fresh config me boot n p copies now stands groups home packs cluster own view label =
     let number : n.epochs.boot ≡ boot = ap (λ (v : SiteView). v.boot) view in
     record {
       stands = subst (λ (q : PacksState). Stand q now) (sym packs) stands;
-      rests = λ remembered. absurd (false≢true (sym rests ∙ remembered));
       groups = ap (λ (q : PacksState). groups_of q) packs ∙ groups;
       home = ap (λ (q : PacksState). q.site) packs ∙ home;
       cluster = cluster;
@@ -44,11 +41,10 @@ pub boot_stays : (n new : SiteNode) (links : Links) (e : Event) (old now : Momen
 boot_stays n new links e old now given after moves =
     ap (λ (v : SiteView). v.boot) moves.gives.view ∙ (step_sends n.frame.config n.frame.me n.epochs.boot links (view_of n old.seen) e refl).view
 
-pub runs_on : (config : Config) (me : ℕ) (n new : SiteNode) (links : Links) (e : Event) (old now : Moment) (given after : Outgoing) → IsRunning config me n old → Moves (steps_at n links e) n old new now given after → Remembers new now.seen → label_on now.seen ≡ one_half n.epochs.boot
+pub runs_on : (config : Config) (me : ℕ) (n new : SiteNode) (links : Links) (e : Event) (old now : Moment) (given after : Outgoing) → IsRunning config me n old → Moves (steps_at n links e) n old new now given after → label_on now.seen ≡ one_half n.epochs.boot
     → IsRunning config me new now
-runs_on config me n new links e old now given after runs moves rests label = record {
+runs_on config me n new links e old now given after runs moves label = record {
   stands = moves.stands;
-  rests = rests;
   groups = moves.places.groups ∙ runs.groups;
   home = moves.places.site ∙ runs.home;
   cluster = moves.config ∙ runs.cluster;

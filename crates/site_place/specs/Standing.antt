@@ -8,7 +8,6 @@ use Rattle.site_label.specs.Label.{HasBoot}
 use Rattle.site_packs.specs.Mounting.{AreSound}
 use Rattle.site_packs.specs.Packs.{Stand, groups_of, groups_at}
 use Rattle.site_disk.specs.Image.{disk_length, label_on, one_half}
-use Rattle.site_node.specs.Resting.{Remembers}
 use Rattle.site_node.specs.declared.node.SiteNode.{SiteNode}
 use Rattle.site_place.specs.declared.place.SitePlace.TheInside.{Inside}
 use Rattle.site_place.specs.Counts.{armed_by_script, waiting}
@@ -19,10 +18,9 @@ pub record IsWhole (config : Config) (me : ℕ) (image : List ℕ) : Type 0 wher
   pub label : HasBoot me (label_number image) image
   pub sound : AreSound me (groups_at config me) image
 
--- the site runs over its disk: its packs stand there, what it remembers of its mends is so, and the label has its boot number
+-- the site runs over its disk: its packs stand there, and the label has its boot number
 pub record IsRunning (config : Config) (me : ℕ) (n : SiteNode) (now : Moment) : Type 0 where
   pub stands : Stand n.packs now
-  pub rests : Remembers n now.seen
   pub groups : groups_of n.packs ≡ groups_at config me
   pub home : n.packs.site ≡ me
   pub cluster : n.frame.config ≡ config

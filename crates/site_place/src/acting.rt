@@ -2,7 +2,6 @@
 ghost use Rattle.std.specs.Prelude.{◌≡◌, IfErr, OnOk};
 ghost use Rattle.disk_model.specs.ScriptDisk.{seen, moment};
 ghost use Rattle.site_packs.specs.Packs.{Stand};
-ghost use Rattle.site_node.specs.Resting.{Remembers};
 ghost use Rattle.site_node.specs.Views.{Moves, steps_at, view_of};
 ghost use Rattle.site_node.specs.Writing.{EventWrites};
 ghost use Rattle.site_place.specs.Fitting.{CanActAt, IsOfDisk};
@@ -23,10 +22,8 @@ pub(crate) fn act(
     event: SiteEvent,
     out: &mut Dispatch,
 ) -> Result<(), NodeFault>
-    requires stand { Stand node.old.packs (moment disk.old.disk) }
-    requires rests { Remembers node.old (seen disk.old.disk) }
+    requires { Stand node.old.packs (moment disk.old.disk) }
     ensures step { OnOk result (Moves (steps_at node.old links.now (event_of event)) node.old (moment disk.old.disk) node.new (moment disk.new.disk) out.old out.new) }
-    ensures rests { OnOk result (Remembers node.new (seen disk.new.disk)) }
     ensures disk { EventWrites (steps_at node.old links.now (event_of event) (view_of node.old (seen disk.old.disk))).written node.old.packs (moment disk.old.disk) (moment disk.new.disk) out.old out.new result }
     ensures fit { IfErr result (λ fault. CanActAt node.old (seen disk.old.disk) links.now (event_of event) → IsOfDisk fault) }
 {

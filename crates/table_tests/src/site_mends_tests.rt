@@ -110,8 +110,7 @@ impl Mending {
     {
         let (alloc, tables) = (self.tables.allocator(), self.tables.as_slice());
         let (packs, users, disk) = (&self.packs, &mut self.users, &mut self.disk);
-        start_mends(alloc, tables, &self.frame, packs, users, disk, out)?;
-        Ok(())
+        start_mends(alloc, tables, &self.frame, packs, users, disk, out)
     }
 
     /// What the start of its mends sends and tells.

@@ -1,14 +1,10 @@
-use Rattle.std.proofs.Common.{◌∙◌, ap, refl, sym}
-use Rattle.std.proofs.lemmas.Bool.{false≢true}
+use Rattle.std.proofs.Common.{◌∙◌, ap, sym}
 use Rattle.site_frame.specs.of_role_steps.Mends.{has_mend_in}
 use Rattle.site_mends.proofs.Mends.{mend_starts}
 use Rattle.std.proofs.Common.{Option}
 use Rattle.locus_ids.specs.declared.ids.FileId.{FileId}
 use Rattle.site_tables.specs.Inodes.{AreInodes}
 use Rattle.site_mends.proofs.Fits.{memory_fit, unfit_at}
-use Rattle.site_mends.proofs.Resting.{free_none, some_view}
-use Rattle.site_packs.specs.Copies.{copies_on}
-use Rattle.site_packs.specs.Packs.{groups_of}
 use Rattle.site_mends.proofs.starting.start_mend.Goals as goal
 
 pub returns-in_ok-start_mend-in-Some-clause-gives :
@@ -20,12 +16,3 @@ returns-in_err-first_wanting-clause-unfit g c = unfit_at {S = Option FileId} (Ar
 
 pub returns-in_err-start_mend-in-Some-clause-unfit : goal.returns-in_err-start_mend-in-Some-clause-unfit
 returns-in_err-start_mend-in-Some-clause-unfit g c so can = memory_fit c.from_residual-in_err-start_mend-in-Some.result c.from_residual-in_err-start_mend-in-Some.ensures.1 so
-
-pub returns-then-not-started-clause-rests : goal.returns-then-not-started-clause-rests
-returns-then-not-started-clause-rests g c = λ none started. absurd (false≢true (c.if-not-started.ensures ∙ started))
-
-pub returns-in-None-clause-rests : goal.returns-in-None-clause-rests
-returns-in-None-clause-rests g c =
-    let copies = copies_on (groups_of c.args.packs.now) (g.D.Disk.moment c.args.disk.now).seen in
-    let v = some_view copies c.args.users.now in
-    λ none. free_none copies c.args.users.now c.args.table.now (c.are_free.ensures v refl none) (sym c.in-None.is ∙ c.in_ok-first_wanting.ensures.found v (record { copies = refl; users = refl }))

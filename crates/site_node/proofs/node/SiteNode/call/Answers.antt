@@ -14,16 +14,14 @@ use Rattle.site_node.proofs.Fitted.{fault_at, order_unfit, own_fit, tables_then}
 use Rattle.site_packs.specs.Packs.{groups_of}
 use Rattle.site_node.specs.Fitting.{CanAct}
 use Rattle.role_steps.specs.Views.{Calls}
-use Rattle.std.proofs.Common.{subst, sym}
-use Rattle.site_node.specs.Resting.{Rests}
 use Rattle.site_node.proofs.node.SiteNode.call.Goals as goal
 
-pub end_event-requires-clause-stand : goal.end_event-requires-clause-stand
-end_event-requires-clause-stand g c = (moves_work (takes_call c.args.self.now.frame.config c.args.self.now.frame.me c.args.process c.args.words) c.args.self.now c.take_call.new.self (g.D.Disk.moment c.args.disk.now) c.new-own.result c.take_call.new.out c.requires.stand c.in_ok-take_call.ensures).stands
+pub end_event-requires : goal.end_event-requires
+end_event-requires g c = (moves_work (takes_call c.args.self.now.frame.config c.args.self.now.frame.me c.args.process c.args.words) c.args.self.now c.take_call.new.self (g.D.Disk.moment c.args.disk.now) c.new-own.result c.take_call.new.out c.requires c.in_ok-take_call.ensures).stands
 
 pub returns-clause-step : goal.returns-clause-step
 returns-clause-step g c = event_alone (takes_call c.args.self.now.frame.config c.args.self.now.frame.me c.args.process c.args.words) (ends_event c.args.self.now.frame.config c.args.self.now.frame.me c.args.links.now) c.args.self.now c.take_call.new.self c.end_event.new.self (g.D.Disk.moment c.args.disk.now) (g.D.Disk.moment c.args.disk.now) (g.D.Disk.moment c.end_event.new.disk) c.new-own.result c.take_call.new.out c.end_event.new.out c.args.out.now c.add_in_order.new.self c.new-own.ensures.packets c.new-own.ensures.records
-    (moves_work (takes_call c.args.self.now.frame.config c.args.self.now.frame.me c.args.process c.args.words) c.args.self.now c.take_call.new.self (g.D.Disk.moment c.args.disk.now) c.new-own.result c.take_call.new.out c.requires.stand c.in_ok-take_call.ensures)
+    (moves_work (takes_call c.args.self.now.frame.config c.args.self.now.frame.me c.args.process c.args.words) c.args.self.now c.take_call.new.self (g.D.Disk.moment c.args.disk.now) c.new-own.result c.take_call.new.out c.requires c.in_ok-take_call.ensures)
     (moves_from (λ k me. ends_event k me c.args.links.now) c.args.self.now c.take_call.new.self c.end_event.new.self (g.D.Disk.moment c.args.disk.now) (g.D.Disk.moment c.end_event.new.disk) c.take_call.new.out c.end_event.new.out c.in_ok-take_call.ensures.config c.in_ok-take_call.ensures.me c.in_ok-end_event.ensures.step)
     c.in_ok-add_in_order.ensures.order
 
@@ -31,7 +29,7 @@ pub returns-clause-disk : goal.returns-clause-disk
 returns-clause-disk g c = ended_well _ (call_step c.args.self.now.frame.config c.args.self.now.frame.me c.args.links.now c.args.process c.args.words (view_of c.args.self.now (g.D.Disk.moment c.args.disk.now).seen)) c.args.self.now.packs c.take_call.new.self.packs (g.D.Disk.moment c.args.disk.now) (g.D.Disk.moment c.end_event.new.disk) c.args.out.now c.add_in_order.new.self c.take_call.new.out c.end_event.new.out {T = Unit {0}} {S = Unit {0}} tt tt c.in_ok-end_event.ensures.disk
 
 pub returns-in_err-take_call-clause-disk : goal.returns-in_err-take_call-clause-disk
-returns-in_err-take_call-clause-disk g c = failed_still _ c.args.self.now.packs (g.D.Disk.moment c.args.disk.now) c.args.out.now c.args.out.now c.from_residual.result NoMemory c.from_residual.ensures.1 tt c.requires.stand.settled (g.met.D.Disk.only_now c.args.disk.now)
+returns-in_err-take_call-clause-disk g c = failed_still _ c.args.self.now.packs (g.D.Disk.moment c.args.disk.now) c.args.out.now c.args.out.now c.from_residual.result NoMemory c.from_residual.ensures.1 tt c.requires.settled (g.met.D.Disk.only_now c.args.disk.now)
 
 pub returns-in_err-end_event-clause-disk : goal.returns-in_err-end_event-clause-disk
 returns-in_err-end_event-clause-disk g c = ended_ill _ (call_step c.args.self.now.frame.config c.args.self.now.frame.me c.args.links.now c.args.process c.args.words (view_of c.args.self.now (g.D.Disk.moment c.args.disk.now).seen)) c.args.self.now.packs c.take_call.new.self.packs (g.D.Disk.moment c.args.disk.now) (g.D.Disk.moment c.end_event.new.disk) c.args.out.now c.args.out.now c.take_call.new.out c.end_event.new.out {T = Unit {0}} {S = Unit {0}} c.from_residual-in_err-end_event.result c.in_err-end_event.field-0.0 c.from_residual-in_err-end_event.ensures.1 c.in_err-end_event.ensures.disk
@@ -53,18 +51,12 @@ returns-in_err-take_call-clause-unfit g c so can = memory_fit c.from_residual.re
 
 pub returns-in_err-end_event-clause-unfit : goal.returns-in_err-end_event-clause-unfit
 returns-in_err-end_event-clause-unfit g c = unfit_at {S = Unit {0}} (CanAct c.args.self.now.frame.config c.args.self.now.frame.me (groups_of c.args.self.now.packs) c.args.self.now.packs.site c.args.links.now (view_of c.args.self.now (g.D.Disk.moment c.args.disk.now).seen) (Calls c.args.process c.args.words)) c.from_residual-in_err-end_event.result c.in_err-end_event.field-0.0 c.from_residual-in_err-end_event.ensures.1
-    (λ so can. c.in_err-end_event.ensures.unfit so (tables_then (takes_call c.args.self.now.frame.config c.args.self.now.frame.me c.args.process c.args.words) c.args.links.now c.args.self.now c.take_call.new.self (g.D.Disk.moment c.args.disk.now) (g.D.Disk.moment c.args.disk.now) c.new-own.result c.take_call.new.out (moves_work (takes_call c.args.self.now.frame.config c.args.self.now.frame.me c.args.process c.args.words) c.args.self.now c.take_call.new.self (g.D.Disk.moment c.args.disk.now) c.new-own.result c.take_call.new.out c.requires.stand c.in_ok-take_call.ensures) can.mending))
+    (λ so can. c.in_err-end_event.ensures.unfit so (tables_then (takes_call c.args.self.now.frame.config c.args.self.now.frame.me c.args.process c.args.words) c.args.links.now c.args.self.now c.take_call.new.self (g.D.Disk.moment c.args.disk.now) (g.D.Disk.moment c.args.disk.now) c.new-own.result c.take_call.new.out (moves_work (takes_call c.args.self.now.frame.config c.args.self.now.frame.me c.args.process c.args.words) c.args.self.now c.take_call.new.self (g.D.Disk.moment c.args.disk.now) c.new-own.result c.take_call.new.out c.requires c.in_ok-take_call.ensures) can.mending))
 
 pub returns-in_err-add_in_order-clause-unfit : goal.returns-in_err-add_in_order-clause-unfit
 returns-in_err-add_in_order-clause-unfit g c = fault_at (CanAct c.args.self.now.frame.config c.args.self.now.frame.me (groups_of c.args.self.now.packs) c.args.self.now.packs.site c.args.links.now (view_of c.args.self.now (g.D.Disk.moment c.args.disk.now).seen) (Calls c.args.process c.args.words)) c.from_residual-in_err-add_in_order.result (fault_of_order c.in_err-add_in_order.field-0.0) c.from_residual-in_err-add_in_order.ensures.1
     (order_unfit {S = Unit {0}} (CanAct c.args.self.now.frame.config c.args.self.now.frame.me (groups_of c.args.self.now.packs) c.args.self.now.packs.site c.args.links.now (view_of c.args.self.now (g.D.Disk.moment c.args.disk.now).seen) (Calls c.args.process c.args.words)) c.in_err-add_in_order.field-0.0 (λ so can. c.in_err-add_in_order.ensures.unfit so
     (own_fit (takes_call c.args.self.now.frame.config c.args.self.now.frame.me c.args.process c.args.words) (ends_event c.args.self.now.frame.config c.args.self.now.frame.me c.args.links.now) c.args.self.now c.take_call.new.self c.end_event.new.self (g.D.Disk.moment c.args.disk.now) (g.D.Disk.moment c.args.disk.now) (g.D.Disk.moment c.end_event.new.disk) c.new-own.result c.take_call.new.out c.end_event.new.out c.new-own.ensures.packets c.new-own.ensures.records
-    (moves_work (takes_call c.args.self.now.frame.config c.args.self.now.frame.me c.args.process c.args.words) c.args.self.now c.take_call.new.self (g.D.Disk.moment c.args.disk.now) c.new-own.result c.take_call.new.out c.requires.stand c.in_ok-take_call.ensures)
+    (moves_work (takes_call c.args.self.now.frame.config c.args.self.now.frame.me c.args.process c.args.words) c.args.self.now c.take_call.new.self (g.D.Disk.moment c.args.disk.now) c.new-own.result c.take_call.new.out c.requires c.in_ok-take_call.ensures)
     (moves_from (λ k me. ends_event k me c.args.links.now) c.args.self.now c.take_call.new.self c.end_event.new.self (g.D.Disk.moment c.args.disk.now) (g.D.Disk.moment c.end_event.new.disk) c.take_call.new.out c.end_event.new.out c.in_ok-take_call.ensures.config c.in_ok-take_call.ensures.me c.in_ok-end_event.ensures.step)
     can.sending)))
-
-pub end_event-requires-clause-rested : goal.end_event-requires-clause-rested
-end_event-requires-clause-rested g c = λ rested. subst Rests (sym (c.in_ok-take_call.ensures.gives (g.D.Disk.moment c.args.disk.now).seen c.requires.stand.shown).view) (c.requires.rests rested)
-
-pub returns-clause-rests : goal.returns-clause-rests
-returns-clause-rests g c = c.in_ok-end_event.ensures.rests

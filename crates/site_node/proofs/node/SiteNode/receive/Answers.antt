@@ -18,20 +18,17 @@ use Rattle.site_node.proofs.Fitted.{fault_at, handed_unfit, order_unfit}
 use Rattle.site_packs.specs.Packs.{groups_of}
 use Rattle.site_node.specs.Fitting.{CanAct}
 use Rattle.site_node.proofs.Ticked.{came_fit, came_tables, tried_fit}
-use Rattle.site_node.specs.Resting.{Rests}
-use Rattle.std.proofs.Common.{subst}
-use Rattle.site_node.proofs.Resting.{taken_rests, tried_rests}
 use Rattle.site_node.proofs.node.SiteNode.receive.Goals as goal
 
 pub returns-then-is_dropped-clause-step : goal.returns-then-is_dropped-clause-step
-returns-then-is_dropped-clause-step g c = receives_none c.args.links.now c.args.packet c.args.self.now (g.D.Disk.moment c.args.disk.now) c.args.out.now c.requires.stand (sym (c.is_dropped.ensures (g.D.Disk.moment c.args.disk.now).seen) ∙ c.if-is_dropped.true)
+returns-then-is_dropped-clause-step g c = receives_none c.args.links.now c.args.packet c.args.self.now (g.D.Disk.moment c.args.disk.now) c.args.out.now c.requires (sym (c.is_dropped.ensures (g.D.Disk.moment c.args.disk.now).seen) ∙ c.if-is_dropped.true)
 
 pub returns-clause-step : goal.returns-clause-step
 returns-clause-step g c = receives c.args.links.now c.args.packet c.args.self.now c.take.new.self c.try_adoption.new.self c.end_event.new.self (g.D.Disk.moment c.args.disk.now) (g.D.Disk.moment c.take.new.disk) (g.D.Disk.moment c.try_adoption.new.disk) (g.D.Disk.moment c.end_event.new.disk) c.new-own.result c.take.new.out c.end_event.new.out c.new-adopted.result c.try_adoption.new.out c.args.out.now c.add.new.self c.add_in_order.new.self
     c.new-own.ensures.packets c.new-own.ensures.records c.new-adopted.ensures.packets c.new-adopted.ensures.records (sym (c.is_dropped.ensures (g.D.Disk.moment c.args.disk.now).seen) ∙ c.if-is_dropped.false) c.in_default.ensures.step (c.in_default-try_adoption.ensures.step c.args.packet.body c.tries_at-tries.ensures) c.in_ok-end_event.ensures.step c.in_ok-add.ensures c.in_ok-add_in_order.ensures.order
 
 pub returns-then-is_dropped-clause-disk : goal.returns-then-is_dropped-clause-disk
-returns-then-is_dropped-clause-disk g c = untouched _ c.args.self.now.packs (g.D.Disk.moment c.args.disk.now) c.args.out.now c.args.out.now tt (dropped_none c.args.links.now c.args.packet c.args.self.now (view_of c.args.self.now (g.D.Disk.moment c.args.disk.now).seen) (sym (c.is_dropped.ensures (g.D.Disk.moment c.args.disk.now).seen) ∙ c.if-is_dropped.true)) c.requires.stand.settled (g.met.D.Disk.only_now c.args.disk.now)
+returns-then-is_dropped-clause-disk g c = untouched _ c.args.self.now.packs (g.D.Disk.moment c.args.disk.now) c.args.out.now c.args.out.now tt (dropped_none c.args.links.now c.args.packet c.args.self.now (view_of c.args.self.now (g.D.Disk.moment c.args.disk.now).seen) (sym (c.is_dropped.ensures (g.D.Disk.moment c.args.disk.now).seen) ∙ c.if-is_dropped.true)) c.requires.settled (g.met.D.Disk.only_now c.args.disk.now)
 
 pub returns-in-Err-clause-disk : goal.returns-in-Err-clause-disk
 returns-in-Err-clause-disk g c = receive_failed g.D.Disk.moment g.met.D.Disk.reads_an_image g.met.D.Disk.counts_now {T = Unit {0}} c.args.links.now c.args.packet c.args.self.now c.args.disk.now c.take.new.disk c.args.out.now c.cut_off.new.out c.cut_off.result (sym (c.is_dropped.ensures (g.D.Disk.moment c.args.disk.now).seen) ∙ c.if-is_dropped.false)
@@ -100,17 +97,3 @@ pub returns-in_err-add_in_order-clause-unfit : goal.returns-in_err-add_in_order-
 returns-in_err-add_in_order-clause-unfit g c = fault_at (CanAct c.args.self.now.frame.config c.args.self.now.frame.me (groups_of c.args.self.now.packs) c.args.self.now.packs.site c.args.links.now (view_of c.args.self.now (g.D.Disk.moment c.args.disk.now).seen) (Receives c.args.packet)) c.from_residual-in_err-add_in_order.result (fault_of_order c.in_err-add_in_order.field-0.0) c.from_residual-in_err-add_in_order.ensures.1
     (order_unfit {S = Unit {0}} (CanAct c.args.self.now.frame.config c.args.self.now.frame.me (groups_of c.args.self.now.packs) c.args.self.now.packs.site c.args.links.now (view_of c.args.self.now (g.D.Disk.moment c.args.disk.now).seen) (Receives c.args.packet)) c.in_err-add_in_order.field-0.0 (λ so can. c.in_err-add_in_order.ensures.unfit so
     (came_fit c.args.links.now c.args.packet c.args.self.now c.take.new.self c.try_adoption.new.self c.end_event.new.self (g.D.Disk.moment c.args.disk.now) (g.D.Disk.moment c.take.new.disk) (g.D.Disk.moment c.try_adoption.new.disk) (g.D.Disk.moment c.end_event.new.disk) c.new-own.result c.take.new.out c.new-adopted.result c.try_adoption.new.out c.end_event.new.out c.new-own.ensures.packets c.new-own.ensures.records (sym (c.is_dropped.ensures (g.D.Disk.moment c.args.disk.now).seen) ∙ c.if-is_dropped.false) c.in_default.ensures.step (c.in_default-try_adoption.ensures.step c.args.packet.body c.tries_at-tries.ensures) c.in_ok-end_event.ensures.step can.sending)))
-
-pub end_event-requires-clause-rested : goal.end_event-requires-clause-rested
-end_event-requires-clause-rested g c = λ rested.
-    let kept = c.stays_at_rest-rested.ensures rested in
-    let now = view_of c.args.self.now (g.D.Disk.moment c.args.disk.now).seen in
-    let took = view_of c.take.new.self (g.D.Disk.moment c.take.new.disk).seen in
-    let after : Rests took = subst Rests (sym c.in_default.ensures.step.gives.view) (taken_rests c.args.self.now.frame.config c.args.self.now.frame.me c.args.links.now c.args.packet now kept.1 (c.requires.rests kept.0)) in
-    subst Rests (sym (c.in_default-try_adoption.ensures.step c.args.packet.body c.tries_at-tries.ensures).gives.view) (tried_rests c.take.new.self.frame.config c.take.new.self.frame.me c.args.packet.body took kept.1 after)
-
-pub returns-then-is_dropped-clause-rests : goal.returns-then-is_dropped-clause-rests
-returns-then-is_dropped-clause-rests g c = c.requires.rests
-
-pub returns-clause-rests : goal.returns-clause-rests
-returns-clause-rests g c = c.in_ok-end_event.ensures.rests

@@ -18,12 +18,10 @@ use Rattle.site_packs.specs.Packs.{groups_of}
 use Rattle.site_node.specs.Fitting.{CanAct}
 use Rattle.role_steps.specs.Views.{Ticks}
 use Rattle.site_node.proofs.Ticked.{again_fit, last_fit, late_tables}
-use Rattle.site_node.specs.Resting.{Rests}
-use Rattle.site_node.proofs.Resting.{adopts_rests}
 use Rattle.site_node.proofs.node.SiteNode.tick.Goals as goal
 
-pub end_event-requires-clause-stand : goal.end_event-requires-clause-stand
-end_event-requires-clause-stand g c = subst (λ (p : PacksState). Stand p (g.D.Disk.moment c.adopt.new.disk)) (sym c.in_ok-repeat.ensures.adds.packs) c.in_default.ensures.step.stands
+pub end_event-requires : goal.end_event-requires
+end_event-requires g c = subst (λ (p : PacksState). Stand p (g.D.Disk.moment c.adopt.new.disk)) (sym c.in_ok-repeat.ensures.adds.packs) c.in_default.ensures.step.stands
 
 pub returns-clause-step : goal.returns-clause-step
 returns-clause-step g c = tick_given c.args.links.now c.args.self.now c.adopt.new.self c.repeat.new.self c.end_event.new.self (g.D.Disk.moment c.args.disk.now) (g.D.Disk.moment c.adopt.new.disk) (g.D.Disk.moment c.end_event.new.disk) c.new-adopted.result c.adopt.new.out c.new-last.result c.end_event.new.out c.args.out.now c.add.new.self c.repeat.new.out c.add_in_order.new.self
@@ -85,14 +83,3 @@ pub returns-in_err-add_in_order-clause-unfit : goal.returns-in_err-add_in_order-
 returns-in_err-add_in_order-clause-unfit g c = fault_at (CanAct c.args.self.now.frame.config c.args.self.now.frame.me (groups_of c.args.self.now.packs) c.args.self.now.packs.site c.args.links.now (view_of c.args.self.now (g.D.Disk.moment c.args.disk.now).seen) Ticks) c.from_residual-in_err-add_in_order.result (fault_of_order c.in_err-add_in_order.field-0.0) c.from_residual-in_err-add_in_order.ensures.1
     (order_unfit {S = Unit {0}} (CanAct c.args.self.now.frame.config c.args.self.now.frame.me (groups_of c.args.self.now.packs) c.args.self.now.packs.site c.args.links.now (view_of c.args.self.now (g.D.Disk.moment c.args.disk.now).seen) Ticks) c.in_err-add_in_order.field-0.0 (λ so can. c.in_err-add_in_order.ensures.unfit so
     (last_fit c.args.links.now c.args.self.now c.adopt.new.self c.repeat.new.self c.end_event.new.self (g.D.Disk.moment c.args.disk.now) (g.D.Disk.moment c.adopt.new.disk) (g.D.Disk.moment c.end_event.new.disk) c.new-adopted.result c.adopt.new.out c.add.new.self c.repeat.new.out c.new-last.result c.end_event.new.out c.new-last.ensures.packets c.in_default.ensures.step c.in_ok-repeat.ensures.adds c.in_ok-end_event.ensures.step can.sending)))
-
-pub end_event-requires-clause-rested : goal.end_event-requires-clause-rested
-end_event-requires-clause-rested g c = λ rested.
-    let kept = c.rests_at_tick-rested.ensures rested in
-    let now = view_of c.args.self.now (g.D.Disk.moment c.args.disk.now).seen in
-    let adopted = view_of c.adopt.new.self (g.D.Disk.moment c.adopt.new.disk).seen in
-    let after : Rests adopted = subst Rests (sym c.in_default.ensures.step.gives.view) (adopts_rests c.args.self.now.frame.config c.args.self.now.frame.me now kept.1 (c.requires.rests kept.0)) in
-    subst Rests (sym (c.in_ok-repeat.ensures.adds.view (g.D.Disk.moment c.adopt.new.disk).seen)) after
-
-pub returns-clause-rests : goal.returns-clause-rests
-returns-clause-rests g c = c.in_ok-end_event.ensures.rests

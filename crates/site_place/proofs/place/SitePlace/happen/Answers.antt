@@ -35,23 +35,14 @@ returns-in_default-clause-gives c =
     let p = c.self.inside in
     event_nothing (groups_at p.config p.me) p.config p.me c.args.links.now (event_of c.args.event) p.node (seen p.disk.disk) (armed_in p.armed) c.args.self.now c.new-out.result c.self.view_is c.in_default.is c.new-out.ensures
 
-pub act-requires-clause-stand : goal.act-requires-clause-stand
-act-requires-clause-stand c =
+pub act-requires : goal.act-requires
+act-requires c =
     let p = c.self.inside in
     let is = c.self.invariant in
     let old = p.disk.disk in
     let n = c.in-Some.node in
     let runs : IsRunning p.config p.me n (moment old) = subst (λ (k : Option SiteNode). MayRun p.config p.me k (moment old)) c.in-Some.is is.node in
     runs.stands
-
-pub act-requires-clause-rests : goal.act-requires-clause-rests
-act-requires-clause-rests c =
-    let p = c.self.inside in
-    let is = c.self.invariant in
-    let old = p.disk.disk in
-    let n = c.in-Some.node in
-    let runs : IsRunning p.config p.me n (moment old) = subst (λ (k : Option SiteNode). MayRun p.config p.me k (moment old)) c.in-Some.is is.node in
-    runs.rests
 
 pub invariant_of-self-in-Ok : goal.invariant_of-self-in-Ok
 invariant_of-self-in-Ok c =
@@ -74,7 +65,7 @@ invariant_of-self-in-Ok c =
       settled = made.step.stands.settled;
       whole = there.whole;
       script = armed_same now.script (with_count left p.armed) later passed.script (sym c.with_left-self-inside.ensures);
-      node = runs_on p.config p.me n c.act.new.node links e (moment old) (moment now) c.new-out.result c.act.new.out runs made.step made.rests there.label;
+      node = runs_on p.config p.me n c.act.new.node links e (moment old) (moment now) c.new-out.result c.act.new.out runs made.step there.label;
     }
 
 pub returns-in-Ok-clause-gives : goal.returns-in-Ok-clause-gives

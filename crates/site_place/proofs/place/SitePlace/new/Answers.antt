@@ -43,7 +43,7 @@ invariant_of-result c =
     let long : disk_length config me ≤ length image = subst (λ (k : ℕ). disk_length config me ≤ k) (sym made.outside.long) (long_enough config me c.length.result (seen old) c.length.ensures c.in_ok-disk.ensures.read) in
     let n = c.fresh-node.result in
     let fresh_is = c.fresh-node.ensures in
-    let runs = runs_fresh config me 1 n c.in-Ok.packs _ (moment now) made.stands made.groups made.site fresh_is.packs fresh_is.rests (fresh_is.config ∙ c.in_ok-own.ensures) fresh_is.site (fresh_is.view image) made.label in
+    let runs = runs_fresh config me 1 n c.in-Ok.packs _ (moment now) made.stands made.groups made.site fresh_is.packs (fresh_is.config ∙ c.in_ok-own.ensures) fresh_is.site (fresh_is.view image) made.label in
     subst (λ (k : Config). IsPlace (record { alloc = c.args.alloc; config = k; me = me; node = Some n; disk = c.format.new.disk; armed = None })) (sym c.in_ok-cluster.ensures)
     (record {
       settled = made.stands.settled;

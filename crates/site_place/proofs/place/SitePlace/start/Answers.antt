@@ -59,7 +59,7 @@ invariant_of-self c =
       whole = whole_booted p.config p.me (seen old) (seen now) is.whole ((made.any_moment is.whole.sound).each (seen now) (record { long = refl; outside = λ k none. refl }));
       script = armed_same now.script (with_count left p.armed) later passed.script (sym c.with_left-self-inside.ensures);
       node = subst (λ (k : Option SiteNode). MayRun p.config p.me k (moment now)) (sym c.enter.ensures)
-          (runs_fresh p.config p.me c.in-Ok.boot n c.in-Ok.packs _ (moment now) made.stands made.groups made.site c.fresh-node.ensures.packs c.fresh-node.ensures.rests (c.fresh-node.ensures.config ∙ c.in_ok-config.ensures) c.fresh-node.ensures.site (c.fresh-node.ensures.view (seen now)) made.label);
+          (runs_fresh p.config p.me c.in-Ok.boot n c.in-Ok.packs _ (moment now) made.stands made.groups made.site c.fresh-node.ensures.packs (c.fresh-node.ensures.config ∙ c.in_ok-config.ensures) c.fresh-node.ensures.site (c.fresh-node.ensures.view (seen now)) made.label);
     }
 
 pub invariant_of-self-in-Ok : goal.invariant_of-self-in-Ok
@@ -80,7 +80,7 @@ invariant_of-self-in-Ok c =
       whole = whole_booted p.config p.me (seen old) (seen now) is.whole ((made.any_moment is.whole.sound).each (seen now) (record { long = refl; outside = λ k none. refl }));
       script = armed_same now.script (with_count left p.armed) later passed.script (sym c.with_left-self-inside.ensures);
       node = subst (λ (k : Option SiteNode). MayRun p.config p.me k (moment now)) (sym c.enter.ensures)
-          (runs_fresh p.config p.me c.in-Ok.boot n c.in-Ok.packs _ (moment now) made.stands made.groups made.site c.fresh-node.ensures.packs c.fresh-node.ensures.rests (c.fresh-node.ensures.config ∙ c.in_ok-config.ensures) c.fresh-node.ensures.site (c.fresh-node.ensures.view (seen now)) made.label);
+          (runs_fresh p.config p.me c.in-Ok.boot n c.in-Ok.packs _ (moment now) made.stands made.groups made.site c.fresh-node.ensures.packs (c.fresh-node.ensures.config ∙ c.in_ok-config.ensures) c.fresh-node.ensures.site (c.fresh-node.ensures.view (seen now)) made.label);
     }
 
 pub returns-in_ok-told-in-Ok-clause-gives : goal.returns-in_ok-told-in-Ok-clause-gives
