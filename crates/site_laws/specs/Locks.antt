@@ -5,3 +5,4 @@ pub mod Writing
 pub mod Joins
 pub mod Grants
 pub mod Asked
+pub mod Synced

@@ -26,7 +26,7 @@ mod pack_laws;
 mod running;
 mod stamp;
 mod vector_laws;
-mod version;
+pub mod version;
 mod writer;
 
 pub use history::{commits_are_held, copies_are_true, sites_are_known, vectors_tell_ancestors};
@@ -58,7 +58,4 @@ pub use kept_laws::{
     versions_are_ordered,
 };
 pub use stamp::stamps_are_once;
-pub use version::{
-    commits_are_held, commits_are_numbered, copies_are_true, vectors_are_written,
-    vectors_tell_ancestors, versions_hold,
-};
+pub use version::versions_hold;

@@ -31,7 +31,7 @@ use Rattle.site_laws.proofs.Vectors.SiteDisks.{SiteDisk}
 use Rattle.site_laws.proofs.Vectors.SiteFacts.{SiteFine as VersionsFine}
 use Rattle.site_laws.specs.Vectors.HistoryCommits.{IsSite, StampsAreOnce}
 use Rattle.site_laws.specs.Locks.Joins.{WasJoined}
-use Rattle.site_laws.proofs.Locks.GrantSites.{SyncedBy}
+use Rattle.site_laws.specs.Locks.Synced.{SyncedBy}
 use Rattle.site_laws.proofs.Makes.RunningStandRun.{Orderly}
 use Rattle.site_laws.specs.Kept.StampCommits.{MadeAt}
 use Rattle.site_laws.specs.Kept.StampLaws.{Laws}

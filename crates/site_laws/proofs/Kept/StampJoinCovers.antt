@@ -36,7 +36,8 @@ use Rattle.site_laws.proofs.Vectors.SiteDisks.{mends_of_keeps}
 use Rattle.site_laws.specs.Vectors.HistoryCommits.{IsSite}
 use Rattle.site_laws.specs.Locks.Going.{WasReleased}
 use Rattle.site_laws.specs.Locks.Joins.{WasJoined}
-use Rattle.site_laws.proofs.Locks.GrantSites.{SyncedBy, ascending_filter, made_rising, groups_ascend, passing, is_synced}
+use Rattle.site_laws.specs.Locks.Synced.{SyncedBy}
+use Rattle.site_laws.proofs.Locks.GrantSites.{ascending_filter, made_rising, groups_ascend, passing, is_synced}
 use Rattle.site_laws.specs.Kept.StampCommits.{WasMade, Under}
 use Rattle.site_laws.specs.Kept.StampLaws.{Laws}
 use Rattle.site_laws.specs.Kept.StampCovering.{Covers, InReport, Bare, PacketCovers, Instances, CopyCounts, DiskCounts, InKept, Table, InEpochCovers, View, GoesRecord, Goes, AllGo}

@@ -32,7 +32,8 @@ use Rattle.site_laws.proofs.Vectors.RolesSend.{back}
 use Rattle.site_laws.specs.Locks.Facts.{BodyFact as LockBody}
 use Rattle.site_laws.specs.Locks.Joins.{WasJoined}
 use Rattle.site_laws.proofs.Locks.Facts.{onto_later}
-use Rattle.site_laws.proofs.Locks.GrantSites.{Rising, put_tables, rising_put}
+use Rattle.site_laws.specs.Locks.Synced.{Rising}
+use Rattle.site_laws.proofs.Locks.GrantSites.{put_tables, rising_put}
 use Rattle.site_laws.specs.Kept.StampLaws.{Laws}
 use Rattle.site_laws.specs.Kept.StampCovering.{BodyCovers, Bare, Instances, DiskCounts, Table, Inside, InEpochCovers, View, Goes, AllGo, DiskGoes, Fine}
 use Rattle.site_laws.proofs.Kept.StampFrames.{NotAt, not_commit, Elsewhere, instances_after, disk_after, table_after, fold, bares}

@@ -30,7 +30,7 @@ use Rattle.site_laws.specs.Vectors.Facts.{onto, file_in, MadeFact, MaybeMade, Ro
 use Rattle.site_laws.proofs.Vectors.SyncFacts.{FoundAt, row_at, every_latest, file_eq}
 use Rattle.site_laws.specs.Locks.Going.{WasReleased}
 use Rattle.site_laws.specs.Locks.Joins.{WasJoined}
-use Rattle.site_laws.proofs.Locks.GrantSites.{SyncedBy}
+use Rattle.site_laws.specs.Locks.Synced.{SyncedBy}
 use Rattle.site_laws.specs.Kept.StampCommits.{Under, Counts}
 use Rattle.site_laws.specs.Kept.StampLaws.{Laws}
 use Rattle.site_laws.specs.Kept.StampCovering.{InMade, Closes, Bare, InKept, RowOpens, Table}

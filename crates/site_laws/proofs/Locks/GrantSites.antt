@@ -29,16 +29,13 @@ use Rattle.site_laws.proofs.Vectors.SyncFacts.{FoundAt, row_at}
 use Rattle.site_laws.specs.Locks.Joins.{WasJoined, JoinsAreOnce}
 use Rattle.site_laws.specs.Locks.Locks.{IsOfAFile}
 use Rattle.site_laws.specs.Locks.Grants.{GrantedAsRecord, GrantedAs, WasGrantedAs}
+use Rattle.site_laws.specs.Locks.Synced.{Rising, Orderly, SyncedBy}
 use Rattle.site_laws.proofs.Locks.Facts.{Later, onto_later}
 use Rattle.site_laws.proofs.Locks.GrantFacts.{TableKeeps}
 use Rattle.site_laws.proofs.Locks.GrantTold.{TableLock, lock_later, HereRecord, GrantHere, BareRecord, Bare, bare_since, here_since, AllLocked, locked_append, bare_locked}
 use Rattle.site_laws.proofs.Locks.BareRoles.{BareWrite}
 
 -- ---- tables, their groups rising ----
-
-abbrev pub Rising : List SyncTable → Type 0
-Rising [] = Unit {0}
-Rising (t ∷ ts) = Every (λ (u : SyncTable). nat_lt t.group u.group ≡ true) ts × Rising ts
 
 less_not : (a b : ℕ) → nat_lt a b ≡ true → a ≡ b → ⊥
 less_not a b h e = grind (arith, nat_tests)
@@ -120,20 +117,6 @@ is_synced c me members g = by_site (sync_site c members g) refl
     by_site (Some s) e h = e ∙ ap Some (equal s me (sym (some s e) ∙ h))
 
 -- ---- what was told, and a site ----
-
--- of whichever sites, two joins of one id have the same members
-abbrev pub OneTold : List Told → Type 0
-OneTold past = (s t : ℕ) (id : EpochId) (m n : Members) → WasJoined past s id m → WasJoined past t id n → m ≡ n
-
-pub record Orderly (past : List Told) : Type 0 where
-  pub once : JoinsAreOnce past
-  pub one : OneTold past
-
--- each plain grant is of the synchronization site of its group in an epoch that it has joined
-pub record SyncedBy (c : Config) (past : List Told) (e : EpochId) (group : ℕ) (s : ℕ) : Type 0 where
-  pub members : Members
-  pub joined : WasJoined past s e members
-  pub synced : sync_site c members group ≡ Some s
 
 abbrev pub ByRecord : Config → List Told → ℕ → Record → Type 0
 ByRecord c past s (says.Grant e call request inst m file stamp ss) = IsOfAFile m → SyncedBy c past e file.group s

@@ -44,7 +44,8 @@ use Rattle.run_laws.proofs.FactWalks.Roles.{by_role, stores_by, readers_by, user
 use Rattle.site_laws.specs.Locks.Joins.{WasJoined}
 use Rattle.site_laws.specs.Locks.Locks.{IsOfAFile}
 use Rattle.site_laws.specs.Locks.Grants.{WasGrantedAs}
-use Rattle.site_laws.proofs.Locks.GrantSites.{bares_by, put_tables, rising_put, ascending_filter, made_rising, groups_ascend, passing, is_synced, Orderly, SyncedBy, GrantsSynced, GrantsIn, SiteLock, SiteKeeps, orderly_before, synced_after, in_bare, alike, none_bare, plain_site, quiet_site, then_site, in_epoch, group_part, with_part}
+use Rattle.site_laws.specs.Locks.Synced.{Orderly, SyncedBy}
+use Rattle.site_laws.proofs.Locks.GrantSites.{bares_by, put_tables, rising_put, ascending_filter, made_rising, groups_ascend, passing, is_synced, GrantsSynced, GrantsIn, SiteLock, SiteKeeps, orderly_before, synced_after, in_bare, alike, none_bare, plain_site, quiet_site, then_site, in_epoch, group_part, with_part}
 use Rattle.site_laws.proofs.Locks.StepFacts.{SiteSilent, notify_silent, page_silent, delta_silent, framed_notify}
 use Rattle.site_laws.proofs.Locks.GrantFacts.{on_opened_keeps, on_open_keeps, on_look_keeps, on_report_keeps, on_closed_keeps, have_lock, on_have_keeps}
 use Rattle.site_laws.proofs.Locks.GrantTold.{Held, TableLock, Bare, bare_locked}

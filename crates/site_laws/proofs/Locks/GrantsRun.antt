@@ -39,7 +39,8 @@ use Rattle.site_laws.specs.Locks.Grants.{WasGrantedAs, GrantsAreLocked}
 use Rattle.site_laws.proofs.Locks.Facts.{onto_later}
 use Rattle.site_laws.proofs.Locks.GrantTold.{TableLock, lock_later, BareRecord, Bare, AllLocked, bare_locked}
 use Rattle.site_laws.proofs.Locks.BareRoles.{BareWrite}
-use Rattle.site_laws.proofs.Locks.GrantSites.{OneTold, Orderly, SyncedBy, GrantsSynced, GrantBy, GrantsIn, SiteLock, SiteKeeps, orderly_before, synced_after, bares_by, granted_by, in_bare}
+use Rattle.site_laws.specs.Locks.Synced.{OneTold, Orderly, SyncedBy}
+use Rattle.site_laws.proofs.Locks.GrantSites.{GrantsSynced, GrantBy, GrantsIn, SiteLock, SiteKeeps, orderly_before, synced_after, bares_by, granted_by, in_bare}
 use Rattle.site_laws.proofs.Locks.GrantSteps.{step_site}
 use Rattle.site_laws.proofs.Locks.JoinsRun.{run_joins_once}
 

@@ -21,7 +21,8 @@ use Rattle.site_laws.proofs.Vectors.SyncFacts.{FoundAt, row_at}
 use Rattle.site_laws.specs.Locks.Joins.{WasJoined}
 use Rattle.site_laws.proofs.Locks.Facts.{Later, onto_later}
 use Rattle.site_laws.specs.Vectors.Written.{WasTold}
-use Rattle.site_laws.proofs.Locks.GrantSites.{Rising, put_tables, rising_put, SyncedBy}
+use Rattle.site_laws.specs.Locks.Synced.{Rising, SyncedBy}
+use Rattle.site_laws.proofs.Locks.GrantSites.{put_tables, rising_put}
 use Rattle.site_laws.specs.Makes.Tables.{TableMade, PlainRecord, PlainTold}
 use Rattle.site_laws.specs.Makes.Fresh.{FreshTold}
 use Rattle.site_laws.proofs.Makes.Telling.{TabularRecord, Tabular, HereRecord, Here, AsideRecord, Aside}

@@ -41,7 +41,8 @@ use Rattle.site_laws.specs.Locks.Joins.{WasJoined}
 use Rattle.site_laws.proofs.Locks.StepFacts.{SiteSilent, notify_silent, page_silent, delta_silent, framed_notify}
 use Rattle.site_laws.specs.Vectors.Written.{WasTold}
 use Rattle.site_laws.specs.Locks.Going.{WasStarted}
-use Rattle.site_laws.proofs.Locks.GrantSites.{put_tables, rising_put, ascending_filter, made_rising, groups_ascend, passing, is_synced, SyncedBy}
+use Rattle.site_laws.specs.Locks.Synced.{SyncedBy}
+use Rattle.site_laws.proofs.Locks.GrantSites.{put_tables, rising_put, ascending_filter, made_rising, groups_ascend, passing, is_synced}
 use Rattle.site_laws.specs.Makes.Tables.{ReleasedOn, HasEnded, TableMade, Ordered}
 use Rattle.site_laws.proofs.Makes.Telling.{Tabular, Aside}
 use Rattle.site_laws.proofs.Makes.RolesTell.{on_call_idle}

@@ -24,7 +24,7 @@ use Rattle.site_laws.specs.Vectors.Facts.{onto}
 use Rattle.site_laws.proofs.Vectors.FactsRun.{past_onto}
 use Rattle.site_laws.specs.Locks.Joins.{WasJoined}
 use Rattle.site_laws.proofs.Locks.Facts.{onto_later}
-use Rattle.site_laws.proofs.Locks.GrantSites.{OneTold, SyncedBy}
+use Rattle.site_laws.specs.Locks.Synced.{OneTold, SyncedBy}
 use Rattle.site_laws.specs.Makes.Tables.{TableMade, Ordered, PlainGrantsAreFree}
 use Rattle.site_laws.proofs.Makes.Telling.{AsideRecord, Aside}
 use Rattle.site_laws.proofs.Makes.TableTold.{ordered_before, all_fresh, IsForeign, not_tabular, table_later}

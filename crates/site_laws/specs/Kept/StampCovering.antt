@@ -40,7 +40,7 @@ use Rattle.site_laws.specs.Locks.Going.{WasBegunAt, WasShutAt, WasReleased}
 use Rattle.site_laws.specs.Locks.Grants.{WasGrantedAs, IsOver}
 use Rattle.site_laws.specs.Locks.Joins.{WasJoined}
 use Rattle.site_laws.specs.Locks.Locks.{IsOfAFile}
-use Rattle.site_laws.proofs.Locks.GrantSites.{Rising, SyncedBy}
+use Rattle.site_laws.specs.Locks.Synced.{Rising, SyncedBy}
 use Rattle.site_laws.specs.Makes.Holding.{WasReserved}
 use Rattle.site_laws.specs.Kept.StampCommits.{WasMade, Under, ByWriter, Counts, Here}
 

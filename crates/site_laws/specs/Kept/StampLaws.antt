@@ -7,7 +7,7 @@ use Rattle.site_laws.specs.Vectors.Written.{InstancesAgree}
 use Rattle.site_laws.specs.Vectors.HistoryCommits.{CommitsAreSited, NumbersFit}
 use Rattle.site_laws.specs.Locks.Going.{InstancesGoOn}
 use Rattle.site_laws.specs.Locks.Joins.{JoinsAreOnce}
-use Rattle.site_laws.proofs.Locks.GrantSites.{OneTold}
+use Rattle.site_laws.specs.Locks.Synced.{OneTold}
 use Rattle.site_laws.specs.Packs.Packs.{ToldPacked}
 use Rattle.site_laws.specs.Makes.RunningRunning.{BegunAtOneSite, PlainGrantsStand}
 use Rattle.site_laws.specs.Makes.Fresh.{NumbersAreFresh}

@@ -24,7 +24,7 @@ use Rattle.site_laws.specs.Vectors.Facts.{file_in, EarlyFact}
 use Rattle.site_laws.specs.Locks.Going.{WasReleased, WasStarted, InstancesGoOn}
 use Rattle.site_laws.specs.Locks.Grants.{WasGrantedAs}
 use Rattle.site_laws.specs.Locks.Locks.{IsOfAFile}
-use Rattle.site_laws.proofs.Locks.GrantSites.{Orderly}
+use Rattle.site_laws.specs.Locks.Synced.{Orderly}
 use Rattle.site_laws.specs.Packs.WriterGranting.{GrantsAreAlike}
 use Rattle.site_laws.specs.Packs.Making.{NotEmpty, WasCommitted}
 use Rattle.site_laws.specs.Makes.Fresh.{NumbersAreFresh}
