@@ -207,7 +207,7 @@ arrive_shown n k p x y z is ec ep ek eb h u c taken w o e sh =
 
 -- one that wasn't sent doesn't arrive
 pub arrive_unsent : (n k : ℕ) (x : WorldState) → is_sent k x.book.post ≡ false → (u : Numbered) (c : Config) (taken : Taken) (w : World) → w.over ≡ None → packet_at w k ≡ Some u → Shows c taken w x → Shows c taken (arrives c n u w) x
-arrive_unsent n k x no u c taken w o e sh =
+arrive_unsent n k x unsent u c taken w o e sh =
     let there : sent_at k x.book.post ≡ Some u = sym (packet_same c taken w x o sh k) ∙ e in
     let yes : is_sent k x.book.post ≡ true = ap is_some there in
     absurd (cc)
