@@ -136,7 +136,7 @@ module _ (wrote : ℕ → List ℕ) where
     stays_exact q writes change before h g = event_exact c lines m [] (Shown d.says ∷ Shown (says.Stopped s (cause_of a.how)) ∷ []) change w
         (λ r pass old. (let k : IsScripted (armed_at wrote c lines (trace_of w) m s) a = scripted_here (before r) in
         more_exact wrote c lines m (says.Stopped s (cause_of a.how)) first
-        (stop_cut wrote c lines m s a.how true first (version_up s s m d.says (trace_of w) own ∙ up) (inl (record { same_line = refl; arming = k.arming; armed = armed_so wrote c lines (trace_of w) m s a k; cut = version_is_cut wrote c (trace_of w) s v.store d (armed_at wrote c lines (trace_of w) m s) a k true (a_version c s d.says own).writer (writes r) lacks q })))
+        (stop_cut wrote c lines m s a.how true first (version_up c s s m d.says (trace_of w) own ∙ up) (inl (record { same_line = refl; arming = k.arming; armed = armed_so wrote c lines (trace_of w) m s a k; cut = version_is_cut wrote c (trace_of w) s v.store d (armed_at wrote c lines (trace_of w) m s) a k true (a_version c s d.says own).writer (writes r) lacks q })))
         (heeded (before r) old) (version_cut wrote c lines m s d.says (trace_of w) own, old.cuts) pass)) h g
       where
         first : Trace
