@@ -27,13 +27,3 @@ pub fn given<T, R: Abort + Eprint>(rt: &R, outcome: Result<T, Fail>) -> T
 fn failed(fail: Fail) -> Result<(), Fail> {
     Err(fail)
 }
-
-/// The text that a call gave is this one.
-pub fn is_text<R: Abort + Eprint>(rt: &R, text: Result<String, Fail>, wanted: &str) {
-    is_same(rt, &given(rt, text), wanted);
-}
-
-/// The text is this one.
-pub fn is_same<R: Abort>(rt: &R, text: &String, wanted: &str) {
-    assert!(rt; text.as_str() == wanted);
-}

@@ -3,20 +3,30 @@
 #![tactic(auto)]
 
 #[cfg(test)]
+mod calling;
+#[cfg(test)]
 mod checks;
 #[cfg(test)]
 mod epoch_tests;
+#[cfg(test)]
+mod forming;
 #[cfg(test)]
 mod merge_tests;
 #[cfg(test)]
 mod pull_tests;
 #[cfg(test)]
-mod script_tests;
+mod pulling;
 #[cfg(test)]
-mod told;
+mod script;
+#[cfg(test)]
+mod script_tests;
 #[cfg(test)]
 mod using;
 #[cfg(test)]
 mod using_tests;
 #[cfg(test)]
 mod walk_tests;
+#[cfg(test)]
+mod walking;
+#[cfg(test)]
+mod words;

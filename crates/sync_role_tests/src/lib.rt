@@ -9,8 +9,14 @@ mod css_tests;
 #[cfg(test)]
 mod group;
 #[cfg(test)]
+mod knowing;
+#[cfg(test)]
 mod known;
+#[cfg(test)]
+mod script;
 #[cfg(test)]
 mod table_tests;
 #[cfg(test)]
 mod version_tests;
+#[cfg(test)]
+mod words;
