@@ -17,7 +17,7 @@ mod reading;
 mod tidy_laws;
 mod turn_laws;
 
-pub use tidy_laws::{records_have_one_call, steps_are_of_one_call, tidy_stays};
 pub use answers::sound_traces_are_answered_yes;
 pub use reading::{following_traces_are_sound, records_are_meant_by_their_texts};
+pub use tidy_laws::{records_have_one_call, steps_are_of_one_call, tidy_stays};
 pub use turn_laws::changed_comes_in_turn;

@@ -23,18 +23,18 @@ mod convergence_laws;
 mod laws;
 mod pull_laws;
 
-pub use calm_sent_laws::{instances_stand, packets_stand, reports_stand};
-pub use pull_laws::{
-    held_never_falls, known_are_under_the_only_kept, pulls_ascend, started_groups_are_packed,
-};
-pub use calm_table_laws::tables_keep_their_shape;
 pub use calm_answer::{
     calm_rounds_answer, calm_rounds_leave_nobody, looks_are_known, opens_carry_on, reports_carry_on,
 };
-pub use laws::nobody_waits_where_nothing_comes;
+pub use calm_sent_laws::{instances_stand, packets_stand, reports_stand};
+pub use calm_table_laws::tables_keep_their_shape;
 pub use convergence_laws::{
     copies_converge, copies_converge_in_traces, no_directory_is_flagged,
     no_directory_is_flagged_in_traces, no_rescue_is_wanted, no_rescue_is_wanted_in_traces,
     some_directories_want_a_rescue, some_files_are_at_rest, undisturbed_directories_want_no_rescue,
     undisturbed_directories_want_no_rescue_in_traces,
+};
+pub use laws::nobody_waits_where_nothing_comes;
+pub use pull_laws::{
+    held_never_falls, known_are_under_the_only_kept, pulls_ascend, started_groups_are_packed,
 };

@@ -48,33 +48,33 @@ mod voids;
 mod whole_run_laws;
 mod wrong;
 
-pub use cut::cut_calls_are_counted;
-pub use whole_run_laws::{disks_hold_what_was_told, large_rounds_end};
-pub use stop_laws::cuts_are_exact;
-pub use samples::{right_cuts_are_exact, rows_let_wrong_cuts_through, wrong_cuts_are_refused};
 pub use alone::void_lines_tell_nothing_else;
-pub use places::records_stand_where_they_may;
-pub use prompt::{disks_are_heeded, run_is_prompt};
-pub use replies::{due_replies_come_next, replies_are_given, replies_stand_directly};
-pub use speaking::records_speak_of_what_is;
-pub use wrong::no_run_tells_these;
+pub use beside::{commits_wait_to_be_asked, owed_replies_come_first, refused_calls_change_nothing};
+pub use box_laws::boxes_merge_by_themselves;
 pub use commits::{
     aborts_drop_what_is_uncommitted, commits_are_not_refused, commits_come_when_asked,
 };
-pub use holding::{commits_stay_held, only_a_changed_epoch_refuses, what_is_acknowledged_is_new};
-pub use moments::{events_leave_all_so, versions_hold_throughout};
-pub use one_trace::{the_history_is_one, the_printed_trace_is_one};
-pub use rounds::{budgets_were_passed, calm_rounds_deliver_all, steady_rounds_are_calm};
-pub use voids::void_lines_change_nothing;
-pub use promise_laws_wrong::wrong_traces_break_promises;
-pub use stop_promise_laws::exact_cuts_keep_the_promise;
-pub use laws::{every_run_keeps_its_promises, runs_are_lawful};
-pub use beside::{commits_wait_to_be_asked, owed_replies_come_first, refused_calls_change_nothing};
+pub use cut::cut_calls_are_counted;
 pub use headline::{acknowledged_versions_are_new, every_run_keeps_the_headline};
 pub use headline_promise_laws::{
     commits_are_kept, files_are_flagged_rightly, files_come_back_whole, runs_are_one_tree,
 };
+pub use holding::{commits_stay_held, only_a_changed_epoch_refuses, what_is_acknowledged_is_new};
+pub use laws::{every_run_keeps_its_promises, runs_are_lawful};
 pub use lines::lines_ask_for_runs;
-pub use stops::stops_come_where_disks_are_cut;
-pub use box_laws::boxes_merge_by_themselves;
+pub use moments::{events_leave_all_so, versions_hold_throughout};
+pub use one_trace::{the_history_is_one, the_printed_trace_is_one};
 pub use one_version_laws::steady_readers_stay_with_one_version;
+pub use places::records_stand_where_they_may;
+pub use promise_laws_wrong::wrong_traces_break_promises;
+pub use prompt::{disks_are_heeded, run_is_prompt};
+pub use replies::{due_replies_come_next, replies_are_given, replies_stand_directly};
+pub use rounds::{budgets_were_passed, calm_rounds_deliver_all, steady_rounds_are_calm};
+pub use samples::{right_cuts_are_exact, rows_let_wrong_cuts_through, wrong_cuts_are_refused};
+pub use speaking::records_speak_of_what_is;
+pub use stop_laws::cuts_are_exact;
+pub use stop_promise_laws::exact_cuts_keep_the_promise;
+pub use stops::stops_come_where_disks_are_cut;
+pub use voids::void_lines_change_nothing;
+pub use whole_run_laws::{disks_hold_what_was_told, large_rounds_end};
+pub use wrong::no_run_tells_these;

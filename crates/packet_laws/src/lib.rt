@@ -15,7 +15,11 @@ mod packet_format_laws;
 mod packet_value_laws;
 mod reach_laws;
 
-pub use packet_fit_laws::{boots_stay_low, counts_stay_low, epoch_numbers_stay_low, packets_fit_in_part};
-pub use packet_value_laws::{bodies_fit_with_their_counts, calls_want_what_fits, shown_names_are_components};
+pub use packet_fit_laws::{
+    boots_stay_low, counts_stay_low, epoch_numbers_stay_low, packets_fit_in_part,
+};
 pub use packet_format_laws::next_packets_fit;
+pub use packet_value_laws::{
+    bodies_fit_with_their_counts, calls_want_what_fits, shown_names_are_components,
+};
 pub use reach_laws::records_tell_low_numbers;

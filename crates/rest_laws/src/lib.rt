@@ -24,10 +24,18 @@ mod store_step;
 mod table;
 
 pub use adoption::{adoptions_are_taken_as_they_may, mends_wait_while_they_have_their_file_open};
+pub use calm_asking::{asked_operations_can_be_done, inserted_numbers_are_new};
+pub use copy_laws::{copies_have_contents, versions_and_copies_hold, versions_stand};
+pub use entry::{directories_name_files, who_inserts_has_made};
 pub use epoch_tree::{
     epochs_are_joined_and_reported, groups_start_when_all_have_reported, reported_rows_stand,
     reports_are_counted, reports_come_as_they_may, reports_tell_what_is_held,
     requests_that_waited_are_served, sites_join_with_nothing,
+};
+pub use fit_laws::{
+    files_have_inodes, notices_are_of_versions, opens_are_of_sites, packs_have_room,
+    sites_keep_their_room, tables_are_of_inodes, versions_fit_slots, what_is_pulled_may_be_adopted,
+    what_runs_may_be_stored,
 };
 pub use laws::{
     cached_pages_are_of_their_versions, every_run_has_its_rest, every_run_is_one_tree,
@@ -44,11 +52,3 @@ pub use store_step::{
     storage_sites_rest_on_the_past, what_is_owed_may_be_written,
 };
 pub use table::{adoptions_are_noted, closes_are_published};
-pub use copy_laws::{copies_have_contents, versions_and_copies_hold, versions_stand};
-pub use calm_asking::{asked_operations_can_be_done, inserted_numbers_are_new};
-pub use entry::{directories_name_files, who_inserts_has_made};
-pub use fit_laws::{
-    files_have_inodes, notices_are_of_versions, opens_are_of_sites, packs_have_room,
-    sites_keep_their_room, tables_are_of_inodes, versions_fit_slots, what_is_pulled_may_be_adopted,
-    what_runs_may_be_stored,
-};

@@ -25,17 +25,17 @@ mod laws;
 mod orderly_laws;
 mod orderly_traces;
 
-pub use orderly_laws::{blocks_agree, quiet_lasts, rounds_stay_calm};
+pub use bound_laws::{
+    a_report_may_send_more, bound_is_met, deliveries_send_one, records_keep_bounds,
+    requests_bounded, scripts_end,
+};
+pub use call_row_laws::{
+    calls_are_accepted, calls_are_told, the_tree_makes_runs_lawful, void_calls_are_void,
+};
 pub use laws::{
     armed_disks_keep_calls, cut_sites_were_armed, lines_are_told, lists_are_of_sites,
     lists_have_who_joins, records_are_asked_for, records_are_placed, schedules_fit_their_cluster,
     sites_go_on, the_rest_makes_runs_lawful, void_lines_are_void,
 };
-pub use call_row_laws::{
-    calls_are_accepted, calls_are_told, the_tree_makes_runs_lawful, void_calls_are_void,
-};
+pub use orderly_laws::{blocks_agree, quiet_lasts, rounds_stay_calm};
 pub use orderly_traces::{leaves_are_own, orderly_blocks_agree, orderly_blocks_form};
-pub use bound_laws::{
-    a_report_may_send_more, bound_is_met, deliveries_send_one, records_keep_bounds,
-    requests_bounded, scripts_end,
-};

@@ -17,5 +17,5 @@
 mod epoch_laws;
 mod laws;
 
-pub use laws::{epochs_go_on, joins_rise, packets_name_their_epoch, steps_name_their_epoch};
 pub use epoch_laws::{ids_are_known, polls_name_their_receiver, rounds_wait};
+pub use laws::{epochs_go_on, joins_rise, packets_name_their_epoch, steps_name_their_epoch};

@@ -29,33 +29,33 @@ mod vector_laws;
 pub mod version;
 mod writer;
 
-pub use history::{commits_are_held, copies_are_true, sites_are_known, vectors_tell_ancestors};
-pub use vector_laws::{commits_are_numbered, copies_are_told, vectors_are_written};
-pub use lock_laws::{
-    grants_are_locked, instances_go_on, joins_are_once, scripts_open_what_they_change,
-    tables_are_locked, what_is_asked_is_begun,
-};
 pub use counter::{commits_are_few, numbers_stay_low};
+pub use history::{commits_are_held, copies_are_true, sites_are_known, vectors_tell_ancestors};
 pub use inode::numbers_fit;
 pub use instance::{
     instances_agree, instances_are_begun_once, instances_have_one_site, serials_are_once,
-};
-pub use pack_laws::{files_are_made_at_home, files_lie_in_packs, homes_commit_first};
-pub use writer::{
-    changes_are_asked_to_write, commits_are_granted_here, grants_are_alike, grants_are_apart,
-    grants_name_their_site, readers_change_nothing, writers_are_alone,
-};
-pub use make_laws::{
-    grants_name_who_begins, holds_are_locked, makes_are_reserved, makes_commit_first,
-    numbers_are_fresh, reserves_are_of_makes, tables_have_reports,
-};
-pub use running::{
-    instances_are_begun_at_one_site, instances_run, opens_are_as_granted, plain_grants_stand,
-    stores_stand, writers_commit_alone,
 };
 pub use kept_laws::{
     commits_are_kept, kept_versions_hold, names_are_versions, roots_follow, vectors_keep_the_same,
     versions_are_ordered,
 };
+pub use lock_laws::{
+    grants_are_locked, instances_go_on, joins_are_once, scripts_open_what_they_change,
+    tables_are_locked, what_is_asked_is_begun,
+};
+pub use make_laws::{
+    grants_name_who_begins, holds_are_locked, makes_are_reserved, makes_commit_first,
+    numbers_are_fresh, reserves_are_of_makes, tables_have_reports,
+};
+pub use pack_laws::{files_are_made_at_home, files_lie_in_packs, homes_commit_first};
+pub use running::{
+    instances_are_begun_at_one_site, instances_run, opens_are_as_granted, plain_grants_stand,
+    stores_stand, writers_commit_alone,
+};
 pub use stamp::stamps_are_once;
+pub use vector_laws::{commits_are_numbered, copies_are_told, vectors_are_written};
 pub use version::versions_hold;
+pub use writer::{
+    changes_are_asked_to_write, commits_are_granted_here, grants_are_alike, grants_are_apart,
+    grants_name_their_site, readers_change_nothing, writers_are_alone,
+};

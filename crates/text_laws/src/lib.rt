@@ -23,12 +23,14 @@ mod record_text_laws;
 mod tree_text_laws;
 mod version_text_laws;
 
+pub use call_text_laws::calls_want_texts;
+pub use few_kept_laws::epochs_keep_few;
+pub use new_text_laws::{
+    calls_ask_few, few_are_kept, mounts_have_texts, records_name_low_requests,
+};
 pub use record_text_laws::{
     calls_have_numbers, joins_have_texts, records_are_few, records_have_lines,
     records_say_low_boots,
 };
-pub use version_text_laws::{commits_have_texts, named_versions_have_texts};
-pub use call_text_laws::calls_want_texts;
 pub use tree_text_laws::one_tree_is_text;
-pub use new_text_laws::{calls_ask_few, few_are_kept, mounts_have_texts, records_name_low_requests};
-pub use few_kept_laws::epochs_keep_few;
+pub use version_text_laws::{commits_have_texts, named_versions_have_texts};

@@ -166,14 +166,14 @@ InsideOf f v x o = Inside f v o.told
 
 inside_told : (f : Frame) (from : ℕ) (x : Body) (v : SiteView) → Inside f v (takes_inside f from x v).told
 inside_told f from x v = by_role (InsideOf f v) f from v (record {
-    tables = tables_by (InsideOf f v) mild_law f from v (tables f) (backs f from) (λ t. tt) (λ y g o is h. inl (table_mild g o v (λ t. (h t).1)));
-    stores = stores_by (InsideOf f v) mild_law f from v (stores f) versions (λ y o is h. inl (every_mild o.told h.1));
-    readers = readers_by (InsideOf f v) mild_law f from v (stores f).reads (λ b is. tt) (λ y o is same h. inl (every_mild o.told h.1));
-    users = users_inside f from v;
-    pulls = pulls_by (InsideOf f v) mild_law f from v (stores f).reads (λ b is. tt) (λ y o is h. inl (every_mild o.told h.1));
-    reported = λ group. inl tt;
-    forming = λ y is. inl tt;
-  }) x
+  tables = tables_by (InsideOf f v) mild_law f from v (tables f) (backs f from) (λ t. tt) (λ y g o is h. inl (table_mild g o v (λ t. (h t).1)));
+  stores = stores_by (InsideOf f v) mild_law f from v (stores f) versions (λ y o is h. inl (every_mild o.told h.1));
+  readers = readers_by (InsideOf f v) mild_law f from v (stores f).reads (λ b is. tt) (λ y o is same h. inl (every_mild o.told h.1));
+  users = users_inside f from v;
+  pulls = pulls_by (InsideOf f v) mild_law f from v (stores f).reads (λ b is. tt) (λ y o is h. inl (every_mild o.told h.1));
+  reported = λ group. inl tt;
+  forming = λ y is. inl tt;
+}) x
 
 -- ---- an event ----
 
