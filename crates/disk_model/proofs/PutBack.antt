@@ -88,6 +88,15 @@ module _ (seen bytes : List ℕ) (at : ℕ) (fits : at + length bytes ≤ length
           put_outside at (overwritten seen at bytes) old k fits_old (ap (λ (n : ℕ). is_within at n k) length-old ∙ out)
           ∙ put_outside at seen bytes k fits out
 
+-- what stands in a range, written there
+pub put_same : (seen : List ℕ) (at n : ℕ) → at + n ≤ length seen → overwritten seen at (bytes_at seen at n) ≡ seen
+put_same seen at n fits =
+    let long : length (bytes_at seen at n) ≡ n = omega (arith, fits, length-take n (drop at seen), length-drop at seen) in
+    ap (λ (m : ℕ). take at seen ++ (take n (drop at seen) ++ drop (at + m) seen)) long
+    ∙ ap (λ (l : List ℕ). take at seen ++ (take n (drop at seen) ++ l)) (sym (drop-drop n at seen))
+    ∙ ap (λ (l : List ℕ). take at seen ++ l) (take-append-drop n (drop at seen))
+    ∙ take-append-drop at seen
+
 -- a range that waits beside others, of which what stood there is kept
 pub length-more : (seen : List ℕ) (span : Span) → span.at + span.len ≤ length seen → length (bytes_at seen span.at span.len) ≡ span.len
 length-more seen span fits = omega (arith, fits, length-take span.len (drop span.at seen), length-drop span.at seen)
@@ -107,15 +116,7 @@ pub durable_marked : (spans : List Span) (span : Span) (before seen : List ℕ) 
 durable_marked spans span before seen kept fits =
     let more = bytes_at seen span.at span.len in
     put_back-push spans span before more seen kept (length-more seen span fits)
-    ∙ ap (λ (l : List ℕ). put_back spans before l) (take_over seen span.at span.len fits)
-  where
-    take_over : (seen : List ℕ) (at n : ℕ) → at + n ≤ length seen → overwritten seen at (bytes_at seen at n) ≡ seen
-    take_over seen at n fits =
-        let long : length (bytes_at seen at n) ≡ n = omega (arith, fits, length-take n (drop at seen), length-drop at seen) in
-        ap (λ (m : ℕ). take at seen ++ (take n (drop at seen) ++ drop (at + m) seen)) long
-        ∙ ap (λ (l : List ℕ). take at seen ++ (take n (drop at seen) ++ l)) (sym (drop-drop n at seen))
-        ∙ ap (λ (l : List ℕ). take at seen ++ l) (take-append-drop n (drop at seen))
-        ∙ take-append-drop at seen
+    ∙ ap (λ (l : List ℕ). put_back spans before l) (put_same seen span.at span.len fits)
 
 -- all bytes of another disk as long
 pub whole_over : (to from : List ℕ) (n : ℕ) → length from ≡ length to → n ≡ length from → overwritten to 0 (bytes_at from 0 n) ≡ from

@@ -125,15 +125,30 @@ impl SparseBytes {
         ensures { self.new ≡ overwritten self.old span.at (bytes_at from.now span.at span.len) }
     {
         let _len = self.len();
-        let mut bytes = [0; PIECE as usize];
         let mut done = 0;
         while done < span.len {
             let end = done + PIECE.min(span.len - done);
-            let piece = &mut bytes[..(end - done) as usize];
-            from.read(span.at + done, piece);
-            self.write(span.at + done, piece);
+            self.copy_piece(from, span.at + done, end - done);
             done = end;
         }
+    }
+
+    /// Copies a range of few bytes. One that is blank in both is left so.
+    #[inline]
+    fn copy_piece(&mut self, from: &SparseBytes, at: u32, len: u32)
+        requires few { len ≤ 512 }
+        requires long { length self.old ≡ length from.now }
+        requires inside { at + len ≤ length from.now }
+        ensures { self.new ≡ overwritten self.old at (bytes_at from.now at len) }
+    {
+        let _len = self.len();
+        if from.is_blank(at as usize, len as usize) && self.is_blank(at as usize, len as usize) {
+            return;
+        }
+        let mut bytes = [0; PIECE as usize];
+        let piece = &mut bytes[..len as usize];
+        from.read(at, piece);
+        self.write(at, piece);
     }
 
     /// Adds the bytes of a range to others, for which there is memory.

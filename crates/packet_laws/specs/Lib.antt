@@ -1,6 +1,5 @@
 pub mod Fitting
 pub mod Values
-pub mod Formats
 pub mod Reaching
 pub use Rattle.run_laws.specs as of_run_laws
 pub use Rattle.operation_effects.specs as of_operation_effects

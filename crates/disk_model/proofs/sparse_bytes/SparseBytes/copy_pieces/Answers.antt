@@ -14,6 +14,5 @@ loop-done-preserved c =
     let inside : i + n ≤ len = omega (arith, c.min.ensures, c.loop-done-test.true) in
     let whole : length (bytes_at from at len) ≡ len = length-take-le len (drop at from) (omega (arith, c.requires.inside, length-drop at from)) in
     let same : i + n - i ≡ n = omega arith in
-    let part : length (take (i + n - i) c.loop-done.bytes) ≡ n = length-take-le (i + n - i) c.loop-done.bytes (omega (arith, same, c.min.array_long, c.min.ensures)) ∙ same in
-    let piece : c.read.new.buf ≡ take n (drop i (bytes_at from at len)) = c.read.ensures ∙ ap (λ (j : ℕ). bytes_at from (at + i) j) part ∙ piece_of_range from at len i n inside c.requires.inside in
-    (piece_more c.args.self.now (bytes_at from at len) c.loop-done.self c.write.new.self c.read.new.buf at i n c.loop-done.invariant.0 c.write.ensures piece (omega (arith, inside, whole)) (omega (arith, whole, c.requires.long, c.requires.inside)), inside)
+    let piece : bytes_at from (at + i) (i + n - i) ≡ take n (drop i (bytes_at from at len)) = ap (λ (j : ℕ). bytes_at from (at + i) j) same ∙ piece_of_range from at len i n inside c.requires.inside in
+    (piece_more c.args.self.now (bytes_at from at len) c.loop-done.self c.copy_piece.new.self (bytes_at from (at + i) (i + n - i)) at i n c.loop-done.invariant.0 c.copy_piece.ensures piece (omega (arith, inside, whole)) (omega (arith, whole, c.requires.long, c.requires.inside)), inside)
