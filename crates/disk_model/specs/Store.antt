@@ -10,6 +10,10 @@ use Rattle.disk_model.specs.Images.{covers, overwritten}
 abbrev pub unsynced_max : ℕ
 unsynced_max = 1024
 
+-- the most bytes that are kept of what stood in these ranges
+abbrev pub kept_max : ℕ
+kept_max = 131072
+
 -- each of these ranges ends within so many bytes
 abbrev pub AreInRange : List Span → ℕ → Type 0
 AreInRange spans n = All (λ span. span.at + span.len ≤ n) spans

@@ -3,7 +3,7 @@
 // kept apart instead, as an array of its own.
 ghost use Rattle.std.specs.Prelude.{◌≡◌, ◌≤◌, ◌<◌, ◌+◌, ◌^◌, ℕ, List, [], ◌∷◌, ◌++◌, length, replicate, slice_index, IfOk, true, false, cond, vec_capacity};
 ghost use Rattle.disk_model.specs.Images.{overwritten, bytes_at, covers};
-ghost use Rattle.disk_model.specs.Store.{unsynced_max, AreInRange, SameOutside, bytes_in, put_back, durable_of, left_in, with_room, durable_with_room};
+ghost use Rattle.disk_model.specs.Store.{unsynced_max, kept_max, AreInRange, SameOutside, bytes_in, put_back, durable_of, left_in, with_room, durable_with_room};
 
 use crate::Leave;
 use crate::sparse_bytes::SparseBytes;
@@ -33,10 +33,10 @@ pub(crate) struct Store {
     ghost short: { length seen < 2 ^ 32 },
     ghost long: { length durable ≡ length seen },
     ghost room: { unsynced_max ≤ vec_capacity unsynced },
-    ghost bytes_room: { 131072 ≤ vec_capacity before },
+    ghost bytes_room: { kept_max ≤ vec_capacity before },
     ghost in_range: { AreInRange unsynced.items (length seen) },
     ghost kept: { is_apart ≡ false → length before.items ≡ bytes_in unsynced.items },
-    ghost in_room: { length before.items ≤ 131072 },
+    ghost in_room: { length before.items ≤ kept_max },
     ghost same_length: { length (durable_of is_apart durable unsynced.items before.items seen) ≡ length seen },
     ghost synced: { SameOutside unsynced.items (durable_of is_apart durable unsynced.items before.items seen) seen },
 }
@@ -134,7 +134,7 @@ impl Store {
         ensures seen { self.new.seen ≡ self.old.seen }
         ensures durable { durable_in self.new ≡ durable_in self.old }
         ensures unsynced { self.new.unsynced.items ≡ self.old.unsynced.items }
-        ensures room { self.new.is_apart ≡ false → length self.new.before.items + count ≤ 131072 }
+        ensures room { self.new.is_apart ≡ false → length self.new.before.items + count ≤ kept_max }
     {
         if !self.is_apart && self.before.len() + count > KEPT {
             self.keep_apart();
@@ -165,7 +165,7 @@ impl Store {
     #[inline]
     fn keep(&mut self, span: Span)
         requires count { length self.old.unsynced.items < unsynced_max }
-        requires bytes { self.old.is_apart ≡ false → length self.old.before.items + span.len ≤ 131072 }
+        requires bytes { self.old.is_apart ≡ false → length self.old.before.items + span.len ≤ kept_max }
         requires inside { span.at + span.len ≤ length self.old.seen }
         ensures seen { self.new.seen ≡ self.old.seen }
         ensures unsynced { self.new.unsynced.items ≡ self.old.unsynced.items ++ span ∷ [] }
